@@ -1,0 +1,250 @@
+-- Document 01, "Examples to be kept": each run on the public calls, as numbers, beside what 01 prints. `proofs/Table.antt` has the one statement.
+-- Assumes nothing.
+use Prim.Native.Nat.{ℕ, zero, suc, _+_, _*_}
+use mathlib.Core.Bool.{Bool, true, false}
+use mathlib.Core.List.{List, [], _∷_, _++_, map}
+use mathlib.Core.Path.{_≡_}
+use lib.ListN.{length, take, replicate}
+use lib.IntN.{pos}
+use lib.Ieee.{Float, binary64, ofInt}
+use Rattle.model.specs.declared.Span.{Span}
+use Rattle.model.specs.Sizes.{maxNodes, maxWords, maxRecords, maxPins, maxMarks, tableLength, pathPlaces, outPlaces, tierPlaces}
+use Rattle.model.specs.State.{State, Books, Range, at}
+use Rattle.model.specs.Store.{Store, storeOf, noTime}
+use Rattle.model.specs.Insert.{Cut}
+use Rattle.model.specs.Refusals.{PathList, OutList, TierList}
+use Rattle.model.specs.Calls.{Answer, refused, done, Outcome, Path, InsertAnswer, LookupLists, LookupAnswer, setUp, resolveCall, insert, storeInsert, storeUsed, storeRemove, storeExpire, pinSource, lookup}
+
+-- ---- pools as they are lent: all zero
+
+abbrev blanks : ℕ → List ℕ
+blanks n = replicate n 0
+
+abbrev noBooks : Books
+noBooks =
+    record {
+      stores = 0;
+      nextId = 0;
+      stalls = 0;
+      capacity = blanks 8;
+      refreshes = replicate 8 false;
+      records = blanks 8;
+      held = blanks 8;
+      stamp = blanks 8;
+      version = blanks 8;
+      entries = blanks 8;
+      pinned = blanks 8;
+    }
+
+abbrev pub pools : State
+pools =
+    record {
+      tree = record {
+        parent = blanks maxNodes;
+        depth = blanks maxNodes;
+        len = blanks maxNodes;
+        run = blanks maxNodes;
+        words = blanks maxWords;
+        nodes = 0;
+        used = 0;
+      };
+      ranges = record {
+        node = blanks maxRecords;
+        start = blanks maxRecords;
+        end = blanks maxRecords;
+        id = blanks maxRecords;
+        stamp = blanks maxRecords;
+        touched = replicate maxRecords noTime;
+        write = blanks maxRecords;
+      };
+      pins = record { node = blanks maxPins; start = blanks maxPins; end = blanks maxPins; count = blanks maxPins };
+      marks = blanks maxMarks;
+      bytes = blanks tableLength;
+      books = noBooks;
+    }
+
+abbrev pub paths : PathList
+paths = record { node = blanks pathPlaces; len = blanks pathPlaces }
+
+abbrev pub outs : OutList
+outs =
+    record {
+      node = blanks outPlaces;
+      start = blanks outPlaces;
+      end = blanks outPlaces;
+      write = blanks outPlaces;
+      bytes = blanks outPlaces;
+      dead = blanks outPlaces;
+    }
+
+abbrev pub tierSpans : TierList
+tierSpans = record { tier = blanks tierPlaces; node = blanks tierPlaces; start = blanks tierPlaces; end = blanks tierPlaces }
+
+-- ---- "Byte table 100k. A = 11,12,13,14,15; B = 11,12,13,24,25. Store 0: capacity 4, refreshing. Store 1: capacity 0."
+
+unfoldable pub multiples : ℕ → ℕ → ℕ → List ℕ
+multiples each zero from = []
+multiples each (suc n) from = from ∷ multiples each n (from + each)
+
+abbrev pub table : List ℕ
+table = multiples 100 tableLength 0
+
+abbrev pub listA : List ℕ
+listA = 11 ∷ 12 ∷ 13 ∷ 14 ∷ 15 ∷ []
+
+abbrev pub listB : List ℕ
+listB = 11 ∷ 12 ∷ 13 ∷ 24 ∷ 25 ∷ []
+
+abbrev pub fresh : State
+fresh = setUp pools table (4 ∷ 0 ∷ []) (true ∷ false ∷ []) .state
+
+abbrev pub span : ℕ → ℕ → Span
+span start end = record { node = 1; start = start; end = end }
+
+abbrev pub time : ℕ → Float
+time n = ofInt binary64 (pos n)
+
+-- ---- the calls
+
+abbrev pub run1 : Outcome PathList Path
+run1 = resolveCall fresh paths []
+
+abbrev pub run2 : Outcome PathList InsertAnswer
+run2 = insert fresh paths listA
+
+abbrev pub run3 : Outcome PathList Path
+run3 = resolveCall (run2 .state) paths (11 ∷ 12 ∷ [])
+
+abbrev pub run4 : Outcome PathList Path
+run4 = resolveCall (run2 .state) paths (11 ∷ 12 ∷ 13 ∷ 24 ∷ [])
+
+abbrev pub run5 : Outcome PathList InsertAnswer
+run5 = insert (run2 .state) paths listB
+
+abbrev pub run6 : Outcome OutList ℕ
+run6 = storeInsert (run2 .state) outs 1 (span 0 5) (time 10) 0
+
+abbrev pub run7 : Outcome OutList ℕ
+run7 = storeInsert (run2 .state) outs 0 (span 0 5) (time 10) 7
+
+abbrev pub run8 : Outcome (Unit {0}) ℕ
+run8 = storeUsed (run7 .state) 0 (span 1 3 ∷ []) (time 20) true
+
+abbrev pub run9 : Outcome OutList ℕ
+run9 = storeInsert (run8 .state) outs 0 (span 4 5) (time 30) 0
+
+abbrev pub run10 : Outcome OutList ℕ
+run10 = storeExpire (run9 .state) outs 0 (time 40) (time 20)
+
+abbrev pub run11 : Outcome (List ℕ) ℕ
+run11 = storeRemove (run10 .state) (blanks outPlaces) 0 (span 1 2)
+
+-- "tiers X, Y; X holds 2-4, Y holds 0-4"
+abbrev pub two : State
+two = insert (setUp pools table (9 ∷ 9 ∷ []) (false ∷ false ∷ []) .state) paths (1 ∷ 2 ∷ 3 ∷ 4 ∷ []) .state
+
+abbrev pub run12 : Outcome LookupLists LookupAnswer
+run12 =
+    lookup (storeInsert (storeInsert two outs 0 (span 2 4) (time 1) 0 .state) outs 1 (span 0 4) (time 1) 0 .state)
+    (record { path = paths; spans = tierSpans }) (0 ∷ 1 ∷ []) (1 ∷ 2 ∷ 3 ∷ 4 ∷ [])
+
+-- "capacity 2, held 0-2, pin 0-4, bring 2-4"
+abbrev pub one : State
+one = insert (setUp pools table (2 ∷ []) (false ∷ []) .state) paths (1 ∷ 2 ∷ 3 ∷ 4 ∷ []) .state
+
+abbrev pub run13 : Outcome OutList ℕ
+run13 = storeInsert (pinSource (storeInsert one outs 0 (span 0 2) (time 1) 0 .state) 0 (span 0 4) .state) outs 0 (span 2 4) (time 2) 0
+
+-- ---- answers as numbers
+
+-- a refusal, as a list that no accepted answer gives
+abbrev pub refusal : ℕ → List (List ℕ)
+refusal n = (n ∷ []) ∷ [] ∷ (n ∷ []) ∷ []
+
+-- (node, blocks) of the first n segments
+unfoldable pub segsOf : ℕ → List ℕ → List ℕ → List (List ℕ)
+segsOf zero ns ls = []
+segsOf (suc n) [] ls = []
+segsOf (suc n) (x ∷ ns) [] = []
+segsOf (suc n) (x ∷ ns) (y ∷ ls) = (x ∷ y ∷ []) ∷ segsOf n ns ls
+
+abbrev pub pathSays : Outcome PathList Path → List (List ℕ)
+pathSays o = elim (o .answer) [ refused n ↦ refusal n | done p ↦ (p .blocks ∷ []) ∷ segsOf (p .segs) (o .lists .node) (o .lists .len) ]
+
+-- node, k and the new number of a cut
+abbrev pub insertSays : Outcome PathList InsertAnswer → List (List ℕ)
+insertSays o =
+    elim (o .answer) [
+      | refused n ↦ refusal n
+      | done a ↦
+          (a .path .blocks ∷ [])
+          ∷ segsOf (a .path .segs) (o .lists .node) (o .lists .len) ++ map (λ c. c .node ∷ c .at ∷ c .new ∷ []) (a .cuts)
+    ]
+
+-- start, end, write, bytes, dead of the first n spans
+unfoldable pub outsOf : ℕ → OutList → List (List ℕ)
+outsOf zero l = []
+outsOf (suc n) l = outsOf n l ++ ((at (l .start) n ∷ at (l .end) n ∷ at (l .write) n ∷ at (l .bytes) n ∷ at (l .dead) n ∷ []) ∷ [])
+
+-- store s: held and version
+abbrev pub figures : State → ℕ → List ℕ
+figures st s = at (st .books .held) s ∷ at (st .books .version) s ∷ []
+
+abbrev pub outSays : ℕ → Outcome OutList ℕ → List (List ℕ)
+outSays s o = elim (o .answer) [ refused n ↦ refusal n | done n ↦ outsOf n (o .lists) ++ (figures (o .state) s ∷ []) ]
+
+-- start, end, id and stamp of each range of store s
+abbrev pub rangesSay : State → ℕ → List (List ℕ)
+rangesSay st s = map (λ r. r .start ∷ r .end ∷ r .id ∷ r .stamp ∷ []) (storeOf st s .ranges)
+
+abbrev pub touchSays : ℕ → Outcome (Unit {0}) ℕ → List (List ℕ)
+touchSays s o = elim (o .answer) [ refused n ↦ refusal n | done n ↦ (n ∷ []) ∷ rangesSay (o .state) s ]
+
+abbrev pub removeSays : ℕ → Outcome (List ℕ) ℕ → List (List ℕ)
+removeSays s o = elim (o .answer) [ refused n ↦ refusal n | done n ↦ take n (o .lists) ∷ figures (o .state) s ∷ rangesSay (o .state) s ]
+
+-- tier, start, end of the first n tier spans; then the blocks for each tier
+unfoldable pub tiersOf : ℕ → TierList → List (List ℕ)
+tiersOf zero l = []
+tiersOf (suc n) l = tiersOf n l ++ ((at (l .tier) n ∷ at (l .start) n ∷ at (l .end) n ∷ []) ∷ [])
+
+abbrev pub lookupSays : Outcome LookupLists LookupAnswer → List (List ℕ)
+lookupSays o = elim (o .answer) [ refused n ↦ refusal n | done a ↦ tiersOf (a .spans) (o .lists .spans) ++ (a .blocks ∷ []) ]
+
+-- ---- the table
+
+pub record Row : Type 0 where
+  pub computed : List (List ℕ)
+  pub document : List (List ℕ)
+
+-- each row's run gives what the document prints
+abbrev pub Agree : List Row → Type 0
+Agree [] = Unit {0}
+Agree (r ∷ rs) = (r .computed ≡ r .document) × Agree rs
+
+-- E1 to E13. Beside the figures that 01 prints stand those that follow from them: E9's version, E10's held, the range 4-5 of E10 and E11
+abbrev pub rows : List Row
+rows =
+    record { computed = pathSays run1; document = (0 ∷ []) ∷ [] }
+    ∷ record { computed = insertSays run2; document = (5 ∷ []) ∷ (1 ∷ 5 ∷ []) ∷ [] }
+    ∷ record { computed = pathSays run3; document = (2 ∷ []) ∷ (1 ∷ 2 ∷ []) ∷ [] }
+    ∷ record { computed = pathSays run4; document = (3 ∷ []) ∷ (1 ∷ 3 ∷ []) ∷ [] }
+    ∷ record { computed = insertSays run5; document = (5 ∷ []) ∷ (1 ∷ 3 ∷ []) ∷ (3 ∷ 2 ∷ []) ∷ (1 ∷ 3 ∷ 2 ∷ []) ∷ [] }
+    ∷ record { computed = outSays 1 run6; document = (0 ∷ 5 ∷ 0 ∷ 500 ∷ 0 ∷ []) ∷ (0 ∷ 0 ∷ []) ∷ [] }
+    ∷ record { computed = outSays 0 run7; document = (4 ∷ 5 ∷ 7 ∷ 100 ∷ 100 ∷ []) ∷ (4 ∷ 1 ∷ []) ∷ [] }
+    ∷ record {
+      computed = touchSays 0 run8;
+      document = (200 ∷ []) ∷ (0 ∷ 1 ∷ 1 ∷ 1 ∷ []) ∷ (1 ∷ 3 ∷ 2 ∷ 2 ∷ []) ∷ (3 ∷ 4 ∷ 3 ∷ 1 ∷ []) ∷ [];
+    }
+    ∷ record { computed = outSays 0 run9; document = (0 ∷ 1 ∷ 7 ∷ 100 ∷ 0 ∷ []) ∷ (4 ∷ 2 ∷ []) ∷ [] }
+    ∷ record {
+      computed = outSays 0 run10 ++ rangesSay (run10 .state) 0;
+      document = (3 ∷ 4 ∷ 7 ∷ 100 ∷ 100 ∷ []) ∷ (3 ∷ 3 ∷ []) ∷ (1 ∷ 3 ∷ 2 ∷ 2 ∷ []) ∷ (4 ∷ 5 ∷ 4 ∷ 3 ∷ []) ∷ [];
+    }
+    ∷ record {
+      computed = removeSays 0 run11;
+      document = (7 ∷ []) ∷ (2 ∷ 4 ∷ []) ∷ (2 ∷ 3 ∷ 2 ∷ 2 ∷ []) ∷ (4 ∷ 5 ∷ 4 ∷ 3 ∷ []) ∷ [];
+    }
+    ∷ record { computed = lookupSays run12; document = (1 ∷ 0 ∷ 4 ∷ []) ∷ (0 ∷ 4 ∷ []) ∷ [] }
+    ∷ record { computed = outSays 0 run13 ++ ((run13 .state .books .stalls ∷ []) ∷ []); document = (4 ∷ 0 ∷ []) ∷ (1 ∷ []) ∷ [] }
+    ∷ []
