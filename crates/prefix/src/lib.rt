@@ -1,0 +1,1 @@
+// On a chained list resolve finds the longest stored prefix; see proofs/.
