@@ -181,10 +181,10 @@ insertSays o =
           ∷ segsOf (a .path .segs) (o .lists .node) (o .lists .len) ++ map (λ c. c .node ∷ c .at ∷ c .new ∷ []) (a .cuts)
     ]
 
--- start, end, write, bytes, dead of the first n spans
+-- node, start, end, write, bytes, dead of the first n spans
 unfoldable pub outsOf : ℕ → OutList → List (List ℕ)
 outsOf zero l = []
-outsOf (suc n) l = outsOf n l ++ ((at (l .start) n ∷ at (l .end) n ∷ at (l .write) n ∷ at (l .bytes) n ∷ at (l .dead) n ∷ []) ∷ [])
+outsOf (suc n) l = outsOf n l ++ ((at (l .node) n ∷ at (l .start) n ∷ at (l .end) n ∷ at (l .write) n ∷ at (l .bytes) n ∷ at (l .dead) n ∷ []) ∷ [])
 
 -- store s: held and version
 abbrev pub figures : State → ℕ → List ℕ
@@ -203,10 +203,10 @@ touchSays s o = elim (o .answer) [ refused n ↦ refusal n | done n ↦ (n ∷ [
 abbrev pub removeSays : ℕ → Outcome (List ℕ) ℕ → List (List ℕ)
 removeSays s o = elim (o .answer) [ refused n ↦ refusal n | done n ↦ take n (o .lists) ∷ figures (o .state) s ∷ rangesSay (o .state) s ]
 
--- tier, start, end of the first n tier spans; then the blocks for each tier
+-- tier, node, start, end of the first n tier spans; then the blocks for each tier
 unfoldable pub tiersOf : ℕ → TierList → List (List ℕ)
 tiersOf zero l = []
-tiersOf (suc n) l = tiersOf n l ++ ((at (l .tier) n ∷ at (l .start) n ∷ at (l .end) n ∷ []) ∷ [])
+tiersOf (suc n) l = tiersOf n l ++ ((at (l .tier) n ∷ at (l .node) n ∷ at (l .start) n ∷ at (l .end) n ∷ []) ∷ [])
 
 abbrev pub lookupSays : Outcome LookupLists LookupAnswer → List (List ℕ)
 lookupSays o = elim (o .answer) [ refused n ↦ refusal n | done a ↦ tiersOf (a .spans) (o .lists .spans) ++ (a .blocks ∷ []) ]
@@ -222,7 +222,8 @@ abbrev pub Agree : List Row → Type 0
 Agree [] = Unit {0}
 Agree (r ∷ rs) = (r .computed ≡ r .document) × Agree rs
 
--- E1 to E13. Beside the figures that 01 prints stand those that follow from them: E9's version, E10's held, the range 4-5 of E10 and E11
+-- E1 to E13. Beside the figures that 01 prints stand those that follow from them: the version of E6, E9 and E13, E10's write, bytes and held, the
+-- range 4-5 of E10 and E11, E12's sums
 abbrev pub rows : List Row
 rows =
     record { computed = pathSays run1; document = (0 ∷ []) ∷ [] }
@@ -230,21 +231,21 @@ rows =
     ∷ record { computed = pathSays run3; document = (2 ∷ []) ∷ (1 ∷ 2 ∷ []) ∷ [] }
     ∷ record { computed = pathSays run4; document = (3 ∷ []) ∷ (1 ∷ 3 ∷ []) ∷ [] }
     ∷ record { computed = insertSays run5; document = (5 ∷ []) ∷ (1 ∷ 3 ∷ []) ∷ (3 ∷ 2 ∷ []) ∷ (1 ∷ 3 ∷ 2 ∷ []) ∷ [] }
-    ∷ record { computed = outSays 1 run6; document = (0 ∷ 5 ∷ 0 ∷ 500 ∷ 0 ∷ []) ∷ (0 ∷ 0 ∷ []) ∷ [] }
-    ∷ record { computed = outSays 0 run7; document = (4 ∷ 5 ∷ 7 ∷ 100 ∷ 100 ∷ []) ∷ (4 ∷ 1 ∷ []) ∷ [] }
+    ∷ record { computed = outSays 1 run6; document = (1 ∷ 0 ∷ 5 ∷ 0 ∷ 500 ∷ 0 ∷ []) ∷ (0 ∷ 0 ∷ []) ∷ [] }
+    ∷ record { computed = outSays 0 run7; document = (1 ∷ 4 ∷ 5 ∷ 7 ∷ 100 ∷ 100 ∷ []) ∷ (4 ∷ 1 ∷ []) ∷ [] }
     ∷ record {
       computed = touchSays 0 run8;
       document = (200 ∷ []) ∷ (0 ∷ 1 ∷ 1 ∷ 1 ∷ []) ∷ (1 ∷ 3 ∷ 2 ∷ 2 ∷ []) ∷ (3 ∷ 4 ∷ 3 ∷ 1 ∷ []) ∷ [];
     }
-    ∷ record { computed = outSays 0 run9; document = (0 ∷ 1 ∷ 7 ∷ 100 ∷ 0 ∷ []) ∷ (4 ∷ 2 ∷ []) ∷ [] }
+    ∷ record { computed = outSays 0 run9; document = (1 ∷ 0 ∷ 1 ∷ 7 ∷ 100 ∷ 0 ∷ []) ∷ (4 ∷ 2 ∷ []) ∷ [] }
     ∷ record {
       computed = outSays 0 run10 ++ rangesSay (run10 .state) 0;
-      document = (3 ∷ 4 ∷ 7 ∷ 100 ∷ 100 ∷ []) ∷ (3 ∷ 3 ∷ []) ∷ (1 ∷ 3 ∷ 2 ∷ 2 ∷ []) ∷ (4 ∷ 5 ∷ 4 ∷ 3 ∷ []) ∷ [];
+      document = (1 ∷ 3 ∷ 4 ∷ 7 ∷ 100 ∷ 100 ∷ []) ∷ (3 ∷ 3 ∷ []) ∷ (1 ∷ 3 ∷ 2 ∷ 2 ∷ []) ∷ (4 ∷ 5 ∷ 4 ∷ 3 ∷ []) ∷ [];
     }
     ∷ record {
       computed = removeSays 0 run11;
       document = (7 ∷ []) ∷ (2 ∷ 4 ∷ []) ∷ (2 ∷ 3 ∷ 2 ∷ 2 ∷ []) ∷ (4 ∷ 5 ∷ 4 ∷ 3 ∷ []) ∷ [];
     }
-    ∷ record { computed = lookupSays run12; document = (1 ∷ 0 ∷ 4 ∷ []) ∷ (0 ∷ 4 ∷ []) ∷ [] }
+    ∷ record { computed = lookupSays run12; document = (1 ∷ 1 ∷ 0 ∷ 4 ∷ []) ∷ (0 ∷ 4 ∷ []) ∷ [] }
     ∷ record { computed = outSays 0 run13 ++ ((run13 .state .books .stalls ∷ []) ∷ []); document = (4 ∷ 0 ∷ []) ∷ (1 ∷ []) ∷ [] }
     ∷ []

@@ -36,7 +36,7 @@ abbrev pub Exact : List Condition → Type 0
 Exact [] = Unit {0}
 Exact (c ∷ cs) = Says (c .tested) (c .holds) × Exact cs
 
--- "the first that holds gives the number"; 0 where none holds
+-- the first that holds gives the number; 0 where none holds
 abbrev pub firstOf : List Condition → ℕ
 firstOf [] = 0
 firstOf (c ∷ cs) = elim (c .tested) [ true ↦ c .number | false ↦ firstOf cs ]

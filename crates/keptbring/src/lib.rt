@@ -1,0 +1,1 @@
+// A bring-in and an expiry keep a store sound. See proofs/.

@@ -1,0 +1,1 @@
+// A touch of one span and a removal keep a store sound. See proofs/.
