@@ -1,0 +1,1 @@
+// A store's part of each pool, lent on and given back. See specs/ and proofs/.
