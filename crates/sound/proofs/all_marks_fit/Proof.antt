@@ -1,0 +1,75 @@
+-- `sound::all_marks_fit` meets its contract: a test of each store. Assumes nothing.
+use Prim.Native.Nat.{_-_, _≤_}
+use Rattle.model.specs.Words.{Each}
+use Rattle.sound.specs.Stores.{StoreMarks}
+use Rattle.lent.specs.Lent.{booksOf}
+use Rattle.soundtree.proofs.Each.{each-none, each-more, each-whole, each-not}
+use Rattle.sure.proofs.Says.{says-yes, says-no}
+use borrow.Author.Needs.{needs}
+use native.Mathlib.Omega.{arith}
+use Rattle.sound.proofs.all_marks_fit.Statement.{statement}
+use Rattle.sound.proofs.all_marks_fit.Tie as tie
+
+abbrev Inv-loop : tie.InvT-loop
+Inv-loop len node marks x s₀ s = (0 ≤ s) × Each 0 s (StoreMarks len node marks (x .nodes) (booksOf x))
+
+abbrev μ-loop : tie.MeasureT-loop
+μ-loop len node marks x s₀ s = x .stores - s
+
+loop-holds : tie.Need-loop-holds Inv-loop μ-loop
+loop-holds c = (omega arith, each-none _ 0)
+
+mul-a : tie.Need-mul-a Inv-loop μ-loop
+mul-a c = search needs
+
+mul-b : tie.Need-mul-b Inv-loop μ-loop
+mul-b c = search needs
+
+element-copy-out-b : tie.Need-element-copy-out-b Inv-loop μ-loop
+element-copy-out-b c = search needs
+
+add-b : tie.Need-add-b Inv-loop μ-loop
+add-b c = let k = c .before .before .before .before .before .before .pre .5 (c .before .before .loop .s) (c .before .before .loop .inv .0) (c .before .loop-test .taken) in omega (arith, k .records)
+
+mul-marks-fit : tie.Need-mul-marks-fit Inv-loop μ-loop
+mul-marks-fit c = search needs
+
+marks-fit-requires : tie.Need-marks-fit-requires Inv-loop μ-loop
+marks-fit-requires c κs =
+    let k = c .before .before .before .before .before .before .pre .5 (c .before .before .loop .s) (c .before .before .loop .inv .0) (c .before .loop-test .taken) in
+    let p = c .before .before .before .before .before .before .pre in
+    (omega arith, omega (arith, k .records), omega arith, p .1, p .2, omega (arith, k .records), omega arith, p .6 (c .before .before .loop .s) (c .before .before .loop .inv .0) (c .before .loop-test .taken))
+
+returns : tie.Need-returns Inv-loop μ-loop
+returns c = each-not (c .before .before .before .before .loop .inv .0) (c .before .before .before .loop-test .taken) (says-no (c .before .marks-fit .result) (c .if1 .taken) (c .before .marks-fit .ensures))
+
+add-s : tie.Need-add-s Inv-loop μ-loop
+add-s c = search needs
+
+loop-less : tie.Need-loop-less Inv-loop μ-loop
+loop-less c = search needs
+
+loop-again : tie.Need-loop-again Inv-loop μ-loop
+loop-again c = (omega arith, each-more (c .before .before .before .before .loop .inv .1) (says-yes (c .before .marks-fit .result) (c .if1 .left) (c .before .marks-fit .ensures)))
+
+returns-2 : tie.Need-returns-2 Inv-loop μ-loop
+returns-2 c = each-whole (c .before .loop .inv .1) (c .loop-test .left)
+
+pub all-marks-fit-spec : {M : Type 1} → statement M
+all-marks-fit-spec =
+    tie.close
+    (tie.spec
+    Inv-loop
+    μ-loop
+    loop-holds
+    mul-a
+    mul-b
+    element-copy-out-b
+    add-b
+    mul-marks-fit
+    marks-fit-requires
+    returns
+    add-s
+    loop-less
+    loop-again
+    returns-2)

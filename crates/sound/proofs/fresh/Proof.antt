@@ -1,0 +1,67 @@
+-- `sound::fresh` meets its contract: the walk down the chain of a bucket, above which nothing has the id. Assumes nothing.
+use Prim.Native.Nat.{ℕ, _-_, _%_}
+use mathlib.Core.Path.{_≡_}
+use Rattle.model.specs.State.{at}
+use Rattle.sound.specs.Ids.{Live, Fresh, idBucket}
+use Rattle.soundtree.proofs.Chain.{Walk, walk-step}
+use borrow.Author.Needs.{needs}
+use native.Mathlib.Omega.{arith}
+use Rattle.sound.proofs.fresh.Statement.{statement}
+use Rattle.sound.proofs.fresh.Tie as tie
+
+abbrev Inv-loop : tie.InvT-loop
+Inv-loop id records prev from y link₀ link = Walk (idBucket id) (Live records) (λ (k : ℕ). at id k ≡ y) (y % 1024) from link
+
+abbrev μ-loop : tie.MeasureT-loop
+μ-loop id records prev from y link₀ link = link
+
+loop-holds : tie.Need-loop-holds Inv-loop μ-loop
+loop-holds c = record { hi = omega arith; here = c .pre .3; past = λ k g l. absurd (omega arith) }
+
+sub-j : tie.Need-sub-j Inv-loop μ-loop
+sub-j c = search needs
+
+mul-if1 : tie.Need-mul-if1 Inv-loop μ-loop
+mul-if1 c = search needs
+
+shared-slice-read-if1 : tie.Need-shared-slice-read-if1 Inv-loop μ-loop
+shared-slice-read-if1 c = search needs
+
+returns : tie.Need-returns Inv-loop μ-loop
+unfolding Fresh
+returns c = λ f. let w = c .before .before .before .loop in f (w .link - 1) (omega (arith, w .inv .hi)) (w .inv .here (w .link - 1) (omega arith) .0) (c .if1 .taken)
+
+mul-link : tie.Need-mul-link Inv-loop μ-loop
+mul-link c = search needs
+
+shared-slice-read-link : tie.Need-shared-slice-read-link Inv-loop μ-loop
+shared-slice-read-link c = search needs
+
+loop-less : tie.Need-loop-less Inv-loop μ-loop
+loop-less c =
+    let w = c .before .before .before .before .loop in
+    omega (arith, c .before .before .before .before .before .pre .2 .down (w .link - 1) (omega (arith, w .inv .hi)) (w .inv .here (w .link - 1) (omega arith) .0))
+
+loop-again : tie.Need-loop-again Inv-loop μ-loop
+loop-again c = walk-step (c .before .before .before .before .before .pre .2) (c .before .before .before .before .loop .inv) (λ k h. rw h) (c .before .before .before .loop-test .taken) (c .before .if1 .left)
+
+returns-2 : tie.Need-returns-2 Inv-loop μ-loop
+unfolding Fresh
+returns-2 c = λ k l u h. c .before .loop .inv .past k (omega arith) l u h
+
+pub fresh-spec : {M : Type 1} → statement M
+fresh-spec =
+    tie.close
+    (tie.spec
+    Inv-loop
+    μ-loop
+    loop-holds
+    sub-j
+    mul-if1
+    shared-slice-read-if1
+    returns
+    mul-link
+    shared-slice-read-link
+    loop-less
+    loop-again
+    returns-2)

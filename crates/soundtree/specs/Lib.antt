@@ -1,0 +1,5 @@
+pub mod Nodes
+pub mod Runs
+pub mod Chain
+pub mod Siblings
+pub mod Tree
