@@ -1,0 +1,102 @@
+-- `choose::first_free` meets its contract: going down, the best so far is the first of the records from there on.
+use Prim.Native.Nat.{_≤_, ℕ}
+use mathlib.Core.Bool.{not}
+use mathlib.Core.Path.{refl, sym, ap, _∙_}
+use mathlib.Core.List.{List}
+use lib.Ieee.{Float}
+use native.Mathlib.Omega.{arith}
+use Rattle.lent.specs.Lent.{rangesOf, pinsOf}
+use Rattle.model.specs.Store.{pins}
+use Rattle.model.specs.Trim.{isPinned}
+use Rattle.choose.proofs.Laws.{Best, best-start, best-skip, best-take, best-end}
+use borrow.Author.Needs.{needs}
+use Rattle.choose.proofs.first_free.Statement.{statement}
+use Rattle.choose.proofs.first_free.Tie as tie
+
+abbrev Inv-loop : tie.InvT-loop
+Inv-loop node start end id stamp n pin-node pin-start pin-end m best₀ i₀ best i =
+    (i ≤ n)
+    × ((count write : List ℕ) (touched : List Float)
+    → Best (λ q. not (isPinned (pins (pinsOf pin-node pin-start pin-end count) 0 m) q)) (rangesOf node start end id stamp touched write) n i best)
+
+abbrev μ-loop : tie.MeasureT-loop
+μ-loop node start end id stamp n pin-node pin-start pin-end m best₀ i₀ best i = i
+
+loop-holds : tie.Need-loop-holds Inv-loop μ-loop
+loop-holds c = (omega arith, λ count write touched. best-start _ _ _)
+
+sub-i : tie.Need-sub-i Inv-loop μ-loop
+sub-i c = search needs
+
+mul-is-pinned : tie.Need-mul-is-pinned Inv-loop μ-loop
+mul-is-pinned c = search needs
+
+shared-slice-read-is-pinned : tie.Need-shared-slice-read-is-pinned Inv-loop μ-loop
+shared-slice-read-is-pinned c = search needs
+
+mul-is-pinned-2 : tie.Need-mul-is-pinned-2 Inv-loop μ-loop
+mul-is-pinned-2 c = search needs
+
+shared-slice-read-is-pinned-2 : tie.Need-shared-slice-read-is-pinned-2 Inv-loop μ-loop
+shared-slice-read-is-pinned-2 c = search needs
+
+mul-is-pinned-3 : tie.Need-mul-is-pinned-3 Inv-loop μ-loop
+mul-is-pinned-3 c = search needs
+
+shared-slice-read-is-pinned-3 : tie.Need-shared-slice-read-is-pinned-3 Inv-loop μ-loop
+shared-slice-read-is-pinned-3 c = search needs
+
+is-pinned-requires : tie.Need-is-pinned-requires Inv-loop μ-loop
+is-pinned-requires c κs = search needs
+
+better-requires : tie.Need-better-requires Inv-loop μ-loop
+better-requires c κs = search needs
+
+loop-less : tie.Need-loop-less Inv-loop μ-loop
+loop-less c = search needs
+
+loop-again : tie.Need-loop-again Inv-loop μ-loop
+loop-again c = (
+  omega (arith, c .before .before .before .before .before .before .before .loop .inv .0),
+  λ count write touched.
+      best-take _ _ _ _ _ _ _ (omega arith) (c .before .before .before .before .before .before .before .loop .inv .0) (ap not (sym (c .before .before .is-pinned .ensures count _ refl refl refl)) ∙ c .before .if1 .taken) (c .better .ensures) (c .before .before .before .before .before .before .before .loop .inv .1 count write touched),
+)
+
+loop-less-2 : tie.Need-loop-less-2 Inv-loop μ-loop
+loop-less-2 c = search needs
+
+loop-again-2 : tie.Need-loop-again-2 Inv-loop μ-loop
+loop-again-2 c = (
+  omega (arith, c .before .before .before .before .before .before .loop .inv .0),
+  λ count write touched.
+      best-skip _ _ _ _ _ _ (omega arith) (c .before .before .before .before .before .before .loop .inv .0) (ap not (sym (c .before .is-pinned .ensures count _ refl refl refl)) ∙ c .if1 .left) (c .before .before .before .before .before .before .loop .inv .1 count write touched),
+)
+
+as-place-requires : tie.Need-as-place-requires Inv-loop μ-loop
+as-place-requires c κs = search needs
+
+returns : tie.Need-returns Inv-loop μ-loop
+returns c = λ count write touched. c .as-place .ensures ∙ best-end _ _ _ _ _ (c .before .loop-test .left) (c .before .before .loop .inv .1 count write touched)
+
+pub first-free-spec : {M : Type 1} → statement M
+first-free-spec =
+    tie.close
+    (tie.spec
+    Inv-loop
+    μ-loop
+    loop-holds
+    sub-i
+    mul-is-pinned
+    shared-slice-read-is-pinned
+    mul-is-pinned-2
+    shared-slice-read-is-pinned-2
+    mul-is-pinned-3
+    shared-slice-read-is-pinned-3
+    is-pinned-requires
+    better-requires
+    loop-less
+    loop-again
+    loop-less-2
+    loop-again-2
+    as-place-requires
+    returns)

@@ -1,0 +1,2 @@
+pub mod Evict
+pub mod Given

@@ -1,0 +1,247 @@
+use choose::Place;
+use evicted::Evicted;
+use model::Span;
+ghost use mathlib.Core.Path.{_≡_};
+ghost use mathlib.Core.List.{List};
+ghost use Prim.Native.Nat.{ℕ, _-_, _≤_, _<_, min};
+ghost use lib.ListN.{length};
+ghost use lib.Ieee.{Float};
+ghost use Rattle.model.specs.State.{at, rangeAt};
+ghost use Rattle.model.specs.Store.{ranges, pins, onNode, unmark as unmarked};
+ghost use Rattle.model.specs.Trim.{trim};
+ghost use Rattle.lent.specs.Lent.{rangesOf, pinsOf};
+ghost use Rattle.tree.specs.Span.{Priced, onlyDepth};
+ghost use Rattle.recs.specs.Part.{Sized};
+ghost use Rattle.evicted.specs.Evicted.{outOf, outList};
+ghost use Rattle.trim.specs.Evict.{left, evictCols, tailOf, toldOf, Reach, Tabled, EntryGone};
+ghost use Rattle.trim.specs.Given.{Ready, GivenOut};
+
+// The last k blocks of the record at i go; how many records are left.
+pub fn evict_at(
+    node: &mut [usize],
+    start: &mut [usize],
+    end: &mut [usize],
+    id: &mut [u64],
+    stamp: &mut [u64],
+    touched: &mut [f64],
+    write: &mut [u32],
+    n: usize,
+    i: usize,
+    k: usize,
+) -> usize
+    requires { ⌜ (i < n) × (n ≤ 128) × (at (now start) i ≤ at (now end) i) × Sized 128 (rangesOf (now node) (now start) (now end) (now id) (now stamp) (now touched) (now write)) ⌝ }
+    ensures { λ r. ⌜ left (rangesOf (now (node .exit)) (now (start .exit)) (now (end .exit)) (now (id .exit)) (now (stamp .exit)) (now (touched .exit)) (now (write .exit))) r ≡ evictCols n i k (rangesOf (now (node .entry)) (now (start .entry)) (now (end .entry)) (now (id .entry)) (now (stamp .entry)) (now (touched .entry)) (now (write .entry))) ⌝ }
+{
+    let e = end[i];
+    if e - start[i] <= k {
+        recs::cut_rec(node, start, end, id, stamp, touched, write, n, i);
+        return n - 1;
+    }
+    end[i] = e - k;
+    n
+}
+
+// What is told of a span that goes.
+pub fn told(depth: &[usize], bytes: &[u64], mark: usize, write: u32, sp: Span) -> Evicted
+    requires { ⌜ Priced (now depth) (now bytes) sp ⌝ }
+    ensures { λ r. ⌜ outOf r ≡ toldOf (onlyDepth (now (depth .entry))) (now (bytes .entry)) mark write sp ⌝ }
+{
+    let whole = tree::span_bytes(depth, bytes, sp);
+    let dead = tree::dead_bytes(depth, bytes, mark, sp);
+    let w = evicted::write_id(write);
+    Evicted {
+        span: sp,
+        write: w,
+        bytes: whole,
+        dead: dead,
+    }
+}
+
+// Is a record on node v?
+pub fn on_node(node: &[usize], n: usize, v: usize) -> bool
+    requires { ⌜ n ≤ length (now node) ⌝ }
+    ensures { λ r. ⌜ ((start end id stamp write : List ℕ) (touched : List Float) → r ≡ onNode v (ranges (rangesOf (now (node .entry)) start end id stamp touched write) 0 n)) ⌝ }
+{
+    let mut i: usize = 0;
+    while i < n {
+        if node[i] == v {
+            return true;
+        }
+        i += 1;
+    }
+    false
+}
+
+// Where no record is left on node v, its mark becomes 0.
+pub fn unmark(marks: &mut [usize], node: &[usize], n: usize, v: usize)
+    requires { ⌜ (n ≤ length (now node)) × (v < length (now marks)) ⌝ }
+    ensures { λ _. ⌜ ((start end id stamp write : List ℕ) (touched : List Float) → now (marks .exit) ≡ unmarked v (ranges (rangesOf (now (node .entry)) start end id stamp touched write) 0 n) (now (marks .entry))) ⌝ }
+{
+    if on_node(node, n, v) {
+        return;
+    }
+    marks[v] = 0;
+}
+
+// How many blocks of a range go.
+fn amount(len: usize, excess: u64) -> usize
+    ensures { λ r. ⌜ r ≡ min len excess ⌝ }
+{
+    let e = excess as usize;
+    if len < e {
+        return len;
+    }
+    e
+}
+
+// The last k blocks of a range, never its head.
+fn tail(node: usize, start: usize, end: usize, k: usize) -> Span
+    requires { ⌜ (start ≤ end) × (k ≤ end - start) ⌝ }
+    ensures { λ r. ⌜ r ≡ tailOf node end k ⌝ }
+{
+    Span {
+        node: node,
+        start: end - k,
+        end: end,
+    }
+}
+
+// How many records are left, how many blocks went, and what is told of them.
+pub struct Gone {
+    pub n: usize,
+    pub taken: usize,
+    pub out: Evicted,
+}
+
+// Of the record at i the last min(length, excess) blocks go.
+pub fn store_evict_entry(
+    node: &mut [usize],
+    start: &mut [usize],
+    end: &mut [usize],
+    id: &mut [u64],
+    stamp: &mut [u64],
+    touched: &mut [f64],
+    write: &mut [u32],
+    marks: &mut [usize],
+    depth: &[usize],
+    bytes: &[u64],
+    n: usize,
+    i: usize,
+    excess: u64,
+) -> Gone
+    requires { ⌜ (i < n) × (n ≤ 128) × Sized 128 (rangesOf (now node) (now start) (now end) (now id) (now stamp) (now touched) (now write)) ⌝ }
+    requires { ⌜ Reach (now depth) (rangeAt (rangesOf (now node) (now start) (now end) (now id) (now stamp) (now touched) (now write)) i) × Tabled (now depth) (now bytes) (now marks) ⌝ }
+    ensures { λ g. ⌜ EntryGone (now (depth .entry)) (now (bytes .entry)) n i excess (rangesOf (now (node .entry)) (now (start .entry)) (now (end .entry)) (now (id .entry)) (now (stamp .entry)) (now (touched .entry)) (now (write .entry))) (now (marks .entry)) (rangesOf (now (node .exit)) (now (start .exit)) (now (end .exit)) (now (id .exit)) (now (stamp .exit)) (now (touched .exit)) (now (write .exit))) (now (marks .exit)) g ⌝ }
+{
+    let v = node[i];
+    let s = start[i];
+    let e = end[i];
+    let k = amount(e - s, excess);
+    let out = told(depth, bytes, marks[v], write[i], tail(v, s, e, k));
+    let records = evict_at(&mut *node, start, end, id, stamp, touched, write, n, i, k);
+    unmark(marks, &*node, records, v);
+    Gone {
+        n: records,
+        taken: k,
+        out: out,
+    }
+}
+
+// How many records are left, how many blocks they hold, how many spans were given out, and whether it ended in a stall.
+pub struct Trimming {
+    pub n: usize,
+    pub held: u64,
+    pub outs: usize,
+    pub stalled: bool,
+}
+
+// While more than the capacity is held: of the first range that no pin overlaps the last blocks are given out.
+pub fn store_trim_capacity(
+    node: &mut [usize],
+    start: &mut [usize],
+    end: &mut [usize],
+    id: &mut [u64],
+    stamp: &mut [u64],
+    touched: &mut [f64],
+    write: &mut [u32],
+    marks: &mut [usize],
+    out_node: &mut [usize],
+    out_start: &mut [usize],
+    out_end: &mut [usize],
+    out_write: &mut [u32],
+    out_bytes: &mut [u64],
+    out_dead: &mut [u64],
+    depth: &[usize],
+    bytes: &[u64],
+    pin_node: &[usize],
+    pin_start: &[usize],
+    pin_end: &[usize],
+    n: usize,
+    m: usize,
+    held: u64,
+    capacity: u64,
+) -> Trimming
+    requires { ⌜ Ready (now depth) (now bytes) n held (rangesOf (now node) (now start) (now end) (now id) (now stamp) (now touched) (now write)) (now marks) (outList (now «out_node») (now «out_start») (now «out_end») (now «out_write») (now «out_bytes») (now «out_dead»)) ⌝ }
+    requires { ⌜ (m ≤ length (now «pin_node»)) × (m ≤ length (now «pin_start»)) × (m ≤ length (now «pin_end»)) ⌝ }
+    ensures { λ r. ⌜ ((count : List ℕ) → GivenOut (trim (onlyDepth (now (depth .entry))) (now (bytes .entry)) (pins (pinsOf (now («pin_node» .entry)) (now («pin_start» .entry)) (now («pin_end» .entry)) count) 0 m) capacity (ranges (rangesOf (now (node .entry)) (now (start .entry)) (now (end .entry)) (now (id .entry)) (now (stamp .entry)) (now (touched .entry)) (now (write .entry))) 0 n) (now (marks .entry))) n (rangesOf (now (node .entry)) (now (start .entry)) (now (end .entry)) (now (id .entry)) (now (stamp .entry)) (now (touched .entry)) (now (write .entry))) (outList (now («out_node» .entry)) (now («out_start» .entry)) (now («out_end» .entry)) (now («out_write» .entry)) (now («out_bytes» .entry)) (now («out_dead» .entry))) (rangesOf (now (node .exit)) (now (start .exit)) (now (end .exit)) (now (id .exit)) (now (stamp .exit)) (now (touched .exit)) (now (write .exit))) (now (marks .exit)) (outList (now («out_node» .exit)) (now («out_start» .exit)) (now («out_end» .exit)) (now («out_write» .exit)) (now («out_bytes» .exit)) (now («out_dead» .exit))) (r .n) (r .held) (r .outs) (r .stalled)) ⌝ }
+{
+    let mut left = n;
+    let mut h = held;
+    let mut k: usize = 0;
+    while capacity < h {
+        let Place::At(i) = choose::first_free(
+            &*node,
+            &*start,
+            &*end,
+            &*id,
+            &*stamp,
+            left,
+            pin_node,
+            pin_start,
+            pin_end,
+            m,
+        ) else {
+            return Trimming {
+                n: left,
+                held: h,
+                outs: k,
+                stalled: true,
+            };
+        };
+        let g = store_evict_entry(
+            &mut *node,
+            &mut *start,
+            &mut *end,
+            &mut *id,
+            &mut *stamp,
+            &mut *touched,
+            &mut *write,
+            &mut *marks,
+            depth,
+            bytes,
+            left,
+            i,
+            h - capacity,
+        );
+        left = g.n;
+        h -= g.taken as u64;
+        let out = g.out;
+        evicted::put_out(
+            &mut *out_node,
+            &mut *out_start,
+            &mut *out_end,
+            &mut *out_write,
+            &mut *out_bytes,
+            &mut *out_dead,
+            k,
+            out,
+        );
+        k += 1;
+    }
+    Trimming {
+        n: left,
+        held: h,
+        outs: k,
+        stalled: false,
+    }
+}
