@@ -1,0 +1,60 @@
+-- `print::put_bytes` meets its contract: after i turns the first i bytes stand in the buffer, and all else is as it was.
+use Prim.Native.Nat.{_-_}
+use lib.ListN.{length}
+use Rattle.print.proofs.Laws.{Pasting, paste-start, paste-turn, paste-end}
+use borrow.Author.Needs.{needs}
+use Rattle.print.proofs.put_bytes.Statement.{statement}
+use Rattle.print.proofs.put_bytes.Tie as tie
+
+abbrev Inv-loop : tie.InvT-loop
+Inv-loop out₀ at w i₀ out i = Pasting at w out₀ out i
+
+abbrev μ-loop : tie.MeasureT-loop
+μ-loop out₀ at w i₀ out i = length w - i
+
+loop-holds : tie.Need-loop-holds Inv-loop μ-loop
+loop-holds c = paste-start _ _ _ (c .pre)
+
+shared-slice-read-out : tie.Need-shared-slice-read-out Inv-loop μ-loop
+shared-slice-read-out c = search needs
+
+add-out : tie.Need-add-out Inv-loop μ-loop
+add-out c = search needs
+
+slice-write-out : tie.Need-slice-write-out Inv-loop μ-loop
+slice-write-out c = search needs
+
+add-i : tie.Need-add-i Inv-loop μ-loop
+add-i c = search needs
+
+loop-less : tie.Need-loop-less Inv-loop μ-loop
+loop-less c = search needs
+
+loop-again : tie.Need-loop-again Inv-loop μ-loop
+loop-again c = paste-turn _ _ _ _ _ (c .before .before .loop .inv) (c .before .loop-test .taken)
+
+add-result : tie.Need-add-result Inv-loop μ-loop
+add-result c = search needs
+
+same-length : tie.Need-same-length Inv-loop μ-loop
+same-length c = c .before .loop .inv .long
+
+returns : tie.Need-returns Inv-loop μ-loop
+returns c = paste-end _ _ _ _ _ (c .before .loop .inv) (c .loop-test .left)
+
+pub put-bytes-spec : {M : Type 1} → statement M
+put-bytes-spec =
+    tie.close
+    (tie.spec
+    Inv-loop
+    μ-loop
+    loop-holds
+    shared-slice-read-out
+    add-out
+    slice-write-out
+    add-i
+    loop-less
+    loop-again
+    add-result
+    same-length
+    returns)

@@ -1,0 +1,67 @@
+-- `times::read_digits` meets its contract: the two runs are read as one, and its at most 15 digits make an exact whole number.
+use native.Mathlib.Omega.{arith}
+use Rattle.times.proofs.Reading.{digits-read, digits-long, digits-room, digits-value, digits-not, digits-large}
+use borrow.Author.Needs.{needs}
+use Rattle.times.proofs.read_digits.Statement.{statement}
+use Rattle.times.proofs.read_digits.Tie as tie
+
+sub-if1 : tie.Need-sub-if1
+sub-if1 c = search needs
+
+sub-if1-2 : tie.Need-sub-if1-2
+sub-if1-2 c = search needs
+
+add-if1 : tie.Need-add-if1
+add-if1 c = search needs
+
+returns : tie.Need-returns
+returns c = digits-long _ _ _ _ _ _ _ (c .before .before .pre) (c .if1 .taken)
+
+read-digits-requires : tie.Need-read-digits-requires
+read-digits-requires c κs = search needs
+
+read-digits-requires-2 : tie.Need-read-digits-requires-2
+read-digits-requires-2 c κs = search needs
+
+enum-known-n : tie.Need-enum-known-n
+enum-known-n c = search needs
+
+sub-ratio : tie.Need-sub-ratio
+sub-ratio c = search needs
+
+ratio-requires : tie.Need-ratio-requires
+ratio-requires c κs = (digits-room _ _ (digits-read _ _ _ _ _ _ _ (c .before .before .before .before .before .before .before .pre) (c .before .before .before .before .before .if1 .left) (c .before .before .before .before .read-digits .ensures) (c .before .before .before .read-digits2 .ensures)) _ (c .before .n .given .1), omega arith)
+
+enum-told : tie.Need-enum-told
+enum-told c = search needs
+
+enum-told-2 : tie.Need-enum-told-2
+enum-told-2 c = search needs
+
+returns-2 : tie.Need-returns-2
+returns-2 c = digits-value _ _ (digits-read _ _ _ _ _ _ _ (c .before .before .before .before .before .before .before .before .pre) (c .before .before .before .before .before .before .if1 .left) (c .before .before .before .before .before .read-digits .ensures) (c .before .before .before .before .read-digits2 .ensures)) _ _ _ _ (c .before .before .n .given .1) (c .ratio .ensures)
+
+returns-3 : tie.Need-returns-3
+returns-3 c = digits-large _ _ (digits-read _ _ _ _ _ _ _ (c .before .before .before .before .before .before .pre) (c .before .before .before .before .if1 .left) (c .before .before .before .read-digits .ensures) (c .before .before .read-digits2 .ensures)) _ _ (c .enum-told .given .1)
+
+returns-4 : tie.Need-returns-4
+returns-4 c = digits-not _ _ (digits-read _ _ _ _ _ _ _ (c .before .before .before .before .before .before .pre) (c .before .before .before .before .if1 .left) (c .before .before .before .read-digits .ensures) (c .before .before .read-digits2 .ensures)) _ _ (c .enum-told2 .given .1)
+
+pub read-digits-spec : {M : Type 1} → statement M
+read-digits-spec =
+    tie.close
+    (tie.spec
+    sub-if1
+    sub-if1-2
+    add-if1
+    returns
+    read-digits-requires
+    read-digits-requires-2
+    enum-known-n
+    sub-ratio
+    ratio-requires
+    enum-told
+    enum-told-2
+    returns-2
+    returns-3
+    returns-4)

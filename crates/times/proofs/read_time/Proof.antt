@@ -1,0 +1,56 @@
+-- `times::read_time` meets its contract: the three names, then any other word.
+use mathlib.Core.Path.{_∙_}
+use Rattle.times.proofs.Values.{inf-made, minus-inf-made, nan-made}
+use Rattle.times.proofs.Reading.{says-same, time-inf, time-minus-inf, time-nan, time-word}
+use borrow.Author.Needs.{needs}
+use Rattle.times.proofs.read_time.Statement.{statement}
+use Rattle.times.proofs.read_time.Tie as tie
+
+slice-aggregate-same-word : tie.Need-slice-aggregate-same-word
+slice-aggregate-same-word c = search needs
+
+same-word-requires : tie.Need-same-word-requires
+same-word-requires c κs = search needs
+
+returns : tie.Need-returns
+returns c = time-inf _ _ (says-same _ _ _ (c .before .same-word .ensures) ∙ c .if1 .taken) inf-made
+
+slice-aggregate-same-word-2 : tie.Need-slice-aggregate-same-word-2
+slice-aggregate-same-word-2 c = search needs
+
+same-word-requires-2 : tie.Need-same-word-requires-2
+same-word-requires-2 c κs = search needs
+
+returns-2 : tie.Need-returns-2
+returns-2 c = time-minus-inf _ _ (says-same _ _ _ (c .before .before .before .before .same-word .ensures) ∙ c .before .before .before .if1 .left) (says-same _ _ _ (c .before .same-word2 .ensures) ∙ c .if2 .taken) minus-inf-made
+
+slice-aggregate-same-word-3 : tie.Need-slice-aggregate-same-word-3
+slice-aggregate-same-word-3 c = search needs
+
+same-word-requires-3 : tie.Need-same-word-requires-3
+same-word-requires-3 c κs = search needs
+
+returns-3 : tie.Need-returns-3
+returns-3 c = time-nan _ _ (says-same _ _ _ (c .before .before .before .before .before .before .before .same-word .ensures) ∙ c .before .before .before .before .before .before .if1 .left) (says-same _ _ _ (c .before .before .before .before .same-word2 .ensures) ∙ c .before .before .before .if2 .left) (says-same _ _ _ (c .before .same-word3 .ensures) ∙ c .if3 .taken) nan-made
+
+read-word-requires : tie.Need-read-word-requires
+read-word-requires c κs = search needs
+
+returns-4 : tie.Need-returns-4
+returns-4 c = c .read-word .ensures ∙ time-word _ (says-same _ _ _ (c .before .before .before .before .before .before .before .before .same-word .ensures) ∙ c .before .before .before .before .before .before .before .if1 .left) (says-same _ _ _ (c .before .before .before .before .before .same-word2 .ensures) ∙ c .before .before .before .before .if2 .left) (says-same _ _ _ (c .before .before .same-word3 .ensures) ∙ c .before .if3 .left)
+
+pub read-time-spec : {M : Type 1} → statement M
+read-time-spec =
+    tie.close
+    (tie.spec
+    slice-aggregate-same-word
+    same-word-requires
+    returns
+    slice-aggregate-same-word-2
+    same-word-requires-2
+    returns-2
+    slice-aggregate-same-word-3
+    same-word-requires-3
+    returns-3
+    read-word-requires
+    returns-4)
