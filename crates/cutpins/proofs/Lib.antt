@@ -1,0 +1,6 @@
+-- The crate's laws that belong to no one function.
+pub mod Placed
+pub mod Listed
+pub mod Fewer
+pub mod Across
+pub mod Written
