@@ -7,6 +7,7 @@ use Prim.Native.Nat.{ℕ, zero, suc, _+_, _-_, _*_, _≤_, _<_}
 use native.Mathlib.Nat.{eq-or-lt-of-le}
 use native.Mathlib.Numerals.{add-one}
 use native.Mathlib.Omega.{arith}
+use lib.Dec.{ltb}
 use borrow.Author.Tests.{lt-ltb, le-ltb}
 use lib.ListN.{length, take, drop, replicate, length-set}
 use lib.Seq.{drop-drop}
@@ -24,7 +25,7 @@ use Rattle.parts.proofs.Parts.{ranges-part, ranges-back, ranges-sized, mid-long
 use Rattle.laid.proofs.Rows.{ranges-length, pins-length}
 use Rattle.cutpins.specs.Entries.{PinsSized, counts, pinsAcrossIn, cutEntries}
 use Rattle.cutting.specs.Cutting.{acrossIn, cutRanges}
-use Rattle.cutstore.specs.Needs.{acrossOf, overfull, idsBelow}
+use Rattle.cutstore.specs.Needs.{acrossOf, idsBelow}
 
 -- the bounds of a store's part
 pub start-fits : {s : ℕ} → s < 8 → Fits w64 (128 * s)
@@ -139,32 +140,38 @@ any-suc i t a b = rw (b, a)
 any-more : (i : ℕ) (t : ℕ → Bool) → any i t ≡ false → t i ≡ false → any (i + 1) t ≡ false
 any-more i t a b = rw add-one (any-suc i t a b)
 
--- the loop's invariant: none of the stores below s is too full
-pub record NoneOver (node start end : List ℕ) (j k : ℕ) (records : List ℕ) (stores s : ℕ) : Type 0 where
+-- columns of this node, start and end
+abbrev pub RangesAre : List ℕ → List ℕ → List ℕ → Ranges → Type 0
+RangesAre node start end c = (c .node ≡ node) × (c .start ≡ start) × (c .end ≡ end)
+
+abbrev pub PinsAre : List ℕ → List ℕ → List ℕ → Pins → Type 0
+PinsAre node start end c = (c .node ≡ node) × (c .start ≡ start) × (c .end ≡ end)
+
+-- the loop's invariant: of none of the stores below s the test t holds, whatever columns c are meant
+pub record NoneOver {X : Type 0} (Ok : X → Type 0) (t : X → ℕ → Bool) (stores s : ℕ) : Type 0 where
   pub high : s ≤ stores
-  pub none : (c : Ranges) → c .node ≡ node → c .start ≡ start → c .end ≡ end → any s (overfull j k c records) ≡ false
+  pub none : (c : X) → Ok c → any s (t c) ≡ false
 
-module _ (node start end : List ℕ) (j k : ℕ) (records : List ℕ) (stores : ℕ) where
-  pub over-start : NoneOver node start end j k records stores 0
+module _ {X : Type 0} (Ok : X → Type 0) (t : X → ℕ → Bool) (stores : ℕ) where
+  pub over-start : NoneOver Ok t stores 0
   unfolding any
-  over-start = record { high = omega arith; none = λ c a b d. refl }
+  over-start = record { high = omega arith; none = λ c a. refl }
 
-  pub over-end : (s : ℕ) → NoneOver node start end j k records stores s → stores ≤ s
-      → (c : Ranges) → c .node ≡ node → c .start ≡ start → c .end ≡ end → false ≡ any stores (overfull j k c records)
-  over-end s w h c a b d = let e : s ≡ stores = omega (arith, w .high) in sym (rw e at (w .none c a b d))
+  pub over-end : (s : ℕ) → NoneOver Ok t stores s → stores ≤ s → (c : X) → Ok c → false ≡ any stores (t c)
+  over-end s w h c a = let e : s ≡ stores = omega (arith, w .high) in sym (rw e at (w .none c a))
 
-  module _ (s r : ℕ) (h : s < stores)
-      (is : (c : Ranges) → c .node ≡ node → c .start ≡ start → c .end ≡ end → r ≡ rangesAcross j k (ranges c (128 * s) (at records s))) where
-    pub over-found : 128 < at records s + r
-        → (c : Ranges) → c .node ≡ node → c .start ≡ start → c .end ≡ end → true ≡ any stores (overfull j k c records)
-    over-found l c a b d = sym (any-found stores s (overfull j k c records) h (rw (← is c a b d) (lt-ltb 128 (at records s + r) l)))
+  pub over-found : (s : ℕ) → s < stores → ((c : X) → Ok c → t c s ≡ true) → (c : X) → Ok c → true ≡ any stores (t c)
+  over-found s h f c a = sym (any-found stores s (t c) h (f c a))
 
-    pub over-turn : NoneOver node start end j k records stores s → at records s + r ≤ 128 → NoneOver node start end j k records stores (s + 1)
-    over-turn w l =
-        record {
-          high = omega arith;
-          none = λ c a b d. any-more s (overfull j k c records) (w .none c a b d) (rw (← is c a b d) (le-ltb 128 (at records s + r) l));
-        }
+  pub over-turn : (s : ℕ) → NoneOver Ok t stores s → s < stores → ((c : X) → Ok c → t c s ≡ false) → NoneOver Ok t stores (s + 1)
+  over-turn s w h f = record { high = omega arith; none = λ c a. any-more s (t c) (w .none c a) (f c a) }
+
+-- more than the limit, with the number that a callee gave
+pub is-over : (limit n r x : ℕ) → r ≡ x → limit < n + r → ltb limit (n + x) ≡ true
+is-over limit n r x e h = rw (← e) (lt-ltb limit (n + r) h)
+
+pub not-over : (limit n r x : ℕ) → r ≡ x → n + r ≤ limit → ltb limit (n + x) ≡ false
+not-over limit n r x e h = rw (← e) (le-ltb limit (n + r) h)
 
 -- the loop's invariant: the ids of the stores below s
 pub record Summed (node start end : List ℕ) (j k : ℕ) (records : List ℕ) (stores sum s : ℕ) : Type 0 where

@@ -11,7 +11,7 @@ ghost use Rattle.model.specs.Insert.{heads, tails, rangesAcross, cutMarks, cutP
 ghost use Rattle.lent.specs.Lent.{rangesOf, pinsOf};
 ghost use Rattle.cutpins.specs.Entries.{counts};
 ghost use Rattle.model.specs.Words.{any};
-ghost use Rattle.cutstore.specs.Needs.{overfull, idsBelow};
+ghost use Rattle.cutstore.specs.Needs.{overfull, overpinned, idsBelow};
 
 // The ranges of store s, cut: its part of each column is lent on.
 pub fn cut_ranges(
@@ -179,4 +179,28 @@ pub fn pins_across(
     let a = 32 * s;
     let e = a + 32;
     cutpins::pins_across(&node[a..e], &start[a..e], &end[a..e], n, j, k)
+}
+
+// Does some store have too few pin entries left for a cut of node j at k?
+pub fn entries_over(
+    node: &[usize],
+    start: &[usize],
+    end: &[usize],
+    entries: [usize; 8],
+    stores: usize,
+    j: usize,
+    k: usize,
+) -> bool
+    requires { ⌜ (stores ≤ 8) × ((s : ℕ) → s < stores → at entries s ≤ 32) × (256 ≤ length (now node)) × (256 ≤ length (now start)) × (256 ≤ length (now end)) ⌝ }
+    ensures { λ r. ⌜ ((c : Pins) → c .node ≡ now (node .entry) → c .start ≡ now (start .entry) → c .end ≡ now (end .entry) → r ≡ any stores (overpinned j k c entries)) ⌝ }
+{
+    let mut s: usize = 0;
+    while s < stores {
+        let n = entries[s];
+        if 32 < n + pins_across(node, start, end, s, n, j, k) {
+            return true;
+        }
+        s += 1;
+    }
+    false
 }

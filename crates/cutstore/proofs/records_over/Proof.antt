@@ -1,19 +1,21 @@
 -- `cutstore::records_over` meets its contract: store by store, by the laws of `NoneOver`.
 use Prim.Native.Nat.{_-_}
 use native.Mathlib.Omega.{arith}
-use Rattle.cutstore.proofs.Laws.{NoneOver, over-start, over-found, over-turn, over-end}
+use Rattle.model.specs.State.{Ranges, at}
+use Rattle.cutstore.specs.Needs.{overfull}
+use Rattle.cutstore.proofs.Laws.{RangesAre, NoneOver, over-start, over-found, over-turn, over-end, is-over, not-over}
 use borrow.Author.Needs.{needs}
 use Rattle.cutstore.proofs.records_over.Statement.{statement}
 use Rattle.cutstore.proofs.records_over.Tie as tie
 
 abbrev Inv-loop : tie.InvT-loop
-Inv-loop node start end stores j k records s₀ s = NoneOver node start end j k records stores s
+Inv-loop node start end stores j k records s₀ s = NoneOver (RangesAre node start end) (λ (c : Ranges). overfull j k c records) stores s
 
 abbrev μ-loop : tie.MeasureT-loop
 μ-loop node start end stores j k records s₀ s = stores - s
 
 loop-holds : tie.Need-loop-holds Inv-loop μ-loop
-loop-holds c = over-start _ _ _ _ _ _ _
+loop-holds c = over-start _ _ _
 
 mul-n : tie.Need-mul-n Inv-loop μ-loop
 mul-n c = search needs
@@ -29,7 +31,12 @@ add-if1 c = let p = c .before .before .before .before .before .before .pre in om
 
 returns : tie.Need-returns Inv-loop μ-loop
 returns c =
-    over-found _ _ _ _ _ (c .before .before .before .before .before .before .before .args .t4) _ _ _ (c .before .before .loop-test .taken) (c .before .ranges-across .ensures .1) (c .if1 .taken)
+    let a = c .before .before .before .before .before .before .before .args in
+    let s = c .before .before .before .loop .s in
+    λ r x y z.
+    over-found (RangesAre (a .node .now) (a .start .now) (a .end .now)) (λ (q : Ranges). overfull (a .j) (a .k) q (a .t4)) (a .stores) s
+    (c .before .before .loop-test .taken) (λ q o. is-over 128 (at (a .t4) s) _ _ (c .before .ranges-across .ensures .1 q (o .0) (o .1) (o .2)) (c .if1 .taken)) r
+    (x, y, z)
 
 add-s : tie.Need-add-s Inv-loop μ-loop
 add-s c = search needs
@@ -38,10 +45,19 @@ loop-less : tie.Need-loop-less Inv-loop μ-loop
 loop-less c = search needs
 
 loop-again : tie.Need-loop-again Inv-loop μ-loop
-loop-again c = over-turn _ _ _ _ _ _ _ _ _ (c .before .before .loop-test .taken) (c .before .ranges-across .ensures .1) (c .before .before .before .loop .inv) (c .if1 .left)
+loop-again c =
+    let a = c .before .before .before .before .before .before .before .args in
+    let s = c .before .before .before .loop .s in
+    over-turn (RangesAre (a .node .now) (a .start .now) (a .end .now)) (λ (q : Ranges). overfull (a .j) (a .k) q (a .t4)) (a .stores) s
+    (c .before .before .before .loop .inv) (c .before .before .loop-test .taken)
+    (λ q o. not-over 128 (at (a .t4) s) _ _ (c .before .ranges-across .ensures .1 q (o .0) (o .1) (o .2)) (c .if1 .left))
 
 returns-2 : tie.Need-returns-2 Inv-loop μ-loop
-returns-2 c = over-end _ _ _ _ _ _ _ _ (c .before .loop .inv) (c .loop-test .left)
+returns-2 c =
+    let a = c .before .before .before .before .before .args in
+    λ r x y z.
+    over-end (RangesAre (a .node .now) (a .start .now) (a .end .now)) (λ (q : Ranges). overfull (a .j) (a .k) q (a .t4)) (a .stores) _ (c .before .loop .inv)
+    (c .loop-test .left) r (x, y, z)
 
 pub records-over-spec : {M : Type 1} → statement M
 records-over-spec =
