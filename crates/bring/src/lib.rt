@@ -1,0 +1,168 @@
+use evicted::Evicted;
+use gaps::Gaps;
+use lent::Small;
+use model::Span;
+use trim::Trimming;
+ghost use mathlib.Core.Path.{_≡_};
+ghost use mathlib.Core.List.{[], _∷_};
+ghost use Prim.Native.Nat.{_+_, _≤_, _<_};
+ghost use Rattle.model.specs.State.{at};
+ghost use Rattle.model.specs.Trim.{stallsAfter};
+ghost use Rattle.model.specs.Refusals.{OutFits};
+ghost use Rattle.model.specs.Calls.{layOuts};
+ghost use Rattle.lent.specs.Lent.{treeOf, rangesOf, pinsOf, stateOf};
+ghost use Rattle.tree.specs.Span.{Priced, onlyDepth};
+ghost use Rattle.evicted.specs.Evicted.{outList};
+ghost use Rattle.bring.specs.Settled.{Settled, whole};
+ghost use Rattle.bring.specs.Insert.{InsertReady, BroughtIn};
+
+// One stall more, up to 2^48.
+fn stalls_after(stalled: bool, stalls: u64) -> u64
+    ensures { λ r. ⌜ r ≡ stallsAfter stalled stalls ⌝ }
+{
+    if !stalled {
+        return stalls;
+    }
+    if stalls < 281474976710656 {
+        return stalls + 1;
+    }
+    281474976710656
+}
+
+// The small numbers after store s was trimmed; `need` is how many stamps and ids were given.
+fn settle(x: Small, s: usize, need: usize, t: Trimming) -> Small
+    requires { ⌜ (s < 8) × (need ≤ 128) × (at (x .stamp) s ≤ 281474976710656) × (x .next ≤ 281474976710656) ⌝ }
+    ensures { λ y. ⌜ Settled s need (t .n) (t .held) (t .outs) (t .stalled) x y ⌝ }
+{
+    let mut y = x;
+    let given = need as u64;
+    y.next = x.next + given;
+    y.stalls = stalls_after(t.stalled, x.stalls);
+    y.records[s] = t.n;
+    y.held[s] = t.held;
+    y.stamp[s] = x.stamp[s] + given;
+    y.version[s] = std::num::wrapping_add_u64(x.version[s], t.outs as u64);
+    y
+}
+
+// The small numbers afterwards, and how many spans were given out.
+pub struct Brought {
+    pub small: Small,
+    pub outs: usize,
+}
+
+// A span brought into store s, which has a capacity, once the gaps are known.
+pub fn bring_in(
+    node: &mut [usize],
+    start: &mut [usize],
+    end: &mut [usize],
+    id: &mut [u64],
+    stamp: &mut [u64],
+    touched: &mut [f64],
+    write: &mut [u32],
+    marks: &mut [usize],
+    out_node: &mut [usize],
+    out_start: &mut [usize],
+    out_end: &mut [usize],
+    out_write: &mut [u32],
+    out_bytes: &mut [u64],
+    out_dead: &mut [u64],
+    parent: &[usize],
+    depth: &[usize],
+    len: &[usize],
+    run: &[usize],
+    words: &[u64],
+    pin_node: &[usize],
+    pin_start: &[usize],
+    pin_end: &[usize],
+    pin_count: &[u64],
+    bytes: &[u64],
+    x: Small,
+    s: usize,
+    sp: Span,
+    g: Gaps,
+    time: f64,
+    w: u32,
+) -> Brought
+    requires { ⌜ InsertReady (stateOf (treeOf (now parent) (now depth) (now len) (now run) (now words) (x .nodes) (x .used)) (rangesOf (now node) (now start) (now end) (now id) (now stamp) (now touched) (now write)) (pinsOf (now «pin_node») (now «pin_start») (now «pin_end») (now «pin_count»)) (now marks) (now bytes) x) (outList (now «out_node») (now «out_start») (now «out_end») (now «out_write») (now «out_bytes») (now «out_dead»)) s sp g time ⌝ }
+    ensures { λ r. ⌜ BroughtIn (stateOf (treeOf (now (parent .entry)) (now (depth .entry)) (now (len .entry)) (now (run .entry)) (now (words .entry)) (x .nodes) (x .used)) (rangesOf (now (node .entry)) (now (start .entry)) (now (end .entry)) (now (id .entry)) (now (stamp .entry)) (now (touched .entry)) (now (write .entry))) (pinsOf (now («pin_node» .entry)) (now («pin_start» .entry)) (now («pin_end» .entry)) (now («pin_count» .entry))) (now (marks .entry)) (now (bytes .entry)) x) (outList (now («out_node» .entry)) (now («out_start» .entry)) (now («out_end» .entry)) (now («out_write» .entry)) (now («out_bytes» .entry)) (now («out_dead» .entry))) s sp time w (stateOf (treeOf (now (parent .entry)) (now (depth .entry)) (now (len .entry)) (now (run .entry)) (now (words .entry)) (r .small .nodes) (r .small .used)) (rangesOf (now (node .exit)) (now (start .exit)) (now (end .exit)) (now (id .exit)) (now (stamp .exit)) (now (touched .exit)) (now (write .exit))) (pinsOf (now («pin_node» .entry)) (now («pin_start» .entry)) (now («pin_end» .entry)) (now («pin_count» .entry))) (now (marks .exit)) (now (bytes .entry)) (r .small)) (outList (now («out_node» .exit)) (now («out_start» .exit)) (now («out_end» .exit)) (now («out_write» .exit)) (now («out_bytes» .exit)) (now («out_dead» .exit))) (r .outs) ⌝ }
+{
+    let records = x.records;
+    let entries = x.entries;
+    let held = x.held;
+    let capacity = x.capacity;
+    let stamps = x.stamp;
+    let t = bringpart::bring_pools(
+        node,
+        start,
+        end,
+        id,
+        stamp,
+        touched,
+        write,
+        marks,
+        out_node,
+        out_start,
+        out_end,
+        out_write,
+        out_bytes,
+        out_dead,
+        depth,
+        bytes,
+        pin_node,
+        pin_start,
+        pin_end,
+        s,
+        records[s],
+        entries[s],
+        held[s],
+        capacity[s],
+        sp.node,
+        g,
+        stamps[s],
+        x.next,
+        time,
+        w,
+    );
+    let y = settle(x, s, g.n, t);
+    Brought {
+        small: y,
+        outs: t.outs,
+    }
+}
+
+// With capacity 0 the whole span is given out at once.
+pub fn give_back(
+    out_node: &mut [usize],
+    out_start: &mut [usize],
+    out_end: &mut [usize],
+    out_write: &mut [u32],
+    out_bytes: &mut [u64],
+    out_dead: &mut [u64],
+    depth: &[usize],
+    bytes: &[u64],
+    sp: Span,
+    w: u32,
+)
+    requires { ⌜ Priced (now depth) (now bytes) sp × OutFits (outList (now «out_node») (now «out_start») (now «out_end») (now «out_write») (now «out_bytes») (now «out_dead»)) ⌝ }
+    ensures { λ _. ⌜ outList (now («out_node» .exit)) (now («out_start» .exit)) (now («out_end» .exit)) (now («out_write» .exit)) (now («out_bytes» .exit)) (now («out_dead» .exit)) ≡ layOuts (whole (onlyDepth (now (depth .entry))) (now (bytes .entry)) sp w ∷ []) (outList (now («out_node» .entry)) (now («out_start» .entry)) (now («out_end» .entry)) (now («out_write» .entry)) (now («out_bytes» .entry)) (now («out_dead» .entry))) ⌝ }
+{
+    let price = tree::span_bytes(depth, bytes, sp);
+    let write = evicted::write_id(w);
+    let e = Evicted {
+        span: sp,
+        write: write,
+        bytes: price,
+        dead: 0,
+    };
+    evicted::put_out(
+        out_node,
+        out_start,
+        out_end,
+        out_write,
+        out_bytes,
+        out_dead,
+        0,
+        e,
+    );
+}

@@ -1,0 +1,77 @@
+-- `insert::insert_refusal` meets its contract: each return is the number of the first condition that holds, by the laws over what is seen of the state.
+use mathlib.Core.Path.{refl}
+use native.Mathlib.Omega.{arith}
+use borrow.Author.Needs.{needs}
+use lib.Dec.{ltb}
+use Rattle.model.specs.State.{at}
+use Rattle.insert.proofs.Laws.{plus-few, none-added, node-in, node-small, few-nodes, few-words, cut-asks, six, seven, not-inside, inside}
+use Rattle.insert.proofs.insert_refusal.Statement.{statement}
+use Rattle.insert.proofs.insert_refusal.Tie as tie
+
+returns : tie.Need-returns
+returns c = λ st hs w. none-added st hs w (c .if1 .taken)
+
+mul-inside : tie.Need-mul-inside
+mul-inside c = let p = c .before .before .before .before .before .before .pre in omega (arith, node-small (p .0) (p .1) (p .2) (c .if1 .left))
+
+shared-slice-read-inside : tie.Need-shared-slice-read-inside
+shared-slice-read-inside c = let p = c .before .before .before .before .before .before .before .pre in node-in (p .0) (p .1) (p .2) (c .before .if1 .left)
+
+node-need-requires : tie.Need-node-need-requires
+node-need-requires c κs = search needs
+
+add-if2 : tie.Need-add-if2
+add-if2 c =
+    let z = c .before .before .before .before .before .before .before .before .before in
+    let a = z .args in
+    omega (arith, few-nodes (z .pre .0) (z .pre .1) (z .pre .2), c .before .node-need .ensures, plus-few (ltb (a .m .len) (at (a .len .now) (a .m .node))))
+
+returns-2 : tie.Need-returns-2
+returns-2 c =
+    let z = c .before .before .before .before .before .before .before .before .before .before in
+    let a = z .args in
+    λ st hs w. six st hs w (c .before .before .before .before .if1 .left) (ltb (a .m .len) (at (a .len .now) (a .m .node))) (c .before .before .node-need .result) refl (c .before .before .node-need .ensures) (c .if2 .taken)
+
+sub-if3 : tie.Need-sub-if3
+sub-if3 c = search needs
+
+add-if3 : tie.Need-add-if3
+add-if3 c = search needs
+
+returns-3 : tie.Need-returns-3
+returns-3 c =
+    let z = c .before .before .before .before .before .before .before .before .before .before .before .before .before in
+    let a = z .args in
+    λ st hs w. seven st hs w (c .before .before .before .before .before .before .before .if1 .left) (ltb (a .m .len) (at (a .len .now) (a .m .node))) (c .before .before .before .before .before .node-need .result) refl (c .before .before .before .before .before .node-need .ensures) (c .before .before .before .if2 .left) (c .if3 .taken)
+
+returns-4 : tie.Need-returns-4
+returns-4 c =
+    let z = c .before .before .before .before .before .before .before .before .before .before .before .before .before .before in
+    let a = z .args in
+    λ st hs w. not-inside st hs w (c .before .before .before .before .before .before .before .before .if1 .left) (ltb (a .m .len) (at (a .len .now) (a .m .node))) (c .before .before .before .before .before .before .node-need .result) refl (c .before .before .before .before .before .before .node-need .ensures) (c .before .before .before .before .if2 .left) (c .before .if3 .left) (c .if4 .taken)
+
+cut-refusal-requires : tie.Need-cut-refusal-requires
+cut-refusal-requires c κs = let p = c .before .before .before .before .before .before .before .before .before .before .before .before .before .before .pre in cut-asks (p .0) (p .1) (p .2)
+
+returns-5 : tie.Need-returns-5
+returns-5 c =
+    let z = c .before .before .before .before .before .before .before .before .before .before .before .before .before .before .before in
+    let a = z .args in
+    λ st hs w. inside st hs w (c .before .before .before .before .before .before .before .before .before .if1 .left) (ltb (a .m .len) (at (a .len .now) (a .m .node))) (c .before .before .before .before .before .before .before .node-need .result) refl (c .before .before .before .before .before .before .before .node-need .ensures) (c .before .before .before .before .before .if2 .left) (c .before .before .if3 .left) (c .before .if4 .left) (c .cut-refusal .result) (c .cut-refusal .ensures)
+
+pub insert-refusal-spec : {M : Type 1} → statement M
+insert-refusal-spec =
+    tie.close
+    (tie.spec
+    returns
+    mul-inside
+    shared-slice-read-inside
+    node-need-requires
+    add-if2
+    returns-2
+    sub-if3
+    add-if3
+    returns-3
+    returns-4
+    cut-refusal-requires
+    returns-5)

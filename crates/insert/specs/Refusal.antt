@@ -1,0 +1,63 @@
+-- What an insert of a list is refused for, once the state is sound and the lists are long enough: 6, 7, 8, 9, 11. Assumes nothing.
+use Prim.Native.Nat.{ℕ, _+_, _≤_}
+use mathlib.Core.Path.{_≡_}
+use mathlib.Core.Bool.{Bool, true, false}
+use mathlib.Core.List.{List, [], _∷_}
+use lib.ListN.{length}
+use lib.Dec.{ltb}
+use Rattle.model.specs.Words.{any}
+use Rattle.model.specs.Sizes.{maxHashes, maxStamp}
+use Rattle.model.specs.State.{Ranges, Books, State}
+use Rattle.model.specs.Sound.{Sound}
+use Rattle.model.specs.Tree.{resolve}
+use Rattle.model.specs.Refusals.{firstOf, fewNodes, fewWords, fewRecordsInCut, fewEntriesInCut, lateId, cutIds}
+use Rattle.lent.specs.declared.Small.{Small}
+use Rattle.lent.specs.Lent.{booksOf}
+use Rattle.tree.specs.declared.Match.{Match}
+use Rattle.tree.specs.Walk.{matchOf}
+use Rattle.cutstore.specs.Needs.{overfull, overpinned, idsBelow}
+
+unfoldable pub insertRefusal : State → List ℕ → ℕ
+insertRefusal st hs =
+    firstOf
+    (fewNodes st hs
+    ∷ fewWords st hs
+    ∷ fewRecordsInCut st hs
+    ∷ fewEntriesInCut st hs
+    ∷ lateId st (cutIds st hs (st .books .stores))
+    ∷ [])
+
+-- the number of the first test that holds, or 0
+abbrev pub pick : Bool → Bool → Bool → ℕ
+pick true b c = 8
+pick false true c = 9
+pick false false true = 11
+pick false false false = 0
+
+-- what a cut is refused for: of its ranges the columns are looked at, of its pins only whether they are too many
+unfoldable pub cutRefusal : ℕ → ℕ → Bool → Ranges → Books → ℕ
+unfolding idsBelow
+cutRefusal j k over c b =
+    pick (any (b .stores) (overfull j k c (b .records))) over (ltb maxStamp (b .nextId + idsBelow j k c (b .records) (b .stores)))
+
+-- a sound state of which these columns and numbers are lent, and the match of a list in its tree; o tells whether some store's pins are too many
+pub record Seen (ls ns ss es : List ℕ) (o : Bool) (x : Small) (m : Match) (n : ℕ) (st : State) (hs : List ℕ) : Type 0 where
+  pub sound : Sound st
+  pub nodes : st .tree .nodes ≡ x .nodes
+  pub used : st .tree .used ≡ x .used
+  pub len : st .tree .len ≡ ls
+  pub node : st .ranges .node ≡ ns
+  pub start : st .ranges .start ≡ ss
+  pub end : st .ranges .end ≡ es
+  pub books : st .books ≡ booksOf x
+  pub over : o ≡ any (st .books .stores) (overpinned (m .node) (m .len) (st .pins) (st .books .entries))
+  pub count : length hs ≡ n
+  pub short : length hs ≤ maxHashes
+  pub match : m ≡ matchOf (resolve (st .tree) hs)
+
+-- the same with three columns of the pins lent, from which that is told
+pub record Shown (ls ns ss es pns pss pes : List ℕ) (x : Small) (m : Match) (n : ℕ) (st : State) (hs : List ℕ) : Type 0 where
+  pub seen : Seen ls ns ss es (any (st .books .stores) (overpinned (m .node) (m .len) (st .pins) (st .books .entries))) x m n st hs
+  pub pinNode : st .pins .node ≡ pns
+  pub pinStart : st .pins .start ≡ pss
+  pub pinEnd : st .pins .end ≡ pes
