@@ -9,7 +9,9 @@ use lib.Seq.{drop-cons, set-append-seam}
 use Rattle.model.specs.Trim.{Out}
 use Rattle.model.specs.Refusals.{OutList, OutFits}
 use Rattle.model.specs.Calls.{front, layOuts}
-use Rattle.evicted.specs.Evicted.{outList, setOut}
+use Rattle.evicted.specs.Evicted.{writeNumber, writeOf, outList, setOut}
+use Rattle.evicted.specs.declared.WriteId.{WriteId}
+use Rattle.evicted.specs.declared.WriteId.the-variants.{NoWrite, Write}
 
 map-snoc : {A B : Type 0} (f : A → B) (xs : List A) (x : A) → map f (xs ++ (x ∷ [])) ≡ map f xs ++ (f x ∷ [])
 map-snoc f [] x = refl
@@ -38,3 +40,21 @@ out-more os o l h w =
   where
     columns : {a a′ b b′ c c′ d d′ e e′ f f′ : List ℕ} → a ≡ a′ → b ≡ b′ → c ≡ c′ → d ≡ d′ → e ≡ e′ → f ≡ f′ → outList a b c d e f ≡ outList a′ b′ c′ d′ e′ f′
     columns p q r s t u = cc
+
+-- ---- a write and its number
+
+number-of : (n : ℕ) → writeNumber (writeOf n) ≡ n
+number-of zero = refl
+number-of (suc n) = refl
+
+-- the column's number of a write that stands for n is n
+pub carries : (n : ℕ) (w : WriteId) → w ≡ writeOf n → writeNumber w ≡ n
+carries n w e = ap writeNumber e ∙ number-of n
+
+pub no-write : (n : ℕ) → n ≡ 0 → NoWrite ≡ writeOf n
+no-write zero e = refl
+no-write (suc n) e = absurd (omega arith)
+
+pub some-write : (n : ℕ) → (n ≡ 0 → ⊥) → Write n ≡ writeOf n
+some-write zero e = absurd (e refl)
+some-write (suc n) e = refl

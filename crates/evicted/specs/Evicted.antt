@@ -1,6 +1,6 @@
 -- A given-out span by value, and the lent columns that store it. Assumes nothing.
 use mathlib.Core.List.{List}
-use Prim.Native.Nat.{ℕ}
+use Prim.Native.Nat.{ℕ, zero, suc}
 use lib.ListN.{set}
 use Rattle.model.specs.Trim.{Out}
 use Rattle.model.specs.Refusals.{OutList}
@@ -12,6 +12,11 @@ use Rattle.evicted.specs.declared.Evicted.{Evicted}
 abbrev pub writeNumber : WriteId → ℕ
 writeNumber NoWrite = 0
 writeNumber (Write n) = n
+
+-- the write that a number stands for: a 0 handed in, or in a column, is none
+abbrev pub writeOf : ℕ → WriteId
+writeOf zero = NoWrite
+writeOf (suc n) = Write (suc n)
 
 abbrev pub outOf : Evicted → Out
 outOf e =

@@ -3,7 +3,7 @@ ghost use mathlib.Core.Path.{_≡_};
 ghost use Prim.Native.Nat.{_<_, _≤_};
 ghost use lib.ListN.{length};
 ghost use Rattle.model.specs.Refusals.{OutFits};
-ghost use Rattle.evicted.specs.Evicted.{writeNumber, outOf, outList, setOut};
+ghost use Rattle.evicted.specs.Evicted.{writeNumber, writeOf, outOf, outList, setOut};
 
 // The write that a range carries: none, or a number from 1.
 pub enum WriteId {
@@ -21,7 +21,7 @@ pub struct Evicted {
 
 // A 0 handed in, or in a column, is none.
 pub fn write_id(n: u32) -> WriteId
-    ensures { λ r. ⌜ writeNumber r ≡ n ⌝ }
+    ensures { λ r. ⌜ r ≡ writeOf n ⌝ }
 {
     if n == 0 {
         return WriteId::NoWrite;

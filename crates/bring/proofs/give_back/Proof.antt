@@ -6,6 +6,7 @@ use Rattle.evicted.specs.Evicted.{outList}
 use Rattle.bring.specs.Settled.{whole}
 use Rattle.bring.proofs.Laws.{whole-out}
 use Rattle.bring.proofs.give_back.Statement.{statement}
+use Rattle.evicted.proofs.Laws.{carries}
 use Rattle.bring.proofs.give_back.Tie as tie
 
 span-bytes-requires : tie.Need-span-bytes-requires
@@ -40,7 +41,7 @@ returns c =
     let a = c .before .before .before .before .before .before .before .before .before .before .before .before .before .before .before .before .before .before .before .before .before .before .before .before .before .before .before .before .before .args in
     let k = c .before .before .before .before .before .before .before .before .before .before .before .before .put-out in
     whole-out _ (whole (onlyDepth (a .depth .now)) (a .bytes .now) (a .sp) (a .w)) (outList (a .out-node .now) (a .out-start .now) (a .out-end .now) (a .out-write .now) (a .out-bytes .now) (a .out-dead .now)) (outList (k .last .0) (k .last .1 .0) (k .last .1 .1 .0) (k .last .1 .1 .1 .0) (k .last .1 .1 .1 .1 .0) (k .last .1 .1 .1 .1 .1 .0)) (c .before .before .before .before .before .before .before .before .before .before .before .before .before .before .before .before .before .before .before .before .before .before .before .before .before .before .before .before .before .pre .1) (k .ensures)
-    (λ j. record { node = a .sp .node; start = a .sp .start; end = a .sp .end; write = c .before .before .before .before .before .before .before .before .before .before .before .before .before .before .before .before .before .before .before .write-id .ensures j; bytes = c .before .before .before .before .before .before .before .before .before .before .before .before .before .before .before .before .before .before .before .before .span-bytes .ensures j; dead = 0 })
+    (λ j. record { node = a .sp .node; start = a .sp .start; end = a .sp .end; write = carries (a .w) (c .before .before .before .before .before .before .before .before .before .before .before .before .before .before .before .before .before .before .before .write-id .result) (c .before .before .before .before .before .before .before .before .before .before .before .before .before .before .before .before .before .before .before .write-id .ensures) j; bytes = c .before .before .before .before .before .before .before .before .before .before .before .before .before .before .before .before .before .before .before .before .span-bytes .ensures j; dead = 0 })
 
 pub give-back-spec : {M : Type 1} → statement M
 give-back-spec =

@@ -1,5 +1,8 @@
 -- `trim::told` meets its contract: the bytes and the dead bytes are those that `tree` computes.
 use borrow.Author.Needs.{needs}
+use mathlib.Core.Path.{_≡_}
+use Rattle.evicted.specs.Evicted.{writeNumber}
+use Rattle.evicted.proofs.Laws.{carries}
 use Rattle.trim.proofs.told.Statement.{statement}
 use Rattle.trim.proofs.told.Tie as tie
 
@@ -13,7 +16,9 @@ write-id-requires : tie.Need-write-id-requires
 write-id-requires c κs = search needs
 
 returns : tie.Need-returns
-returns c = rw (c .write-id .ensures, c .before .dead-bytes .ensures, c .before .before .span-bytes .ensures)
+returns c =
+    let w : writeNumber (c .write-id .result) ≡ c .before .before .before .before .before .args .write = carries (c .before .before .before .before .before .args .write) (c .write-id .result) (c .write-id .ensures) in
+    rw (w, c .before .dead-bytes .ensures, c .before .before .span-bytes .ensures)
 
 pub told-spec : {M : Type 1} → statement M
 told-spec =
