@@ -12,6 +12,7 @@ use lib.Ieee.{Float, nan}
 use borrow.Author.Tests.{le-ltb, lt-ltb, leb-true}
 use Rattle.model.specs.declared.Span.{Span}
 use Rattle.model.specs.Sizes.{maxBytes}
+use Rattle.model.specs.Words.{Each}
 use Rattle.model.specs.State.{Tree, Ranges, Range, at, rangeAt}
 use Rattle.model.specs.Store.{Store, ranges, layRanges, meets, plus, part}
 use Rattle.model.specs.Trim.{bytesOf}
@@ -20,6 +21,7 @@ use Rattle.model.specs.Remove.{middleCuts, removeHits, remove}
 use Rattle.lent.specs.Lent.{rangesOf}
 use Rattle.laid.proofs.Rows.{ranges-length}
 use Rattle.kepttouch.proofs.Bools.{and-true}
+use Rattle.kepttouch.proofs.Recut.{met}
 use Rattle.recs.specs.Part.{Sized, putRange, cutRange}
 use Rattle.recs.proofs.Laws.{put-laid, cut-laid}
 use Rattle.tree.specs.Span.{Priced, onlyDepth}
@@ -27,7 +29,7 @@ use Rattle.overlap.specs.Overlap.{Ordered, First, Overlap, atPlace, halv
 use Rattle.overlap.specs.declared.Needs.{Needs}
 use Rattle.overlap.proofs.Laid.{back, edited, end-laid, start-laid, stamp-laid}
 use Rattle.overlap.proofs.Lists.{at-seam, insert-seam, remove-seam}
-use Rattle.overlap.proofs.Places.{ranges-seam, ranges-cons, ranges-none, hits-are, first-hit, new-hits, new-ends, middles-first}
+use Rattle.overlap.proofs.Places.{ranges-seam, ranges-cons, ranges-none, and-no, hits-are, first-hit, new-hits, new-ends, middles-first}
 
 -- ---- bytes
 
@@ -87,6 +89,15 @@ sum-end start end depth bytes sp lo hi sum i s h node id stamp write touched = l
 
 -- ---- needs
 
+-- one range wholly inside has no pieces
+pub one-new : (v a z : ℕ) (hits : List Range) → oneInside a z hits ≡ true → newPieces v a z hits ≡ 0
+unfolding newPieces
+one-new v a z [] e = refl
+one-new v a z (r ∷ []) e =
+    let y = and-true _ _ e in
+    rw (le-ltb (r .start) a (leb-true _ _ (y .0)), le-ltb z (r .end) (leb-true _ _ (y .1)), and-no (meets v a z r))
+one-new v a z (r ∷ q ∷ qs) e = let z : _≡_ {A = ℕ} 0 1 = cc in absurd (omega arith)
+
 module _ (t : Tree) (table : List ℕ) (x : Store) (next : ℕ) (sp : Span) (time : Float) (counted : Bool) where
   abbrev over : List Range
   over = overlapped (sp .node) (sp .start) (sp .end) (x .ranges)
@@ -104,19 +115,6 @@ module _ (t : Tree) (table : List ℕ) (x : Store) (next : ℕ) (sp : Span) (tim
       go [] = (refl, refl)
       go (r ∷ hits) = rw e (refl, refl)
 
-  and-no : (b : Bool) → (b && false) ≡ false
-  and-no true = refl
-  and-no false = refl
-
-  -- one range wholly inside has no pieces
-  one-new : (hits : List Range) → oneInside (sp .start) (sp .end) hits ≡ true → newPieces (sp .node) (sp .start) (sp .end) hits ≡ 0
-  unfolding newPieces
-  one-new [] e = refl
-  one-new (r ∷ []) e =
-      let y = and-true _ _ e in
-      rw (le-ltb (r .start) (sp .start) (leb-true _ _ (y .0)), le-ltb (sp .end) (r .end) (leb-true _ _ (y .1)), and-no (meets (sp .node) (sp .start) (sp .end) r))
-  one-new (r ∷ q ∷ qs) e = let z : _≡_ {A = ℕ} 0 1 = cc in absurd (omega arith)
-
   pub touch-on : x .refreshes ≡ true → (r : Range) (hits : List Range) → over ≡ r ∷ hits
       → (newPieces (sp .node) (sp .start) (sp .end) (x .ranges) ≡ touch t table x next sp time counted .need) × (1 ≡ touch t table x next sp time counted .stamps)
   unfolding touch renew split
@@ -126,7 +124,7 @@ module _ (t : Tree) (table : List ℕ) (x : Store) (next : ℕ) (sp : Span) (tim
           → (newPieces (sp .node) (sp .start) (sp .end) (x .ranges) ≡ refresh on b x next sp time (markRead counted sp (x .marks)) (bytesRead counted t table sp (r ∷ hits)) .need)
           × (1 ≡ refresh on b x next sp time (markRead counted sp (x .marks)) (bytesRead counted t table sp (r ∷ hits)) .stamps)
       go false b e p = absurd (true≢false (sym e))
-      go true true e p = (new-hits (sp .node) (sp .start) (sp .end) (x .ranges) ∙ ap (newPieces (sp .node) (sp .start) (sp .end)) h ∙ one-new (r ∷ hits) p, refl)
+      go true true e p = (new-hits (sp .node) (sp .start) (sp .end) (x .ranges) ∙ ap (newPieces (sp .node) (sp .start) (sp .end)) h ∙ one-new (sp .node) (sp .start) (sp .end) (r ∷ hits) p, refl)
       go true false e p = (refl, refl)
 
 module _ (x : Store) (next : ℕ) (sp : Span) where
@@ -272,3 +270,12 @@ module _ (node start end : List ℕ) (n : ℕ) (sp : Span) where
 
 pub min-most : (a b : ℕ) → min a b ≤ a
 min-most a b = omega arith
+
+-- ---- each overlapped record has blocks of the span
+
+pub shares : (c : Ranges) (n lo hi : ℕ) (sp : Span) → sp .start < sp .end → Overlap (c .node) (c .start) (c .end) n sp lo hi → Ordered (c .node) (c .start) (c .end) n
+    → Each lo hi (λ i. max (sp .start) (at (c .start) i) < min (sp .end) (at (c .end) i))
+shares c n lo hi sp az w o i l u =
+    let m = met (sp .node) (sp .start) (sp .end) (rangeAt c i) (w .hits i l u) in
+    let f = o .filled i (omega arith) (omega (arith, w .high)) in
+    omega (arith, m .left, m .right)

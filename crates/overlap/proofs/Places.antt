@@ -149,7 +149,7 @@ hits-cons : (v a z : ℕ) (r : Range) (rs : List Range) → meets v a z r ≡ tr
 unfolding overlapped
 hits-cons v a z r rs e = rw e
 
-and-no : (b : Bool) → (b && false) ≡ false
+pub and-no : (b : Bool) → (b && false) ≡ false
 and-no true = refl
 and-no false = refl
 

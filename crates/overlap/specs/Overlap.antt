@@ -8,11 +8,12 @@ use lib.Ieee.{Float}
 use lib.Dec.{ltb, eqb}
 use Rattle.model.specs.declared.Span.{Span}
 use Rattle.model.specs.Words.{Each, Pairs}
-use Rattle.model.specs.State.{Tree, Range, at}
+use Rattle.model.specs.State.{Tree, Ranges, Range, at}
 use Rattle.model.specs.Store.{Store, ranges, part}
 use Rattle.model.specs.Touch.{touch}
 use Rattle.model.specs.Remove.{remove}
 use Rattle.lent.specs.Lent.{rangesOf}
+use Rattle.recs.specs.Part.{Sized}
 use Rattle.overlap.specs.declared.Needs.{Needs}
 
 -- n records in columns that are long enough: nonempty, by node, and on a node disjoint and by start
@@ -41,6 +42,16 @@ pub record Overlap (node start end : List ℕ) (n : ℕ) (sp : Span) (lo hi : �
   pub before : Each 0 lo (λ i. meetsAt node start end sp i ≡ false)
   pub hits : Each lo hi (λ i. meetsAt node start end sp i ≡ true)
   pub after : Each hi n (λ i. meetsAt node start end sp i ≡ false)
+
+-- n records in the part c, of which the span overlaps those from lo up to hi
+pub record Cuttable (c : Ranges) (n lo hi : ℕ) (sp : Span) : Type 0 where
+  pub few : n ≤ 128
+  pub sized : Sized 128 c
+  pub over : Overlap (c .node) (c .start) (c .end) n sp lo hi
+
+-- columns of which only starts and ends are looked at
+abbrev pub onlySpans : List ℕ → List ℕ → Ranges
+onlySpans start end = rangesOf [] start end [] [] [] []
 
 -- ---- a list changed at one place: f makes of the range there and of those behind it what stands there then
 

@@ -25,12 +25,12 @@ use Rattle.kepttouch.proofs.Recut.{Met, met}
 use Rattle.laid.proofs.Rows.{ranges-length}
 use Rattle.recs.specs.Part.{Sized, cutRange}
 use Rattle.evicted.proofs.Laws.{front-more}
-use Rattle.overlap.specs.Overlap.{Ordered, First, Overlap, atPlace, halves}
+use Rattle.overlap.specs.Overlap.{Ordered, First, Overlap, Cuttable, onlySpans, atPlace, halves}
 use Rattle.overlap.proofs.Laid.{back, sized-laid, laid-at, laid-read, then-wide, then-narrow, edited}
 use Rattle.overlap.proofs.Lists.{Miss, out-skip, middles-none, at-seam}
 use Rattle.overlap.proofs.Places.{all-places, ranges-cut0, ranges-cons, ranges-none, ranges-seam, misses-before, misses-after, hits-are, no-middle, middles-first}
 use Rattle.overlap.proofs.Laws.{at-here, same-here, end-here, start-here, cut-here}
-use Rattle.remove.specs.Remove.{leftOf, bothEnds, gone, onlyNode, onlySpans, onlyWrite, Cuttable, CutTo, Freed, versionPast}
+use Rattle.remove.specs.Remove.{leftOf, bothEnds, gone, onlyNode, onlyWrite, CutTo, Freed, versionPast}
 
 -- ---- the blocks that go
 
@@ -565,14 +565,6 @@ past-some zero v h = absurd (omega arith)
 past-some (suc k) v h = refl
 
 -- ---- the whole
-
--- each overlapped record has blocks of the span
-pub shares : (c : Ranges) (n lo hi : ℕ) (sp : Span) → sp .start < sp .end → Overlap (c .node) (c .start) (c .end) n sp lo hi → Ordered (c .node) (c .start) (c .end) n
-    → Each lo hi (λ i. max (sp .start) (at (c .start) i) < min (sp .end) (at (c .end) i))
-shares c n lo hi sp az w o i l u =
-    let m = met (sp .node) (sp .start) (sp .end) (rangeAt c i) (w .hits i l u) in
-    let f = o .filled i (omega arith) (omega (arith, w .high)) in
-    omega (arith, m .left, m .right)
 
 remove-is : (hits : List Range) (x : Store) (next : ℕ) (sp : Span) → overlapped (sp .node) (sp .start) (sp .end) (x .ranges) ≡ hits → remove x next sp ≡ removeHits hits x next sp
 unfolding remove

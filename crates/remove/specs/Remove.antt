@@ -11,8 +11,6 @@ use Rattle.model.specs.Store.{Store, ranges, layRanges, total, part, put}
 use Rattle.model.specs.Remove.{Removed, cutOut, middleCuts}
 use Rattle.model.specs.Calls.{front}
 use Rattle.lent.specs.Lent.{rangesOf}
-use Rattle.recs.specs.Part.{Sized}
-use Rattle.overlap.specs.Overlap.{Overlap}
 use Rattle.remove.specs.declared.Removing.{Removing}
 
 -- what is left of a range before a and from z on, in front of the rest
@@ -32,9 +30,6 @@ gone a z (r ∷ rs) = (min z (r .end) - max a (r .start)) + gone a z rs
 abbrev pub onlyNode : List ℕ → Ranges
 onlyNode node = rangesOf node [] [] [] [] [] []
 
-abbrev pub onlySpans : List ℕ → List ℕ → Ranges
-onlySpans start end = rangesOf [] start end [] [] [] []
-
 abbrev pub onlyWrite : List ℕ → Ranges
 onlyWrite write = rangesOf [] [] [] [] [] [] write
 
@@ -42,12 +37,6 @@ onlyWrite write = rangesOf [] [] [] [] [] [] write
 abbrev pub versionPast : ℕ → ℕ → ℕ
 versionPast zero v = v
 versionPast (suc k) v = suc v % versions
-
--- n records in the part c, of which the span overlaps those from lo up to hi
-pub record Cuttable (c : Ranges) (n lo hi : ℕ) (sp : Span) : Type 0 where
-  pub few : n ≤ 128
-  pub sized : Sized 128 c
-  pub over : Overlap (c .node) (c .start) (c .end) n sp lo hi
 
 -- from the part c with n records a cut makes c′ with m records, and needs `need`
 pub record CutTo (next need : ℕ) (sp : Span) (c c′ : Ranges) (n m : ℕ) : Type 0 where

@@ -12,8 +12,8 @@ ghost use Rattle.model.specs.Remove.{cutOut, middleCuts, writes, remove};
 ghost use Rattle.model.specs.Calls.{front};
 ghost use Rattle.lent.specs.Lent.{rangesOf};
 ghost use Rattle.recs.specs.Part.{Sized};
-ghost use Rattle.overlap.specs.Overlap.{Ordered, Overlap, atPlace};
-ghost use Rattle.remove.specs.Remove.{leftOf, bothEnds, gone, onlyNode, onlySpans, onlyWrite, Cuttable, CutTo, Freed};
+ghost use Rattle.overlap.specs.Overlap.{Ordered, Cuttable, onlySpans, atPlace};
+ghost use Rattle.remove.specs.Remove.{leftOf, bothEnds, gone, onlyNode, onlyWrite, CutTo, Freed};
 
 // How many records there are then and how many were needed, the blocks that went, and how many writes are listed.
 pub struct Removing {

@@ -2,7 +2,8 @@
 use mathlib.Core.Path.{sym, _∙_}
 use native.Mathlib.Omega.{arith}
 use Rattle.lent.specs.Lent.{rangesOf}
-use Rattle.remove.proofs.Laws.{shares, freed-none, freed-some}
+use Rattle.overlap.proofs.Laws.{shares}
+use Rattle.remove.proofs.Laws.{freed-none, freed-some}
 use borrow.Author.Needs.{needs}
 use Rattle.remove.proofs.store_remove.Statement.{statement}
 use Rattle.remove.proofs.store_remove.Tie as tie
