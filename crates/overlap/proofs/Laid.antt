@@ -2,16 +2,16 @@
 use mathlib.Core.Path.{_≡_, refl, sym, ap, _∙_}
 use mathlib.Core.List.{List, [], _∷_, _++_, map, append-assoc}
 use Prim.Native.Nat.{ℕ, zero, suc, _+_, _-_, _≤_, _<_}
-use native.Mathlib.Nat.{zero-add, le-refl}
+use native.Mathlib.Nat.{zero-add}
 use native.Mathlib.Omega.{arith}
-use lib.ListN.{length, getD, drop, set, replicate, length-map, length-append, length-replicate, replicate-append-replicate}
+use lib.ListN.{length, getD, drop, set, replicate, length-map, length-append, replicate-append-replicate}
 use lib.Seq.{drop-at, getD-append-seam, map-set-same}
 use lib.Ieee.{Float, nan}
 use Rattle.model.specs.State.{Ranges, Range, rangeAt}
 use Rattle.model.specs.Store.{ranges, lay, layRanges, noTime, part}
 use Rattle.lent.specs.Lent.{rangesOf}
 use Rattle.laid.proofs.Lay.{lay-length, lay-lay, lay-same, column-in}
-use Rattle.laid.proofs.Rows.{rows, rows-length, rows-list, rows-column, ranges-rows, ranges-length}
+use Rattle.laid.proofs.Rows.{rows, rows-length, rows-list, rows-column, ranges-rows}
 use Rattle.cols.proofs.Laid.{lay-front, set-lay}
 use Rattle.recs.specs.Part.{Sized}
 use Rattle.recs.proofs.Laws.{ranges-eq}

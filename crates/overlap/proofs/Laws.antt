@@ -3,21 +3,21 @@
 use mathlib.Core.Path.{_≡_, refl, sym, ap, _∙_}
 use mathlib.Core.Bool.{Bool, true, false, _&&_, true≢false}
 use mathlib.Core.List.{List, [], _∷_, _++_}
-use Prim.Native.Nat.{ℕ, zero, suc, _+_, _-_, _*_, _≤_, _<_, min, max}
+use Prim.Native.Nat.{ℕ, _+_, _-_, _*_, _≤_, _<_, min, max}
 use native.Mathlib.Nat.{zero-add}
 use native.Mathlib.Omega.{arith}
 use lib.ListN.{length, set, length-append}
-use lib.Dec.{ltb, leb}
+use lib.Dec.{ltb}
 use lib.Ieee.{Float, nan}
 use borrow.Author.Tests.{le-ltb, lt-ltb, leb-true}
 use Rattle.model.specs.declared.Span.{Span}
-use Rattle.model.specs.Sizes.{maxBytes}
+use Rattle.model.specs.Sizes.{maxBytes, maxStamp}
 use Rattle.model.specs.Words.{Each}
 use Rattle.model.specs.State.{Tree, Ranges, Range, at, rangeAt}
 use Rattle.model.specs.Store.{Store, ranges, layRanges, meets, plus, part}
 use Rattle.model.specs.Trim.{bytesOf}
 use Rattle.model.specs.Touch.{overlapped, heldBytes, newPieces, oneInside, renewed, markRead, bytesRead, refresh, renew, split, touchHits, touch}
-use Rattle.model.specs.Remove.{middleCuts, removeHits, remove}
+use Rattle.model.specs.Remove.{middleCuts, remove}
 use Rattle.lent.specs.Lent.{rangesOf}
 use Rattle.laid.proofs.Rows.{ranges-length}
 use Rattle.kepttouch.proofs.Bools.{and-true}
@@ -25,8 +25,7 @@ use Rattle.kepttouch.proofs.Recut.{met}
 use Rattle.recs.specs.Part.{Sized, putRange, cutRange}
 use Rattle.recs.proofs.Laws.{put-laid, cut-laid}
 use Rattle.tree.specs.Span.{Priced, onlyDepth}
-use Rattle.overlap.specs.Overlap.{Ordered, First, Overlap, atPlace, halves, TouchNeeds, RemoveNeeds}
-use Rattle.overlap.specs.declared.Needs.{Needs}
+use Rattle.overlap.specs.Overlap.{Ordered, First, Overlap, atPlace, halves, TouchNeeds, RemoveNeeds, TouchFits, RemoveFits}
 use Rattle.overlap.proofs.Laid.{back, edited, end-laid, start-laid, stamp-laid}
 use Rattle.overlap.proofs.Lists.{at-seam, insert-seam, remove-seam}
 use Rattle.overlap.proofs.Places.{ranges-seam, ranges-cons, ranges-none, and-no, hits-are, first-hit, new-hits, new-ends, middles-first}
@@ -216,7 +215,7 @@ each-more P a i h p k l u = go (native.Mathlib.Decide.ℕ-discrete k i)
 
 -- ---- the needs, from the places
 
-plus-sum : (h g : Bool) → plus h 0 + plus g 0 ≡ plus g (plus h 0)
+pub plus-sum : (h g : Bool) → plus h 0 + plus g 0 ≡ plus g (plus h 0)
 plus-sum true true = refl
 plus-sum true false = refl
 plus-sum false true = refl
@@ -279,3 +278,29 @@ shares c n lo hi sp az w o i l u =
     let m = met (sp .node) (sp .start) (sp .end) (rangeAt c i) (w .hits i l u) in
     let f = o .filled i (omega arith) (omega (arith, w .high)) in
     omega (arith, m .left, m .right)
+
+-- ---- what fits by the needs fits by the pieces
+
+-- a store of which only the ranges and the policy are looked at
+abbrev bare : Bool → List Range → Store
+bare refreshes rs =
+    record { capacity = 0; refreshes = refreshes; held = 0; stamp = 0; version = 0; pinned = 0; ranges = rs; pins = []; marks = [] }
+
+module _ (c : Ranges) (n lo hi : ℕ) (sp : Span) (w : Overlap (c .node) (c .start) (c .end) n sp lo hi) (d : lo ≡ hi → ⊥) where
+  over-cons : overlapped (sp .node) (sp .start) (sp .end) (ranges c 0 n) ≡ rangeAt c lo ∷ ranges c (lo + 1) (hi - (lo + 1))
+  over-cons = hits-are c n sp lo hi w ∙ ranges-cons c lo hi (omega (arith, w .order, d))
+
+  pub touch-fits : (refreshes : Bool) (top next : ℕ) → TouchFits (c .node) (c .start) (c .end) n sp refreshes top next → refreshes ≡ true
+      → (top < maxStamp) × (next + newPieces (sp .node) (sp .start) (sp .end) (ranges c 0 n) ≤ maxStamp)
+      × (n + newPieces (sp .node) (sp .start) (sp .end) (ranges c 0 n) ≤ 128)
+  touch-fits refreshes top next f e =
+      let x = bare refreshes (ranges c 0 n) in
+      let t = onlyDepth [] in
+      let a = f .are (c .id) (c .stamp) (c .write) (c .touched) t [] x 0 nan false refl refl in
+      let b = touch-on t [] x 0 sp nan false e (rangeAt c lo) (ranges c (lo + 1) (hi - (lo + 1))) over-cons in
+      (omega (arith, f .stamps, a .1, b .1), omega (arith, f .ids, a .0, b .0), omega (arith, f .records, a .0, b .0))
+
+  pub remove-fits : RemoveFits (c .node) (c .start) (c .end) n sp → n + middleCuts (sp .node) (sp .start) (sp .end) (ranges c 0 n) ≤ 128
+  remove-fits f =
+      let x = bare false (ranges c 0 n) in
+      omega (arith, f .records, f .are (c .id) (c .stamp) (c .write) (c .touched) x 0 refl, remove-some x 0 sp (rangeAt c lo) (ranges c (lo + 1) (hi - (lo + 1))) over-cons)

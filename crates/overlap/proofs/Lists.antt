@@ -1,16 +1,14 @@
 -- Ranges that a span misses stand as they are in all that a touch and a removal do; and a list is changed at one place by what stands there.
-use mathlib.Core.Path.{_≡_, refl, sym, ap, _∙_}
-use mathlib.Core.Bool.{Bool, true, false, _&&_}
+use mathlib.Core.Path.{_≡_, refl, ap}
+use mathlib.Core.Bool.{true, false}
 use mathlib.Core.List.{List, [], _∷_, _++_, append-assoc}
-use Prim.Native.Nat.{ℕ, zero, suc, _+_, _≤_, _<_}
-use native.Mathlib.Numerals.{add-one}
-use native.Mathlib.Omega.{arith}
-use lib.ListN.{length, length-append}
-use lib.Seq.{take-append-add, drop-append-add, take-append-seam, drop-append-seam}
+use Prim.Native.Nat.{ℕ, _+_}
+use lib.ListN.{length}
+use lib.Seq.{take-append-add, drop-append-add, take-append-seam}
 use lib.Ieee.{Float}
 use Rattle.model.specs.State.{Range}
-use Rattle.model.specs.Store.{meets, plus}
-use Rattle.model.specs.Touch.{overlapped, restamp, recut, newPieces, hasHead, hasTail}
+use Rattle.model.specs.Store.{meets}
+use Rattle.model.specs.Touch.{overlapped, restamp, recut, newPieces}
 use Rattle.model.specs.Remove.{cutOut, middleCuts, middleCut}
 use Rattle.kept.specs.Facts.{All}
 use Rattle.cols.specs.Cols.{insertAt, removeAt}

@@ -1,17 +1,15 @@
 -- Records by their places: the list of the records is cut where the span's overlapped records begin and end, and since the records stand in order,
 -- these lie side by side, only the first can have a head, and only the last a tail.
-use mathlib.Core.Path.{_≡_, refl, sym, ap, subst, _∙_}
-use mathlib.Core.Bool.{Bool, true, false, _&&_, true≢false, false≢true}
+use mathlib.Core.Path.{_≡_, refl, sym, ap, _∙_}
+use mathlib.Core.Bool.{Bool, true, false, _&&_, true≢false}
 use mathlib.Core.List.{List, [], _∷_, _++_, append-nil}
-use Prim.Native.Nat.{ℕ, zero, suc, _+_, _-_, _≤_, _<_, min, max}
+use Prim.Native.Nat.{ℕ, zero, suc, _+_, _-_, _≤_, _<_}
 use native.Mathlib.Nat.{zero-add, add-zero, suc-add, add-suc}
 use native.Mathlib.Numerals.{add-one}
 use native.Mathlib.Omega.{arith}
 use native.Mathlib.Decide.{ℕ-discrete}
-use lib.ListN.{length}
-use lib.Dec.{ltb, eqb}
-use lib.Ieee.{Float}
-use borrow.Author.Tests.{ltb-true, ltb-false, lt-ltb, le-ltb}
+use lib.Dec.{ltb}
+use borrow.Author.Tests.{le-ltb}
 use Rattle.model.specs.declared.Span.{Span}
 use Rattle.model.specs.Words.{Each}
 use Rattle.model.specs.State.{Tree, Ranges, Range, at, rangeAt}
@@ -19,15 +17,14 @@ use Rattle.model.specs.Store.{ranges, meets, plus}
 use Rattle.model.specs.Touch.{overlapped, newPieces, hasHead, hasTail}
 use Rattle.model.specs.Remove.{middleCut, middleCuts}
 use Rattle.lent.specs.Lent.{rangesOf}
-use Rattle.kept.specs.Facts.{All, Sorted}
+use Rattle.kept.specs.Facts.{All}
 use Rattle.kept.specs.StoreSound.{RangesSound}
 use Rattle.keptbring.proofs.Facts.{all-at, order-at}
-use Rattle.kepttouch.proofs.Bools.{and-true, and-false}
 use Rattle.kepttouch.proofs.Recut.{Met, met, met-true}
 use Rattle.laid.proofs.Rows.{ranges-length, ranges-at}
 use Rattle.recs.specs.Part.{Sized}
 use Rattle.overlap.specs.Overlap.{Ordered, meetsAt, First, Overlap}
-use Rattle.overlap.proofs.Lists.{Miss, Hit, hits-skip, hits-all, new-skip, middles-skip, middles-none}
+use Rattle.overlap.proofs.Lists.{Miss, Hit, hits-skip, hits-all, middles-skip, middles-none}
 
 -- ---- lists of records
 

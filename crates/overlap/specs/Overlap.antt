@@ -1,5 +1,5 @@
 -- Which records of a store's part a span overlaps, a list of ranges changed at one place, and what a touch and a removal need. Assumes nothing.
-use Prim.Native.Nat.{ℕ, zero, suc, _≤_, _<_}
+use Prim.Native.Nat.{ℕ, zero, suc, _+_, _≤_, _<_}
 use mathlib.Core.Path.{_≡_}
 use mathlib.Core.Bool.{Bool, true, false, _&&_}
 use mathlib.Core.List.{List, [], _∷_}
@@ -7,6 +7,7 @@ use lib.ListN.{length}
 use lib.Ieee.{Float}
 use lib.Dec.{ltb, eqb}
 use Rattle.model.specs.declared.Span.{Span}
+use Rattle.model.specs.Sizes.{storeRecords, maxStamp}
 use Rattle.model.specs.Words.{Each, Pairs}
 use Rattle.model.specs.State.{Tree, Ranges, Range, at}
 use Rattle.model.specs.Store.{Store, ranges, part}
@@ -76,3 +77,16 @@ abbrev pub RemoveNeeds : List ℕ → List ℕ → List ℕ → ℕ → Span →
 RemoveNeeds node start end n sp r =
     (id stamp write : List ℕ) (touched : List Float) (x : Store) (next : ℕ)
     → x .ranges ≡ ranges (rangesOf node start end id stamp touched write) 0 n → r ≡ remove x next sp .need
+
+-- the needs fit: what the refusals 8 and 11 test
+pub record TouchFits (node start end : List ℕ) (n : ℕ) (sp : Span) (refreshes : Bool) (top next : ℕ) : Type 0 where
+  pub needs : Needs
+  pub are : TouchNeeds node start end n sp refreshes needs
+  pub records : n + needs .records ≤ storeRecords
+  pub stamps : top + needs .stamps ≤ maxStamp
+  pub ids : next + needs .records ≤ maxStamp
+
+pub record RemoveFits (node start end : List ℕ) (n : ℕ) (sp : Span) : Type 0 where
+  pub need : ℕ
+  pub are : RemoveNeeds node start end n sp need
+  pub records : n + need ≤ storeRecords

@@ -2,7 +2,7 @@ use model::Span;
 use recs::Record;
 ghost use mathlib.Core.Path.{_≡_};
 ghost use mathlib.Core.List.{List};
-ghost use Prim.Native.Nat.{ℕ, _+_, _-_, _*_, _≤_, _<_, min, max};
+ghost use Prim.Native.Nat.{ℕ, _+_, _-_, _≤_, _<_, min, max};
 ghost use lib.ListN.{length};
 ghost use lib.Ieee.{Float};
 ghost use Rattle.model.specs.Words.{Each};

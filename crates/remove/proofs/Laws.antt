@@ -4,12 +4,10 @@ use mathlib.Core.Path.{_≡_, refl, sym, ap, subst, _∙_}
 use mathlib.Core.Bool.{Bool, true, false, _&&_, _||_, true≢false, false≢true}
 use mathlib.Core.List.{List, [], _∷_, _++_, append-assoc, append-nil}
 use Prim.Native.Nat.{ℕ, zero, suc, _+_, _-_, _*_, _%_, _≤_, _<_, min, max}
-use native.Mathlib.Nat.{zero-add, add-zero}
-use native.Mathlib.Numerals.{add-one}
+use native.Mathlib.Nat.{zero-add}
 use native.Mathlib.Omega.{arith}
-use lib.ListN.{length, set, drop, length-append, length-set}
+use lib.ListN.{length, set, length-append, length-set}
 use lib.Dec.{ltb, eqb}
-use lib.Ieee.{Float}
 use borrow.Author.Tests.{lt-ltb, le-ltb, ltb-true, ltb-false, eq-eqb, ne-eqb}
 use Rattle.model.specs.declared.Span.{Span}
 use Rattle.model.specs.Sizes.{versions}
@@ -19,9 +17,9 @@ use Rattle.model.specs.Store.{Store, ranges, layRanges, total, meets, onNode, u
 use Rattle.model.specs.Touch.{overlapped, hasHead, hasTail}
 use Rattle.model.specs.Remove.{middleCut, tailId, remains, cutOut, middleCuts, listed, writes, removeHits, remove}
 use Rattle.model.specs.Calls.{front}
-use Rattle.lent.specs.Lent.{rangesOf}
 use Rattle.kept.specs.Facts.{All}
-use Rattle.kepttouch.proofs.Recut.{Met, met}
+use Rattle.kepttouch.proofs.Bools.{and-true}
+use Rattle.kepttouch.proofs.Recut.{met}
 use Rattle.laid.proofs.Rows.{ranges-length}
 use Rattle.recs.specs.Part.{Sized, cutRange}
 use Rattle.evicted.proofs.Laws.{front-more}
@@ -445,10 +443,6 @@ module _ (c : Ranges) (n lo hi : ℕ) (sp : Span) (some : lo < hi) (w : Cuttable
 
   inside-n : lo < n
   inside-n = omega (arith, w .over .high)
-
-  and-true : (p q : Bool) → (p && q) ≡ true → (p ≡ true) × (q ≡ true)
-  and-true true q e = (refl, e)
-  and-true false q e = absurd (false≢true e)
 
   -- none behind the first reaches past both ends
   pub none-past : (ltb (at (c .start) lo) (sp .start) && ltb (sp .end) (at (c .end) lo)) ≡ false

@@ -1,18 +1,17 @@
 use model::Span;
 ghost use mathlib.Core.Path.{_≡_};
 ghost use mathlib.Core.Bool.{true, false, _&&_};
-ghost use mathlib.Core.List.{List};
-ghost use Prim.Native.Nat.{ℕ, _+_, _-_, _*_, _≤_, _<_, min, max};
+ghost use Prim.Native.Nat.{ℕ, _+_, _-_, _≤_, _<_, min, max};
 ghost use lib.ListN.{length};
 ghost use lib.Dec.{ltb};
 ghost use Rattle.model.specs.Words.{Each};
 ghost use Rattle.model.specs.State.{at};
 ghost use Rattle.model.specs.Store.{Store, ranges, layRanges, plus, onNode, unmark};
-ghost use Rattle.model.specs.Remove.{cutOut, middleCuts, writes, remove};
+ghost use Rattle.model.specs.Remove.{middleCuts, writes, remove};
 ghost use Rattle.model.specs.Calls.{front};
 ghost use Rattle.lent.specs.Lent.{rangesOf};
 ghost use Rattle.recs.specs.Part.{Sized};
-ghost use Rattle.overlap.specs.Overlap.{Ordered, Cuttable, onlySpans, atPlace};
+ghost use Rattle.overlap.specs.Overlap.{Ordered, Cuttable, onlySpans, atPlace, RemoveFits};
 ghost use Rattle.remove.specs.Remove.{leftOf, bothEnds, gone, onlyNode, onlyWrite, CutTo, Freed};
 
 // How many records there are then and how many were needed, the blocks that went, and how many writes are listed.
@@ -246,7 +245,7 @@ pub fn store_remove(
 ) -> Removing
     requires { ⌜ (n ≤ 128) × Sized 128 (rangesOf (now node) (now start) (now end) (now id) (now stamp) (now touched) (now write)) × Ordered (now node) (now start) (now end) n ⌝ }
     requires { ⌜ (sp .start < sp .end) × (sp .end ≤ 1024) × (sp .node < length (now marks)) × (128 ≤ length (now list)) ⌝ }
-    requires { ⌜ n + middleCuts (sp .node) (sp .start) (sp .end) (ranges (rangesOf (now node) (now start) (now end) (now id) (now stamp) (now touched) (now write)) 0 n) ≤ 128 ⌝ }
+    requires { ⌜ RemoveFits (now node) (now start) (now end) n sp ⌝ }
     ensures { λ r. ⌜ ((x : Store) → x .ranges ≡ ranges (rangesOf (now (node .entry)) (now (start .entry)) (now (end .entry)) (now (id .entry)) (now (stamp .entry)) (now (touched .entry)) (now (write .entry))) 0 n → x .marks ≡ now (marks .entry) → Freed x (remove x next sp) (rangesOf (now (node .entry)) (now (start .entry)) (now (end .entry)) (now (id .entry)) (now (stamp .entry)) (now (touched .entry)) (now (write .entry))) (rangesOf (now (node .exit)) (now (start .exit)) (now (end .exit)) (now (id .exit)) (now (stamp .exit)) (now (touched .exit)) (now (write .exit))) (now (marks .exit)) (now (list .entry)) (now (list .exit)) n r) ⌝ }
 {
     let lo = overlap::first_overlap(node, start, end, n, sp);

@@ -3,32 +3,30 @@
 use mathlib.Core.Path.{_≡_, refl, sym, ap, subst, _∙_}
 use mathlib.Core.Bool.{Bool, true, false, not, _&&_, true≢false, false≢true}
 use mathlib.Core.List.{List, [], _∷_, _++_, append-assoc, append-nil}
-use Prim.Native.Nat.{ℕ, zero, suc, _+_, _-_, _*_, _≤_, _<_, min, max}
+use Prim.Native.Nat.{ℕ, zero, suc, _+_, _-_, _≤_, _<_, min, max}
 use native.Mathlib.Nat.{zero-add, add-zero}
 use native.Mathlib.Numerals.{add-one}
 use native.Mathlib.Omega.{arith}
-use lib.ListN.{length, set, length-append, length-set}
+use lib.ListN.{length, set, length-append}
 use lib.Dec.{ltb, leb, eqb}
 use lib.Ieee.{Float}
-use borrow.Author.Tests.{lt-ltb, le-ltb, ltb-true, ltb-false, le-leb, lt-leb, eq-eqb, ne-eqb}
+use borrow.Author.Tests.{ltb-true, ltb-false, le-leb, lt-leb, eq-eqb, ne-eqb}
 use Rattle.model.specs.declared.Span.{Span}
-use Rattle.model.specs.Words.{Each}
 use Rattle.model.specs.State.{Tree, Ranges, Range, at, rangeAt}
 use Rattle.model.specs.Store.{Store, ranges, layRanges, meets, part, put, plus}
 use Rattle.model.specs.Trim.{bytesOf}
-use Rattle.model.specs.Touch.{overlapped, heldBytes, oneInside, renewed, restamp, middle, hasHead, hasTail, pieces, recut, newPieces, joins, joinFrom, join, Touched, markRead, bytesRead, split, renew, onlyRead, refresh, touchHits, touch}
-use Rattle.lent.specs.Lent.{rangesOf}
+use Rattle.model.specs.Touch.{overlapped, heldBytes, oneInside, renewed, restamp, middle, hasHead, hasTail, pieces, recut, newPieces, joins, joinFrom, join, markRead, bytesRead, split, renew, refresh, touchHits, touch}
 use Rattle.kept.specs.Facts.{All}
 use Rattle.kepttouch.proofs.Recut.{Met, met}
 use Rattle.laid.proofs.Rows.{ranges-length}
 use Rattle.recs.specs.Part.{Sized, cutRange}
 use Rattle.tree.specs.Span.{onlyDepth}
-use Rattle.overlap.specs.Overlap.{Ordered, Overlap, Cuttable, onlySpans, atPlace, halves}
+use Rattle.overlap.specs.Overlap.{Cuttable, onlySpans, atPlace, halves}
 use Rattle.overlap.proofs.Laid.{back, sized-laid, laid-at, laid-read, then-wide, then-narrow, edited}
 use Rattle.overlap.proofs.Lists.{Miss, restamp-skip, recut-skip, new-skip, at-seam}
 use Rattle.overlap.proofs.Places.{ranges-cut0, ranges-cons, ranges-none, ranges-seam, misses-before, misses-after, hits-are, new-hits}
-use Rattle.overlap.proofs.Laws.{at-here, same-here, end-here, stamp-here, cut-here, one-new}
-use Rattle.touch.specs.Touch.{halvesIf, merged, onlyJoins, touchedRanges, Refreshed, Touching}
+use Rattle.overlap.proofs.Laws.{at-here, end-here, stamp-here, cut-here, one-new, plus-sum}
+use Rattle.touch.specs.Touch.{halvesIf, merged, touchedRanges, Refreshed, Touching}
 
 -- ---- marks, bytes, one range inside
 
@@ -191,12 +189,6 @@ at-long c s i n h b m new =
       half-long b m new (rangeAt c i) (ranges c (i + 1) (n - (i + 1))),
       ranges-length c (i + 1) (n - (i + 1)),
     )
-
-plus-sum : (h g : Bool) → plus h 0 + plus g 0 ≡ plus g (plus h 0)
-plus-sum true true = refl
-plus-sum true false = refl
-plus-sum false true = refl
-plus-sum false false = refl
 
 module _ (c : Ranges) (s : Sized 128 c) (i n : ℕ) (h : i < n) (v a z stamp : ℕ) (time : Float) (next : ℕ) (az : a < z) (hit : meets v a z (rangeAt c i) ≡ true)
     (room : n + plus (ltb z (at (c .end) i)) (plus (ltb (at (c .start) i) a) 0) ≤ 128) where

@@ -1,8 +1,7 @@
 use model::Span;
 ghost use mathlib.Core.Path.{_≡_};
 ghost use mathlib.Core.Bool.{true, false};
-ghost use mathlib.Core.List.{List, []};
-ghost use Prim.Native.Nat.{ℕ, suc, _+_, _-_, _*_, _≤_, _<_, min, max};
+ghost use Prim.Native.Nat.{ℕ, suc, _+_, _-_, _≤_, _<_, min, max};
 ghost use lib.ListN.{length};
 ghost use lib.Dec.{ltb};
 ghost use Rattle.model.specs.Words.{Each};
@@ -12,7 +11,7 @@ ghost use Rattle.model.specs.Touch.{oneInside, pieces, recut, newPieces, joins,
 ghost use Rattle.lent.specs.Lent.{rangesOf};
 ghost use Rattle.recs.specs.Part.{Sized};
 ghost use Rattle.tree.specs.Span.{Priced, onlyDepth};
-ghost use Rattle.overlap.specs.Overlap.{Ordered, Cuttable, onlySpans, atPlace};
+ghost use Rattle.overlap.specs.Overlap.{Ordered, Cuttable, onlySpans, atPlace, TouchFits};
 ghost use Rattle.touch.specs.Touch.{halvesIf, merged, onlyJoins, Refreshed, Touching};
 
 // How many records there are then and how many were needed, the stamps needed, and the bytes read.
@@ -90,7 +89,7 @@ fn recut_one(
     time: f64,
     next: u64,
 ) -> usize
-    requires { ⌜ (i < n) × (n + plus (ltb (sp .end) (at (now end) i)) (plus (ltb (at (now start) i) (sp .start)) 0) ≤ 128) × (next < 281474976710656) × Sized 128 (rangesOf (now node) (now start) (now end) (now id) (now stamp) (now touched) (now write)) ⌝ }
+    requires { ⌜ (i < n) × (n + plus (ltb (sp .end) (at (now end) i)) (plus (ltb (at (now start) i) (sp .start)) 0) ≤ 128) × (next ≤ 281474976710655) × Sized 128 (rangesOf (now node) (now start) (now end) (now id) (now stamp) (now touched) (now write)) ⌝ }
     requires { ⌜ (sp .start < sp .end) × (meets (sp .node) (sp .start) (sp .end) (rangeAt (rangesOf (now node) (now start) (now end) (now id) (now stamp) (now touched) (now write)) i) ≡ true) ⌝ }
     ensures { λ r. ⌜ ((rangesOf (now (node .exit)) (now (start .exit)) (now (end .exit)) (now (id .exit)) (now (stamp .exit)) (now (touched .exit)) (now (write .exit))) ≡ layRanges 0 (n + r) (atPlace i (pieces (sp .node) (sp .start) (sp .end) top time next) (ranges (rangesOf (now (node .entry)) (now (start .entry)) (now (end .entry)) (now (id .entry)) (now (stamp .entry)) (now (touched .entry)) (now (write .entry))) 0 n)) (rangesOf (now (node .entry)) (now (start .entry)) (now (end .entry)) (now (id .entry)) (now (stamp .entry)) (now (touched .entry)) (now (write .entry)))) × (r ≡ plus (ltb (sp .end) (at (now (end .entry)) i)) (plus (ltb (at (now (start .entry)) i) (sp .start)) 0)) ⌝ }
 {
@@ -147,7 +146,7 @@ fn recut(
     time: f64,
     next: u64,
 ) -> usize
-    requires { ⌜ (sp .start < sp .end) × (next + newPieces (sp .node) (sp .start) (sp .end) (ranges (rangesOf (now node) (now start) (now end) (now id) (now stamp) (now touched) (now write)) 0 n) < 281474976710656) × (n + newPieces (sp .node) (sp .start) (sp .end) (ranges (rangesOf (now node) (now start) (now end) (now id) (now stamp) (now touched) (now write)) 0 n) ≤ 128) × Cuttable (rangesOf (now node) (now start) (now end) (now id) (now stamp) (now touched) (now write)) n lo hi sp ⌝ }
+    requires { ⌜ (sp .start < sp .end) × (next + newPieces (sp .node) (sp .start) (sp .end) (ranges (rangesOf (now node) (now start) (now end) (now id) (now stamp) (now touched) (now write)) 0 n) ≤ 281474976710655) × (n + newPieces (sp .node) (sp .start) (sp .end) (ranges (rangesOf (now node) (now start) (now end) (now id) (now stamp) (now touched) (now write)) 0 n) ≤ 128) × Cuttable (rangesOf (now node) (now start) (now end) (now id) (now stamp) (now touched) (now write)) n lo hi sp ⌝ }
     ensures { λ r. ⌜ ((rangesOf (now (node .exit)) (now (start .exit)) (now (end .exit)) (now (id .exit)) (now (stamp .exit)) (now (touched .exit)) (now (write .exit))) ≡ layRanges 0 (n + r) (recut (sp .node) (sp .start) (sp .end) top time next (ranges (rangesOf (now (node .entry)) (now (start .entry)) (now (end .entry)) (now (id .entry)) (now (stamp .entry)) (now (touched .entry)) (now (write .entry))) 0 n)) (rangesOf (now (node .entry)) (now (start .entry)) (now (end .entry)) (now (id .entry)) (now (stamp .entry)) (now (touched .entry)) (now (write .entry)))) × (r ≡ newPieces (sp .node) (sp .start) (sp .end) (ranges (rangesOf (now (node .entry)) (now (start .entry)) (now (end .entry)) (now (id .entry)) (now (stamp .entry)) (now (touched .entry)) (now (write .entry))) 0 n)) ⌝ }
 {
     let mut p: usize = 0;
@@ -274,7 +273,7 @@ fn refresh(
     next: u64,
 ) -> Renewed
     requires { ⌜ (lo < hi) × (top < 281474976710655) × Cuttable (rangesOf (now node) (now start) (now end) (now id) (now stamp) (now touched) (now write)) n lo hi sp ⌝ }
-    requires { ⌜ (sp .start < sp .end) × (next + newPieces (sp .node) (sp .start) (sp .end) (ranges (rangesOf (now node) (now start) (now end) (now id) (now stamp) (now touched) (now write)) 0 n) < 281474976710656) × (n + newPieces (sp .node) (sp .start) (sp .end) (ranges (rangesOf (now node) (now start) (now end) (now id) (now stamp) (now touched) (now write)) 0 n) ≤ 128) ⌝ }
+    requires { ⌜ (sp .start < sp .end) × (next + newPieces (sp .node) (sp .start) (sp .end) (ranges (rangesOf (now node) (now start) (now end) (now id) (now stamp) (now touched) (now write)) 0 n) ≤ 281474976710655) × (n + newPieces (sp .node) (sp .start) (sp .end) (ranges (rangesOf (now node) (now start) (now end) (now id) (now stamp) (now touched) (now write)) 0 n) ≤ 128) ⌝ }
     ensures { λ r. ⌜ Refreshed sp (suc top) time next (rangesOf (now (node .entry)) (now (start .entry)) (now (end .entry)) (now (id .entry)) (now (stamp .entry)) (now (touched .entry)) (now (write .entry))) (rangesOf (now (node .exit)) (now (start .exit)) (now (end .exit)) (now (id .exit)) (now (stamp .exit)) (now (touched .exit)) (now (write .exit))) n lo (hi - lo) (r .n) (r .need) ⌝ }
 {
     if one_inside(start, end, sp, lo, hi) {
@@ -345,7 +344,7 @@ pub fn store_used(
 ) -> Used
     requires { ⌜ (n ≤ 128) × Sized 128 (rangesOf (now node) (now start) (now end) (now id) (now stamp) (now touched) (now write)) × Ordered (now node) (now start) (now end) n ⌝ }
     requires { ⌜ (sp .start < sp .end) × (sp .node < length (now marks)) × Priced (now depth) (now bytes) sp ⌝ }
-    requires { ⌜ (refreshes ≡ true → (top < 281474976710655) × (next + newPieces (sp .node) (sp .start) (sp .end) (ranges (rangesOf (now node) (now start) (now end) (now id) (now stamp) (now touched) (now write)) 0 n) < 281474976710656) × (n + newPieces (sp .node) (sp .start) (sp .end) (ranges (rangesOf (now node) (now start) (now end) (now id) (now stamp) (now touched) (now write)) 0 n) ≤ 128)) ⌝ }
+    requires { ⌜ TouchFits (now node) (now start) (now end) n sp refreshes top next ⌝ }
     ensures { λ r. ⌜ ((t : Tree) (x : Store) → t .depth ≡ now (depth .entry) → x .ranges ≡ ranges (rangesOf (now (node .entry)) (now (start .entry)) (now (end .entry)) (now (id .entry)) (now (stamp .entry)) (now (touched .entry)) (now (write .entry))) 0 n → x .stamp ≡ top → x .refreshes ≡ refreshes → x .marks ≡ now (marks .entry) → Touching (touch t (now (bytes .entry)) x next sp time counted) (rangesOf (now (node .entry)) (now (start .entry)) (now (end .entry)) (now (id .entry)) (now (stamp .entry)) (now (touched .entry)) (now (write .entry))) (rangesOf (now (node .exit)) (now (start .exit)) (now (end .exit)) (now (id .exit)) (now (stamp .exit)) (now (touched .exit)) (now (write .exit))) (now (marks .exit)) n r) ⌝ }
 {
     let lo = overlap::first_overlap(node, start, end, n, sp);

@@ -1,5 +1,5 @@
 -- `overlap::end_overlap` meets its contract: the records passed are overlapped, and since the records stand in order none behind the first that isn't is.
-use Prim.Native.Nat.{ℕ, _≤_, _-_}
+use Prim.Native.Nat.{_≤_, _-_}
 use mathlib.Core.Path.{_≡_, sym, _∙_}
 use mathlib.Core.Bool.{true}
 use native.Mathlib.Omega.{arith}
@@ -18,31 +18,24 @@ Inv-loop node start end n sp lo i₀ i = (lo ≤ i) × (i ≤ n) × Each lo i (�
 abbrev μ-loop : tie.MeasureT-loop
 μ-loop node start end n sp lo i₀ i = n - i
 
--- at After-shared-slice-known3
 loop-holds : tie.Need-loop-holds Inv-loop μ-loop
 loop-holds c = (omega arith, c .before .before .before .pre .1 .within, λ k l u. absurd (omega arith))
 
--- at In-loop
 meets-at-requires : tie.Need-meets-at-requires Inv-loop μ-loop
 meets-at-requires c κs = search needs
 
--- at Then1
 returns : tie.Need-returns Inv-loop μ-loop
 returns c = let v = c .before .before .before .loop .inv in overlap-end _ _ _ _ _ (c .before .before .before .before .before .before .before .pre .0) _ _ (c .before .before .before .before .before .before .before .pre .1) (v .0) (c .before .before .loop-test .taken) (v .2) (sym (c .before .meets-at .ensures) ∙ not-true _ (c .if1 .taken))
 
--- at Else1
 add-i : tie.Need-add-i Inv-loop μ-loop
 add-i c = search needs
 
--- at Else1
 loop-less : tie.Need-loop-less Inv-loop μ-loop
 loop-less c = search needs
 
--- at Else1
 loop-again : tie.Need-loop-again Inv-loop μ-loop
 loop-again c = let v = c .before .before .before .loop .inv in (omega arith, omega arith, each-more _ _ _ (v .2) (sym (c .before .meets-at .ensures) ∙ not-false _ (c .if1 .left)))
 
--- at After-loop
 returns-2 : tie.Need-returns-2 Inv-loop μ-loop
 returns-2 c = let v = c .before .loop .inv in overlap-all _ _ _ _ _ _ _ (c .before .before .before .before .before .pre .1) (v .0) (v .1) (c .loop-test .left) (v .2)
 

@@ -1,5 +1,5 @@
 -- `overlap::first_overlap` meets its contract: the records passed are missed by the span.
-use Prim.Native.Nat.{ℕ, _≤_, _-_}
+use Prim.Native.Nat.{_≤_, _-_}
 use mathlib.Core.Path.{_≡_, sym, _∙_}
 use mathlib.Core.Bool.{false}
 use native.Mathlib.Omega.{arith}
@@ -16,31 +16,24 @@ Inv-loop node start end n sp i₀ i = (i ≤ n) × Each 0 i (λ k. meetsAt node 
 abbrev μ-loop : tie.MeasureT-loop
 μ-loop node start end n sp i₀ i = n - i
 
--- at After-shared-slice-known3
 loop-holds : tie.Need-loop-holds Inv-loop μ-loop
 loop-holds c = (omega arith, λ k l u. absurd (omega arith))
 
--- at In-loop
 meets-at-requires : tie.Need-meets-at-requires Inv-loop μ-loop
 meets-at-requires c κs = search needs
 
--- at Then1
 returns : tie.Need-returns Inv-loop μ-loop
 returns c = record { within = omega arith; before = c .before .before .before .loop .inv .1; there = λ h. sym (c .before .meets-at .ensures) ∙ c .if1 .taken }
 
--- at Else1
 add-i : tie.Need-add-i Inv-loop μ-loop
 add-i c = search needs
 
--- at Else1
 loop-less : tie.Need-loop-less Inv-loop μ-loop
 loop-less c = search needs
 
--- at Else1
 loop-again : tie.Need-loop-again Inv-loop μ-loop
 loop-again c = (omega arith, each-more _ _ _ (c .before .before .before .loop .inv .1) (sym (c .before .meets-at .ensures) ∙ c .if1 .left))
 
--- at After-loop
 returns-2 : tie.Need-returns-2 Inv-loop μ-loop
 returns-2 c = record { within = c .before .loop .inv .0; before = c .before .loop .inv .1; there = λ h. absurd (omega arith) }
 

@@ -1,6 +1,6 @@
 -- `overlap::held_bytes` meets its contract: the sum so far and that of the records to come are the whole, and each part is at most 2^48.
-use Prim.Native.Nat.{ℕ, _-_, _≤_, min, max}
-use mathlib.Core.Path.{_≡_, _∙_, ap}
+use Prim.Native.Nat.{_-_, _≤_, min, max}
+use mathlib.Core.Path.{_≡_}
 use native.Mathlib.Omega.{arith}
 use Rattle.model.specs.Sizes.{maxBytes}
 use Rattle.model.specs.Trim.{bytesOf}
@@ -16,35 +16,27 @@ Inv-loop start end depth bytes sp lo hi sum₀ i₀ sum i = Summing start end de
 abbrev μ-loop : tie.MeasureT-loop
 μ-loop start end depth bytes sp lo hi sum₀ i₀ sum i = hi - i
 
--- at After-shared-slice-known4
 loop-holds : tie.Need-loop-holds Inv-loop μ-loop
 loop-holds c = sum-start _ _ _ _ _ _ _ (c .before .before .before .before .pre .0 .0)
 
--- at In-loop
 mul-larger : tie.Need-mul-larger Inv-loop μ-loop
 mul-larger c = search needs
 
--- at After-shared-slice-known5
 shared-slice-read-larger : tie.Need-shared-slice-read-larger Inv-loop μ-loop
 shared-slice-read-larger c = search needs
 
--- at After-shared-slice-known5
 larger-requires : tie.Need-larger-requires Inv-loop μ-loop
 larger-requires c κs = search needs
 
--- at After-larger
 mul-smaller : tie.Need-mul-smaller Inv-loop μ-loop
 mul-smaller c = search needs
 
--- at After-shared-slice-known6
 shared-slice-read-smaller : tie.Need-shared-slice-read-smaller Inv-loop μ-loop
 shared-slice-read-smaller c = search needs
 
--- at After-shared-slice-known6
 smaller-requires : tie.Need-smaller-requires Inv-loop μ-loop
 smaller-requires c κs = search needs
 
--- at After-smaller
 span-bytes-requires : tie.Need-span-bytes-requires Inv-loop μ-loop
 span-bytes-requires c κs =
     let p = c .before .before .before .before .before .before .before .before .before .before .pre .0 .4 in
@@ -58,23 +50,18 @@ read c = rw (← c .before .before .before .larger .ensures, ← c .before .smal
 small : (c : tie.After-span-bytes Inv-loop μ-loop) → c .span-bytes .result ≤ maxBytes
 small c = rw (read c) (bytes-small _ _ _ _ _ (c .before .before .before .before .before .before .before .before .before .before .before .pre .0 .4) (min-most _ _))
 
--- at After-span-bytes
 add-sum : tie.Need-add-sum Inv-loop μ-loop
 add-sum c = omega (arith, small c, c .before .before .before .before .before .before .loop .inv .small, c .before .before .before .before .before .before .loop .inv .high)
 
--- at After-span-bytes
 add-i : tie.Need-add-i Inv-loop μ-loop
 add-i c = search needs
 
--- at After-span-bytes
 loop-less : tie.Need-loop-less Inv-loop μ-loop
 loop-less c = search needs
 
--- at After-span-bytes
 loop-again : tie.Need-loop-again Inv-loop μ-loop
 loop-again c = sum-turn _ _ _ _ _ _ _ _ _ _ (c .before .before .before .before .before .before .loop .inv) (c .before .before .before .before .before .loop-test .taken) (read c) (small c)
 
--- at After-loop
 returns : tie.Need-returns Inv-loop μ-loop
 returns c = sum-end _ _ _ _ _ _ _ _ _ (c .before .loop .inv) (c .loop-test .left)
 

@@ -1,43 +1,33 @@
 -- `overlap::meets_at` meets its contract: each test decides its part of the definition's.
 use borrow.Author.Tests.{eq-eqb, ne-eqb, le-ltb, lt-ltb}
 use borrow.Author.Needs.{needs}
-use native.Mathlib.Omega.{arith}
 use Rattle.overlap.proofs.meets_at.Statement.{statement}
 use Rattle.overlap.proofs.meets_at.Tie as tie
 
--- at Start
 mul-if1 : tie.Need-mul-if1
 mul-if1 c = search needs
 
--- at After-shared-slice-known
 shared-slice-read-if1 : tie.Need-shared-slice-read-if1
 shared-slice-read-if1 c = search needs
 
--- at Then1
 returns : tie.Need-returns
 returns c = simp (ne-eqb _ _ (c .if1 .taken))
 
--- at Else1
 mul-if2 : tie.Need-mul-if2
 mul-if2 c = search needs
 
--- at After-shared-slice-known2
 shared-slice-read-if2 : tie.Need-shared-slice-read-if2
 shared-slice-read-if2 c = search needs
 
--- at Then2
 returns-2 : tie.Need-returns-2
 returns-2 c = simp (eq-eqb _ _ (c .before .before .before .if1 .left), le-ltb _ _ (c .if2 .taken))
 
--- at Else2
 mul-result : tie.Need-mul-result
 mul-result c = search needs
 
--- at After-shared-slice-known3
 shared-slice-read-result : tie.Need-shared-slice-read-result
 shared-slice-read-result c = search needs
 
--- at After-struct-known3
 returns-3 : tie.Need-returns-3
 returns-3 c = simp (eq-eqb _ _ (c .before .before .before .before .before .if1 .left), lt-ltb _ _ (c .before .before .if2 .left))
 

@@ -6,55 +6,42 @@ use borrow.Author.Needs.{needs}
 use Rattle.overlap.proofs.touch_need.Statement.{statement}
 use Rattle.overlap.proofs.touch_need.Tie as tie
 
--- at After-shared-slice-known3
 first-overlap-requires : tie.Need-first-overlap-requires
 first-overlap-requires c κs = search needs
 
--- at After-first-overlap
 end-overlap-requires : tie.Need-end-overlap-requires
 end-overlap-requires c κs = search needs
 
--- at Then1
 returns : tie.Need-returns
 returns c = need-none _ _ _ _ _ _ _ _ (c .before .end-overlap .ensures) (c .if1 .taken)
 
--- at Then2
 returns-2 : tie.Need-returns-2
 returns-2 c = need-off _ _ _ _ _ _ (not-true _ (c .if2 .taken))
 
--- at Else2
 sub-last : tie.Need-sub-last
 sub-last c = omega (arith, c .before .before .end-overlap .ensures .order)
 
--- at Else2
 mul-one-if : tie.Need-mul-one-if
 mul-one-if c = omega (arith, c .before .before .end-overlap .ensures .high, c .before .before .before .before .before .before .before .pre .starts)
 
--- at After-shared-slice-known4
 shared-slice-read-one-if : tie.Need-shared-slice-read-one-if
 shared-slice-read-one-if c = omega (arith, c .before .before .before .end-overlap .ensures .order, c .before .before .before .end-overlap .ensures .high, c .before .before .before .before .before .before .before .before .pre .starts)
 
--- at After-struct-known
 one-if-requires : tie.Need-one-if-requires
 one-if-requires c κs = search needs
 
--- at After-one-if
 mul-one-if-2 : tie.Need-mul-one-if-2
 mul-one-if-2 c = omega (arith, c .before .before .before .before .before .end-overlap .ensures .high, c .before .before .before .before .before .before .before .before .before .before .pre .ends)
 
--- at After-shared-slice-known5
 shared-slice-read-one-if-2 : tie.Need-shared-slice-read-one-if-2
 shared-slice-read-one-if-2 c = omega (arith, c .before .before .before .before .before .before .end-overlap .ensures .order, c .before .before .before .before .before .before .end-overlap .ensures .high, c .before .before .before .before .before .before .before .before .before .before .before .pre .ends)
 
--- at After-struct-known2
 one-if-requires-2 : tie.Need-one-if-requires-2
 one-if-requires-2 c κs = search needs
 
--- at After-one-if2
 add-t13 : tie.Need-add-t13
 add-t13 c = omega (arith, c .before .before .before .one-if .ensures .1, c .one-if2 .ensures .1)
 
--- at After-one-if2
 returns-3 : tie.Need-returns-3
 returns-3 c = need-on _ _ _ _ _ _ _ _ _ _ (c .before .before .before .before .before .before .before .before .before .before .before .before .before .pre) (c .before .before .before .before .before .before .before .before .end-overlap .ensures) (c .before .before .before .before .before .before .before .if1 .left) (not-false _ (c .before .before .before .before .before .before .if2 .left)) (c .before .before .before .one-if .ensures .0) (c .one-if2 .ensures .0)
 

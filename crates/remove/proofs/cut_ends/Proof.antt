@@ -13,19 +13,15 @@ Inv-loop node₀ start₀ end₀ id₀ stamp₀ touched₀ write₀ n lo hi sp i
 abbrev μ-loop : tie.MeasureT-loop
 μ-loop node₀ start₀ end₀ id₀ stamp₀ touched₀ write₀ n lo hi sp i₀ j₀ node start end id stamp touched write i j = hi - j
 
--- at After-slice-known7
 loop-holds : tie.Need-loop-holds Inv-loop μ-loop
 loop-holds c = cutting-start _ _ _ _ _ (c .before .before .before .before .before .before .before .pre .0)
 
--- at After-trim-one-arg7
 sub-trim-one : tie.Need-sub-trim-one Inv-loop μ-loop
 sub-trim-one c = omega (arith, c .before .before .before .before .before .before .before .loop-test .taken, c .before .before .before .before .before .before .before .before .before .before .before .before .before .before .before .before .pre .0 .over .high)
 
--- at After-trim-one-arg7
 add-trim-one : tie.Need-add-trim-one Inv-loop μ-loop
 add-trim-one c = omega (arith, c .before .before .before .before .before .before .before .loop-test .taken, c .before .before .before .before .before .before .before .before .loop .inv .few, c .before .before .before .before .before .before .before .before .before .before .before .before .before .before .before .before .pre .0 .over .high, c .before .before .before .before .before .before .before .before .before .before .before .before .before .before .before .before .pre .0 .few)
 
--- at After-trim-one-arg7
 trim-one-requires : tie.Need-trim-one-requires Inv-loop μ-loop
 trim-one-requires c κs =
     let w = c .before .before .before .before .before .before .before .before .before .before .before .before .before .before .before .before .pre .0 in
@@ -44,59 +40,45 @@ turned c =
     let t = c .before .before .before .before .before .before .before .before .before .before .before .before .before .before .before .before .before .before .before .before .before .before .loop-test .taken in
     cutting-turn _ _ _ _ _ _ _ _ w v t (c .before .before .before .before .before .before .before .before .before .before .before .before .before .before .before .before .before .before .before .before .before .before .before .before .before .before .before .before .before .before .before .pre .1 _ (v .low) t) _ _ (c .before .before .before .before .before .before .before .before .before .before .before .before .before .before .trim-one .ensures .0) (c .before .before .before .before .before .before .before .before .before .before .before .before .before .before .trim-one .ensures .1)
 
--- at After-slice-known14
 add-i : tie.Need-add-i Inv-loop μ-loop
 add-i c = let v = turned c in omega (arith, v .few, v .high, c .before .before .before .before .before .before .before .before .before .before .before .before .before .before .before .before .before .before .before .before .before .before .before .before .before .before .before .before .before .before .before .pre .0 .over .high, c .before .before .before .before .before .before .before .before .before .before .before .before .before .before .before .before .before .before .before .before .before .before .before .before .before .before .before .before .before .before .before .pre .0 .few)
 
--- at After-slice-known14
 add-j : tie.Need-add-j Inv-loop μ-loop
 add-j c = omega (arith, c .before .before .before .before .before .before .before .before .before .before .before .before .before .before .before .before .before .before .before .before .before .before .loop-test .taken, c .before .before .before .before .before .before .before .before .before .before .before .before .before .before .before .before .before .before .before .before .before .before .before .before .before .before .before .before .before .before .before .pre .0 .over .high, c .before .before .before .before .before .before .before .before .before .before .before .before .before .before .before .before .before .before .before .before .before .before .before .before .before .before .before .before .before .before .before .pre .0 .few)
 
--- at After-slice-known14
 loop-less : tie.Need-loop-less Inv-loop μ-loop
 loop-less c = omega (arith, c .before .before .before .before .before .before .before .before .before .before .before .before .before .before .before .before .before .before .before .before .before .before .loop-test .taken)
 
--- at After-slice-known14
 loop-again : tie.Need-loop-again Inv-loop μ-loop
 loop-again c = turned c
 
--- at After-loop
 sub-result : tie.Need-sub-result Inv-loop μ-loop
 sub-result c = omega (arith, c .before .before .before .before .before .before .before .before .before .pre .0 .over .high)
 
--- at After-loop
 add-result : tie.Need-add-result Inv-loop μ-loop
 add-result c = omega (arith, c .before .loop .inv .few, c .before .loop .inv .high, c .before .before .before .before .before .before .before .before .before .pre .0 .over .high, c .before .before .before .before .before .before .before .before .before .pre .0 .few)
 
--- at After-loop
 same-length : tie.Need-same-length Inv-loop μ-loop
 same-length c = cutting-sized _ _ _ _ _ _ _ _ (c .before .before .before .before .before .before .before .before .before .pre .0) (c .before .loop .inv) .node ∙ sym (c .before .before .before .before .before .before .before .before .before .pre .0 .sized .node)
 
--- at After-loop
 same-length-2 : tie.Need-same-length-2 Inv-loop μ-loop
 same-length-2 c = cutting-sized _ _ _ _ _ _ _ _ (c .before .before .before .before .before .before .before .before .before .pre .0) (c .before .loop .inv) .start ∙ sym (c .before .before .before .before .before .before .before .before .before .pre .0 .sized .start)
 
--- at After-loop
 same-length-3 : tie.Need-same-length-3 Inv-loop μ-loop
 same-length-3 c = cutting-sized _ _ _ _ _ _ _ _ (c .before .before .before .before .before .before .before .before .before .pre .0) (c .before .loop .inv) .end ∙ sym (c .before .before .before .before .before .before .before .before .before .pre .0 .sized .end)
 
--- at After-loop
 same-length-4 : tie.Need-same-length-4 Inv-loop μ-loop
 same-length-4 c = cutting-sized _ _ _ _ _ _ _ _ (c .before .before .before .before .before .before .before .before .before .pre .0) (c .before .loop .inv) .id ∙ sym (c .before .before .before .before .before .before .before .before .before .pre .0 .sized .id)
 
--- at After-loop
 same-length-5 : tie.Need-same-length-5 Inv-loop μ-loop
 same-length-5 c = cutting-sized _ _ _ _ _ _ _ _ (c .before .before .before .before .before .before .before .before .before .pre .0) (c .before .loop .inv) .stamp ∙ sym (c .before .before .before .before .before .before .before .before .before .pre .0 .sized .stamp)
 
--- at After-loop
 same-length-6 : tie.Need-same-length-6 Inv-loop μ-loop
 same-length-6 c = cutting-sized _ _ _ _ _ _ _ _ (c .before .before .before .before .before .before .before .before .before .pre .0) (c .before .loop .inv) .touched ∙ sym (c .before .before .before .before .before .before .before .before .before .pre .0 .sized .touched)
 
--- at After-loop
 same-length-7 : tie.Need-same-length-7 Inv-loop μ-loop
 same-length-7 c = cutting-sized _ _ _ _ _ _ _ _ (c .before .before .before .before .before .before .before .before .before .pre .0) (c .before .loop .inv) .write ∙ sym (c .before .before .before .before .before .before .before .before .before .pre .0 .sized .write)
 
--- at After-loop
 returns : tie.Need-returns Inv-loop μ-loop
 returns c = cutting-end _ _ _ _ _ _ _ _ (c .before .before .before .before .before .before .before .before .before .pre .0) (c .before .loop .inv) (c .loop-test .left) (c .before .before .before .before .before .before .before .before .before .pre .1)
 

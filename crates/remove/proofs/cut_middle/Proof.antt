@@ -1,51 +1,39 @@
 -- `remove::cut_middle` meets its contract: the record in two at the span's end, and then the left part's end.
 use Rattle.remove.proofs.Laws.{middle-is}
 use borrow.Author.Needs.{needs}
-use native.Mathlib.Omega.{arith}
 use Rattle.remove.proofs.cut_middle.Statement.{statement}
 use Rattle.remove.proofs.cut_middle.Tie as tie
 
--- at After-split-rec-arg7
 split-rec-requires : tie.Need-split-rec-requires
 split-rec-requires c κs = search needs
 
--- at After-slice-known14
 mul-end : tie.Need-mul-end
 mul-end c = search needs
 
--- at After-slice-known14
 slice-write-end : tie.Need-slice-write-end
 slice-write-end c = search needs
 
--- at After-slice-known14
 same-length : tie.Need-same-length
 same-length c = search needs
 
--- at After-slice-known14
 same-length-2 : tie.Need-same-length-2
 same-length-2 c = search needs
 
--- at After-slice-known14
 same-length-3 : tie.Need-same-length-3
 same-length-3 c = search needs
 
--- at After-slice-known14
 same-length-4 : tie.Need-same-length-4
 same-length-4 c = search needs
 
--- at After-slice-known14
 same-length-5 : tie.Need-same-length-5
 same-length-5 c = search needs
 
--- at After-slice-known14
 same-length-6 : tie.Need-same-length-6
 same-length-6 c = search needs
 
--- at After-slice-known14
 same-length-7 : tie.Need-same-length-7
 same-length-7 c = search needs
 
--- at After-slice-known14
 returns : tie.Need-returns
 returns c = let p = c .before .before .before .before .before .before .before .before .before .before .before .before .before .before .before .before .before .before .before .before .before .before .before .before .before .before .before .before .before .pre in middle-is _ (p .2) _ _ (p .0) (p .1) _ _ _ _ (c .before .before .before .before .before .before .before .before .before .before .before .before .before .before .split-rec .ensures)
 

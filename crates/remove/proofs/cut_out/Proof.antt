@@ -7,105 +7,81 @@ use borrow.Author.Needs.{needs}
 use Rattle.remove.proofs.cut_out.Statement.{statement}
 use Rattle.remove.proofs.cut_out.Tie as tie
 
--- at After-slice-known7
 mul-past-both : tie.Need-mul-past-both
 mul-past-both c = omega (arith, c .before .before .before .before .before .before .before .pre .0 .1 .over .high, c .before .before .before .before .before .before .before .pre .0 .1 .few)
 
--- at After-slice-known8
 slice-read-past-both : tie.Need-slice-read-past-both
 slice-read-past-both c = omega (arith, c .before .before .before .before .before .before .before .before .pre .0 .0, c .before .before .before .before .before .before .before .before .pre .0 .1 .over .high, c .before .before .before .before .before .before .before .before .pre .0 .1 .few, c .before .before .before .before .before .before .before .before .pre .0 .1 .sized .start)
 
--- at After-slice-known8
 mul-past-both-2 : tie.Need-mul-past-both-2
 mul-past-both-2 c = omega (arith, c .before .before .before .before .before .before .before .before .pre .0 .1 .over .high, c .before .before .before .before .before .before .before .before .pre .0 .1 .few)
 
--- at After-slice-known9
 slice-read-past-both-2 : tie.Need-slice-read-past-both-2
 slice-read-past-both-2 c = omega (arith, c .before .before .before .before .before .before .before .before .before .pre .0 .0, c .before .before .before .before .before .before .before .before .before .pre .0 .1 .over .high, c .before .before .before .before .before .before .before .before .before .pre .0 .1 .few, c .before .before .before .before .before .before .before .before .before .pre .0 .1 .sized .end)
 
--- at After-slice-known9
 past-both-requires : tie.Need-past-both-requires
 past-both-requires c κs = search needs
 
--- at After-cut-middle-arg7
 cut-middle-requires : tie.Need-cut-middle-requires
 cut-middle-requires c κs =
     let p = c .before .before .before .before .before .before .before .before .before .before .before .before .before .before .before .before .before .before .pre .0 in
     (omega (arith, p .0, p .1 .over .high), room _ _ _ _ _ (p .0) (p .1) (p .2) (sym (c .before .before .before .before .before .before .before .before .past-both .ensures) ∙ c .before .before .before .before .before .before .before .if1 .taken) (c .before .before .before .before .before .before .before .before .before .before .before .before .before .before .before .before .before .before .pre .1), p .1 .sized)
 
--- at After-slice-known16
 add-t36 : tie.Need-add-t36
 add-t36 c = search needs
 
--- at After-slice-known16
 same-length : tie.Need-same-length
 same-length c = c .before .before .before .before .before .before .before .before .before .before .before .before .before .before .cut-middle .kept .0
 
--- at After-slice-known16
 same-length-2 : tie.Need-same-length-2
 same-length-2 c = c .before .before .before .before .before .before .before .before .before .before .before .before .before .before .cut-middle .kept .1 .0
 
--- at After-slice-known16
 same-length-3 : tie.Need-same-length-3
 same-length-3 c = c .before .before .before .before .before .before .before .before .before .before .before .before .before .before .cut-middle .kept .1 .1 .0
 
--- at After-slice-known16
 same-length-4 : tie.Need-same-length-4
 same-length-4 c = c .before .before .before .before .before .before .before .before .before .before .before .before .before .before .cut-middle .kept .1 .1 .1 .0
 
--- at After-slice-known16
 same-length-5 : tie.Need-same-length-5
 same-length-5 c = c .before .before .before .before .before .before .before .before .before .before .before .before .before .before .cut-middle .kept .1 .1 .1 .1 .0
 
--- at After-slice-known16
 same-length-6 : tie.Need-same-length-6
 same-length-6 c = c .before .before .before .before .before .before .before .before .before .before .before .before .before .before .cut-middle .kept .1 .1 .1 .1 .1 .0
 
--- at After-slice-known16
 same-length-7 : tie.Need-same-length-7
 same-length-7 c = c .before .before .before .before .before .before .before .before .before .before .before .before .before .before .cut-middle .kept .1 .1 .1 .1 .1 .1 .0
 
--- at After-slice-known16
 returns : tie.Need-returns
 returns c =
     let p = c .before .before .before .before .before .before .before .before .before .before .before .before .before .before .before .before .before .before .before .before .before .before .before .before .before .before .before .before .before .before .before .before .before .pre .0 in
     out-middle (rangesOf (c .before .before .before .before .before .before .before .before .before .before .before .before .before .before .before .before .before .before .before .before .before .before .before .before .before .before .before .before .before .before .before .before .before .args .node .now) (c .before .before .before .before .before .before .before .before .before .before .before .before .before .before .before .before .before .before .before .before .before .before .before .before .before .before .before .before .before .before .before .before .before .args .start .now) (c .before .before .before .before .before .before .before .before .before .before .before .before .before .before .before .before .before .before .before .before .before .before .before .before .before .before .before .before .before .before .before .before .before .args .end .now) (c .before .before .before .before .before .before .before .before .before .before .before .before .before .before .before .before .before .before .before .before .before .before .before .before .before .before .before .before .before .before .before .before .before .args .id .now) (c .before .before .before .before .before .before .before .before .before .before .before .before .before .before .before .before .before .before .before .before .before .before .before .before .before .before .before .before .before .before .before .before .before .args .stamp .now) (c .before .before .before .before .before .before .before .before .before .before .before .before .before .before .before .before .before .before .before .before .before .before .before .before .before .before .before .before .before .before .before .before .before .args .touched .now) (c .before .before .before .before .before .before .before .before .before .before .before .before .before .before .before .before .before .before .before .before .before .before .before .before .before .before .before .before .before .before .before .before .before .args .write .now)) _ _ _ _ (p .0) (p .1) (p .2) (sym (c .before .before .before .before .before .before .before .before .before .before .before .before .before .before .before .before .before .before .before .before .before .before .before .past-both .ensures) ∙ c .before .before .before .before .before .before .before .before .before .before .before .before .before .before .before .before .before .before .before .before .before .before .if1 .taken) _ (rangesOf (c .before .before .before .before .before .before .before .before .before .before .before .before .before .before .cut-middle .last .0) (c .before .before .before .before .before .before .before .before .before .before .before .before .before .before .cut-middle .last .1 .0) (c .before .before .before .before .before .before .before .before .before .before .before .before .before .before .cut-middle .last .1 .1 .0) (c .before .before .before .before .before .before .before .before .before .before .before .before .before .before .cut-middle .last .1 .1 .1 .0) (c .before .before .before .before .before .before .before .before .before .before .before .before .before .before .cut-middle .last .1 .1 .1 .1 .0) (c .before .before .before .before .before .before .before .before .before .before .before .before .before .before .cut-middle .last .1 .1 .1 .1 .1 .0) (c .before .before .before .before .before .before .before .before .before .before .before .before .before .before .cut-middle .last .1 .1 .1 .1 .1 .1 .0)) (c .before .before .before .before .before .before .before .before .before .before .before .before .before .before .cut-middle .ensures)
 
--- at After-cut-ends-arg7
 cut-ends-requires : tie.Need-cut-ends-requires
 cut-ends-requires c κs =
     let p = c .before .before .before .before .before .before .before .before .before .before .before .before .before .before .before .before .before .before .pre .0 in
     (p .1, none-past _ _ _ _ _ (p .0) (p .1) (p .2) (sym (c .before .before .before .before .before .before .before .before .past-both .ensures) ∙ c .before .before .before .before .before .before .before .if1 .left))
 
--- at After-slice-known23
 same-length-8 : tie.Need-same-length-8
 same-length-8 c = c .before .before .before .before .before .before .before .before .before .before .before .before .before .before .cut-ends .kept .0
 
--- at After-slice-known23
 same-length-9 : tie.Need-same-length-9
 same-length-9 c = c .before .before .before .before .before .before .before .before .before .before .before .before .before .before .cut-ends .kept .1 .0
 
--- at After-slice-known23
 same-length-10 : tie.Need-same-length-10
 same-length-10 c = c .before .before .before .before .before .before .before .before .before .before .before .before .before .before .cut-ends .kept .1 .1 .0
 
--- at After-slice-known23
 same-length-11 : tie.Need-same-length-11
 same-length-11 c = c .before .before .before .before .before .before .before .before .before .before .before .before .before .before .cut-ends .kept .1 .1 .1 .0
 
--- at After-slice-known23
 same-length-12 : tie.Need-same-length-12
 same-length-12 c = c .before .before .before .before .before .before .before .before .before .before .before .before .before .before .cut-ends .kept .1 .1 .1 .1 .0
 
--- at After-slice-known23
 same-length-13 : tie.Need-same-length-13
 same-length-13 c = c .before .before .before .before .before .before .before .before .before .before .before .before .before .before .cut-ends .kept .1 .1 .1 .1 .1 .0
 
--- at After-slice-known23
 same-length-14 : tie.Need-same-length-14
 same-length-14 c = c .before .before .before .before .before .before .before .before .before .before .before .before .before .before .cut-ends .kept .1 .1 .1 .1 .1 .1 .0
 
--- at After-slice-known23
 returns-2 : tie.Need-returns-2
 returns-2 c = c .before .before .before .before .before .before .before .before .before .before .before .before .before .before .cut-ends .ensures _
 

@@ -13,39 +13,30 @@ Inv-loop write list₀ lo hi k₀ i₀ list k i = Listing write list₀ list lo 
 abbrev μ-loop : tie.MeasureT-loop
 μ-loop write list₀ lo hi k₀ i₀ list k i = hi - i
 
--- at Start
 loop-holds : tie.Need-loop-holds Inv-loop μ-loop
 loop-holds c = list-start _ _ _ _ (c .pre .0)
 
--- at In-loop
 mul-w : tie.Need-mul-w Inv-loop μ-loop
 mul-w c = search needs
 
--- at After-shared-slice-known
 shared-slice-read-w : tie.Need-shared-slice-read-w Inv-loop μ-loop
 shared-slice-read-w c = search needs
 
--- at Then1
 mul-list : tie.Need-mul-list Inv-loop μ-loop
 mul-list c = search needs
 
--- at Then1
 slice-write-list : tie.Need-slice-write-list Inv-loop μ-loop
 slice-write-list c = omega (arith, c .before .before .before .loop .inv .few, c .before .before .before .loop .inv .same, c .before .before .before .before .pre .2)
 
--- at Then1
 add-k : tie.Need-add-k Inv-loop μ-loop
 add-k c = omega (arith, c .before .before .before .loop .inv .few, c .before .before .before .loop .inv .high, c .before .before .before .before .pre .2)
 
--- at Joined1
 add-i : tie.Need-add-i Inv-loop μ-loop
 add-i c = search needs
 
--- at Joined1
 loop-less : tie.Need-loop-less Inv-loop μ-loop
 loop-less c = search needs
 
--- at Joined1
 loop-again : tie.Need-loop-again Inv-loop μ-loop
 loop-again c =
     let v = c .before .before .before .loop .inv in
@@ -53,11 +44,9 @@ loop-again c =
     ⊎-elim (λ w. some-to _ _ _ _ _ _ _ v t _ _ (c .before .before .before .before .pre .2) (w .0 .taken) (w .1) (w .2)) (λ w. none-to _ _ _ _ _ _ _ v t _ _ (w .0 .left) (w .1) (w .2))
     (c .if1 .came)
 
--- at After-loop
 same-length : tie.Need-same-length Inv-loop μ-loop
 same-length c = c .before .loop .inv .same
 
--- at After-loop
 returns : tie.Need-returns Inv-loop μ-loop
 returns c = list-end _ _ _ _ _ _ _ (c .before .loop .inv) (c .loop-test .left)
 

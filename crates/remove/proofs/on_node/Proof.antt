@@ -12,35 +12,27 @@ Inv-loop node n v i₀ i = (i ≤ n) × Passed node n v i
 abbrev μ-loop : tie.MeasureT-loop
 μ-loop node n v i₀ i = n - i
 
--- at Start
 loop-holds : tie.Need-loop-holds Inv-loop μ-loop
 loop-holds c = (omega arith, pass-start _ _ _)
 
--- at In-loop
 mul-if1 : tie.Need-mul-if1 Inv-loop μ-loop
 mul-if1 c = search needs
 
--- at After-shared-slice-known
 shared-slice-read-if1 : tie.Need-shared-slice-read-if1 Inv-loop μ-loop
 shared-slice-read-if1 c = search needs
 
--- at Then1
 returns : tie.Need-returns Inv-loop μ-loop
 returns c = pass-here _ _ _ _ (c .before .before .before .loop .inv .1) (c .before .before .loop-test .taken) (c .if1 .taken)
 
--- at Else1
 add-i : tie.Need-add-i Inv-loop μ-loop
 add-i c = search needs
 
--- at Else1
 loop-less : tie.Need-loop-less Inv-loop μ-loop
 loop-less c = search needs
 
--- at Else1
 loop-again : tie.Need-loop-again Inv-loop μ-loop
 loop-again c = (omega arith, pass-turn _ _ _ _ (c .before .before .before .loop .inv .1) (c .before .before .loop-test .taken) (c .if1 .left))
 
--- at After-loop
 returns-2 : tie.Need-returns-2 Inv-loop μ-loop
 returns-2 c = pass-end _ _ _ _ (c .before .loop .inv .1) (c .loop-test .left)
 

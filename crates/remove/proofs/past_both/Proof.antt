@@ -1,14 +1,11 @@
 -- `remove::past_both` meets its contract: each test decides its part.
 use borrow.Author.Tests.{le-ltb, lt-ltb}
-use native.Mathlib.Omega.{arith}
 use Rattle.remove.proofs.past_both.Statement.{statement}
 use Rattle.remove.proofs.past_both.Tie as tie
 
--- at Then1
 returns : tie.Need-returns
 returns c = simp (le-ltb _ _ (c .if1 .taken))
 
--- at After-struct-known2
 returns-2 : tie.Need-returns-2
 returns-2 c = simp (lt-ltb _ _ (c .before .if1 .left))
 

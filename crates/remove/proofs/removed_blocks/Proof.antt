@@ -1,6 +1,5 @@
 -- `remove::removed_blocks` meets its contract: the blocks so far and those to come are the whole, from 1 to 1,024 of each record.
-use Prim.Native.Nat.{ℕ, _-_, _≤_, _<_, min, max}
-use mathlib.Core.Path.{_≡_, _∙_, ap}
+use Prim.Native.Nat.{_-_, _≤_, _<_}
 use native.Mathlib.Omega.{arith}
 use lib.ListN.{getD}
 use Rattle.overlap.proofs.Laws.{min-most}
@@ -15,31 +14,24 @@ Inv-loop start end sp lo hi sum₀ i₀ sum i = Counting start end sp lo hi sum 
 abbrev μ-loop : tie.MeasureT-loop
 μ-loop start end sp lo hi sum₀ i₀ sum i = hi - i
 
--- at After-shared-slice-known2
 loop-holds : tie.Need-loop-holds Inv-loop μ-loop
 loop-holds c = count-start _ _ _ _ _ (c .before .before .pre .0 .0)
 
--- at In-loop
 mul-larger : tie.Need-mul-larger Inv-loop μ-loop
 mul-larger c = search needs
 
--- at After-shared-slice-known3
 shared-slice-read-larger : tie.Need-shared-slice-read-larger Inv-loop μ-loop
 shared-slice-read-larger c = search needs
 
--- at After-shared-slice-known3
 larger-requires : tie.Need-larger-requires Inv-loop μ-loop
 larger-requires c κs = search needs
 
--- at After-larger
 mul-smaller : tie.Need-mul-smaller Inv-loop μ-loop
 mul-smaller c = search needs
 
--- at After-shared-slice-known4
 shared-slice-read-smaller : tie.Need-shared-slice-read-smaller Inv-loop μ-loop
 shared-slice-read-smaller c = search needs
 
--- at After-shared-slice-known4
 smaller-requires : tie.Need-smaller-requires Inv-loop μ-loop
 smaller-requires c κs = search needs
 
@@ -50,27 +42,21 @@ more c = rw (c .before .before .larger .ensures, c .smaller .ensures) (c .before
 most : (c : tie.After-smaller Inv-loop μ-loop) → c .smaller .result ≤ 1024
 most c = omega (arith, c .before .before .before .before .before .before .before .before .pre .0 .4, c .smaller .ensures, min-most (c .before .before .before .before .before .before .before .before .args .sp .end) (getD (c .before .before .before .before .before .before .before .before .args .end .now) (c .before .before .before .before .before .loop .i) 0))
 
--- at After-smaller
 sub-sum : tie.Need-sub-sum Inv-loop μ-loop
 sub-sum c = omega (arith, more c)
 
--- at After-smaller
 add-sum : tie.Need-add-sum Inv-loop μ-loop
 add-sum c = omega (arith, more c, most c, c .before .before .before .before .before .loop .inv .small, c .before .before .before .before .before .loop .inv .high)
 
--- at After-smaller
 add-i : tie.Need-add-i Inv-loop μ-loop
 add-i c = search needs
 
--- at After-smaller
 loop-less : tie.Need-loop-less Inv-loop μ-loop
 loop-less c = search needs
 
--- at After-smaller
 loop-again : tie.Need-loop-again Inv-loop μ-loop
 loop-again c = count-turn _ _ _ _ _ _ _ _ (c .before .before .before .before .before .loop .inv) (c .before .before .before .before .loop-test .taken) (rw (c .before .before .larger .ensures, c .smaller .ensures)) (omega (arith, more c)) (omega (arith, most c))
 
--- at After-loop
 returns : tie.Need-returns Inv-loop μ-loop
 returns c = count-end _ _ _ _ _ _ _ (c .before .loop .inv) (c .loop-test .left)
 

@@ -2,97 +2,75 @@
 use Rattle.remove.proofs.Laws.{trim-head, trim-tail, trim-all, kept-head, kept-tail, kept-none}
 use Rattle.lent.specs.Lent.{rangesOf}
 use borrow.Author.Needs.{needs}
-use native.Mathlib.Omega.{arith}
 use Rattle.remove.proofs.trim_one.Statement.{statement}
 use Rattle.remove.proofs.trim_one.Tie as tie
 
--- at After-slice-known7
 mul-if1 : tie.Need-mul-if1
 mul-if1 c = search needs
 
--- at After-slice-known8
 slice-read-if1 : tie.Need-slice-read-if1
 slice-read-if1 c = search needs
 
--- at Then1
 mul-end : tie.Need-mul-end
 mul-end c = search needs
 
--- at Then1
 slice-write-end : tie.Need-slice-write-end
 slice-write-end c = search needs
 
--- at Then1
 same-length : tie.Need-same-length
 same-length c = search needs
 
--- at Then1
 returns : tie.Need-returns
 returns c =
     let p = c .before .before .before .before .before .before .before .before .before .before .pre .0 in
     let d = rangesOf (c .before .before .before .before .before .before .before .before .before .before .args .node .now) (c .before .before .before .before .before .before .before .before .before .before .args .start .now) (c .before .before .before .before .before .before .before .before .before .before .args .end .now) (c .before .before .before .before .before .before .before .before .before .before .args .id .now) (c .before .before .before .before .before .before .before .before .before .before .args .stamp .now) (c .before .before .before .before .before .before .before .before .before .before .args .touched .now) (c .before .before .before .before .before .before .before .before .before .before .args .write .now) in
     (trim-head d (p .2) _ _ (p .0) (p .1) _ _ (c .before .before .before .before .before .before .before .before .before .before .pre .1) (c .if1 .taken), kept-head d (p .2) _ _ (p .0) (p .1) _ _ (c .before .before .before .before .before .before .before .before .before .before .pre .1) (c .if1 .taken))
 
--- at Else1
 mul-if2 : tie.Need-mul-if2
 mul-if2 c = search needs
 
--- at After-slice-known9
 slice-read-if2 : tie.Need-slice-read-if2
 slice-read-if2 c = search needs
 
--- at Then2
 mul-start : tie.Need-mul-start
 mul-start c = search needs
 
--- at Then2
 slice-write-start : tie.Need-slice-write-start
 slice-write-start c = search needs
 
--- at Then2
 same-length-2 : tie.Need-same-length-2
 same-length-2 c = search needs
 
--- at Then2
 returns-2 : tie.Need-returns-2
 returns-2 c =
     let p = c .before .before .before .before .before .before .before .before .before .before .before .before .before .pre .0 in
     let d = rangesOf (c .before .before .before .before .before .before .before .before .before .before .before .before .before .args .node .now) (c .before .before .before .before .before .before .before .before .before .before .before .before .before .args .start .now) (c .before .before .before .before .before .before .before .before .before .before .before .before .before .args .end .now) (c .before .before .before .before .before .before .before .before .before .before .before .before .before .args .id .now) (c .before .before .before .before .before .before .before .before .before .before .before .before .before .args .stamp .now) (c .before .before .before .before .before .before .before .before .before .before .before .before .before .args .touched .now) (c .before .before .before .before .before .before .before .before .before .before .before .before .before .args .write .now) in
     (trim-tail d (p .2) _ _ (p .0) (p .1) _ _ (c .before .before .before .if1 .left) (c .if2 .taken), kept-tail d (p .2) _ _ (p .0) (p .1) _ _ (c .before .before .before .if1 .left) (c .if2 .taken))
 
--- at After-cut-rec-arg7
 cut-rec-requires : tie.Need-cut-rec-requires
 cut-rec-requires c κs = search needs
 
--- at After-slice-known16
 same-length-3 : tie.Need-same-length-3
 same-length-3 c = search needs
 
--- at After-slice-known16
 same-length-4 : tie.Need-same-length-4
 same-length-4 c = search needs
 
--- at After-slice-known16
 same-length-5 : tie.Need-same-length-5
 same-length-5 c = search needs
 
--- at After-slice-known16
 same-length-6 : tie.Need-same-length-6
 same-length-6 c = search needs
 
--- at After-slice-known16
 same-length-7 : tie.Need-same-length-7
 same-length-7 c = search needs
 
--- at After-slice-known16
 same-length-8 : tie.Need-same-length-8
 same-length-8 c = search needs
 
--- at After-slice-known16
 same-length-9 : tie.Need-same-length-9
 same-length-9 c = search needs
 
--- at After-slice-known16
 returns-3 : tie.Need-returns-3
 returns-3 c =
     let p = c .before .before .before .before .before .before .before .before .before .before .before .before .before .before .before .before .before .before .before .before .before .before .before .before .before .before .before .before .before .before .before .before .before .before .before .pre .0 in

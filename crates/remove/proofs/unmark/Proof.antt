@@ -2,31 +2,24 @@
 use mathlib.Core.Path.{sym, _∙_}
 use Rattle.remove.proofs.Laws.{unmark-on, unmark-off}
 use borrow.Author.Needs.{needs}
-use native.Mathlib.Omega.{arith}
 use Rattle.remove.proofs.unmark.Statement.{statement}
 use Rattle.remove.proofs.unmark.Tie as tie
 
--- at After-slice-known
 on-node-requires : tie.Need-on-node-requires
 on-node-requires c κs = search needs
 
--- at Then1
 returns : tie.Need-returns
 returns c = unmark-on _ _ _ (sym (c .if1 .taken) ∙ c .before .on-node .ensures)
 
--- at Else1
 mul-marks : tie.Need-mul-marks
 mul-marks c = search needs
 
--- at Else1
 slice-write-marks : tie.Need-slice-write-marks
 slice-write-marks c = search needs
 
--- at Else1
 same-length : tie.Need-same-length
 same-length c = search needs
 
--- at Else1
 returns-2 : tie.Need-returns-2
 returns-2 c = unmark-off (c .before .before .before .before .args .v) _ (c .before .before .before .before .args .marks .now) (sym (c .if1 .left) ∙ c .before .on-node .ensures)
 

@@ -8,65 +8,50 @@ use borrow.Author.Needs.{needs}
 use Rattle.touch.proofs.merge.Statement.{statement}
 use Rattle.touch.proofs.merge.Tie as tie
 
--- at After-slice-known7
 add-end : tie.Need-add-end
 add-end c = search needs
 
--- at After-slice-known7
 mul-end : tie.Need-mul-end
 mul-end c = search needs
 
--- at After-slice-known8
 slice-read-end : tie.Need-slice-read-end
 slice-read-end c = omega (arith, c .before .before .before .before .before .before .before .before .pre .0, c .before .before .before .before .before .before .before .before .pre .1, c .before .before .before .before .before .before .before .before .pre .2 .end)
 
--- at After-slice-known8
 mul-end-2 : tie.Need-mul-end-2
 mul-end-2 c = search needs
 
--- at After-slice-known8
 slice-write-end : tie.Need-slice-write-end
 slice-write-end c = omega (arith, c .before .before .before .before .before .before .before .before .pre .0, c .before .before .before .before .before .before .before .before .pre .1, c .before .before .before .before .before .before .before .before .pre .2 .end)
 
--- at After-cut-rec-arg7
 add-cut-rec : tie.Need-add-cut-rec
 add-cut-rec c = search needs
 
--- at After-cut-rec-arg7
 cut-rec-requires : tie.Need-cut-rec-requires
 cut-rec-requires c κs =
     let p = c .before .before .before .before .before .before .before .before .before .before .before .before .before .before .before .pre in
     (p .0, p .1, record { node = p .2 .node; start = p .2 .start; end = simp length-set (p .2 .end); id = p .2 .id; stamp = p .2 .stamp; touched = p .2 .touched; write = p .2 .write })
 
--- at After-slice-known15
 same-length : tie.Need-same-length
 same-length c = c .before .before .before .before .before .before .before .before .before .before .before .before .before .before .cut-rec .kept .0
 
--- at After-slice-known15
 same-length-2 : tie.Need-same-length-2
 same-length-2 c = c .before .before .before .before .before .before .before .before .before .before .before .before .before .before .cut-rec .kept .1 .0
 
--- at After-slice-known15
 same-length-3 : tie.Need-same-length-3
 same-length-3 c = c .before .before .before .before .before .before .before .before .before .before .before .before .before .before .cut-rec .kept .1 .1 .0 ∙ simp length-set
 
--- at After-slice-known15
 same-length-4 : tie.Need-same-length-4
 same-length-4 c = c .before .before .before .before .before .before .before .before .before .before .before .before .before .before .cut-rec .kept .1 .1 .1 .0
 
--- at After-slice-known15
 same-length-5 : tie.Need-same-length-5
 same-length-5 c = c .before .before .before .before .before .before .before .before .before .before .before .before .before .before .cut-rec .kept .1 .1 .1 .1 .0
 
--- at After-slice-known15
 same-length-6 : tie.Need-same-length-6
 same-length-6 c = c .before .before .before .before .before .before .before .before .before .before .before .before .before .before .cut-rec .kept .1 .1 .1 .1 .1 .0
 
--- at After-slice-known15
 same-length-7 : tie.Need-same-length-7
 same-length-7 c = c .before .before .before .before .before .before .before .before .before .before .before .before .before .before .cut-rec .kept .1 .1 .1 .1 .1 .1 .0
 
--- at After-slice-known15
 returns : tie.Need-returns
 returns c = let p = c .before .before .before .before .before .before .before .before .before .before .before .before .before .before .before .before .before .before .before .before .before .before .before .before .before .before .before .before .before .before .pre in merge-is (rangesOf (c .before .before .before .before .before .before .before .before .before .before .before .before .before .before .before .before .before .before .before .before .before .before .before .before .before .before .before .before .before .before .args .node .now) (c .before .before .before .before .before .before .before .before .before .before .before .before .before .before .before .before .before .before .before .before .before .before .before .before .before .before .before .before .before .before .args .start .now) (c .before .before .before .before .before .before .before .before .before .before .before .before .before .before .before .before .before .before .before .before .before .before .before .before .before .before .before .before .before .before .args .end .now) (c .before .before .before .before .before .before .before .before .before .before .before .before .before .before .before .before .before .before .before .before .before .before .before .before .before .before .before .before .before .before .args .id .now) (c .before .before .before .before .before .before .before .before .before .before .before .before .before .before .before .before .before .before .before .before .before .before .before .before .before .before .before .before .before .before .args .stamp .now) (c .before .before .before .before .before .before .before .before .before .before .before .before .before .before .before .before .before .before .before .before .before .before .before .before .before .before .before .before .before .before .args .touched .now) (c .before .before .before .before .before .before .before .before .before .before .before .before .before .before .before .before .before .before .before .before .before .before .before .before .before .before .before .before .before .before .args .write .now)) (p .2) (c .before .before .before .before .before .before .before .before .before .before .before .before .before .before .before .before .before .before .before .before .before .before .before .before .before .before .before .before .before .before .args .i) (c .before .before .before .before .before .before .before .before .before .before .before .before .before .before .before .before .before .before .before .before .before .before .before .before .before .before .before .before .before .before .args .n) (p .0) (p .1) (rangesOf (c .before .before .before .before .before .before .before .before .before .before .before .before .before .before .cut-rec .last .0) (c .before .before .before .before .before .before .before .before .before .before .before .before .before .before .cut-rec .last .1 .0) (c .before .before .before .before .before .before .before .before .before .before .before .before .before .before .cut-rec .last .1 .1 .0) (c .before .before .before .before .before .before .before .before .before .before .before .before .before .before .cut-rec .last .1 .1 .1 .0) (c .before .before .before .before .before .before .before .before .before .before .before .before .before .before .cut-rec .last .1 .1 .1 .1 .0) (c .before .before .before .before .before .before .before .before .before .before .before .before .before .before .cut-rec .last .1 .1 .1 .1 .1 .0) (c .before .before .before .before .before .before .before .before .before .before .before .before .before .before .cut-rec .last .1 .1 .1 .1 .1 .1 .0)) (c .before .before .before .before .before .before .before .before .before .before .before .before .before .before .cut-rec .ensures)
 

@@ -1,39 +1,30 @@
 -- `touch::one_inside` meets its contract: a case for each branch.
 use Rattle.touch.proofs.Laws.{inside-many, inside-head, inside-one}
 use borrow.Author.Needs.{needs}
-use native.Mathlib.Omega.{arith}
 use Rattle.touch.proofs.one_inside.Statement.{statement}
 use Rattle.touch.proofs.one_inside.Tie as tie
 
--- at Start
 sub-if1 : tie.Need-sub-if1
 sub-if1 c = search needs
 
--- at Then1
 returns : tie.Need-returns
 returns c = inside-many (c .before .args .start .now) (c .before .args .end .now) (c .before .args .sp) (c .before .args .lo) (c .before .args .hi) (c .before .pre .0) (c .if1 .taken)
 
--- at Else1
 mul-if2 : tie.Need-mul-if2
 mul-if2 c = search needs
 
--- at After-shared-slice-known
 shared-slice-read-if2 : tie.Need-shared-slice-read-if2
 shared-slice-read-if2 c = search needs
 
--- at Then2
 returns-2 : tie.Need-returns-2
 returns-2 c = inside-head (c .before .before .before .before .args .start .now) (c .before .before .before .before .args .end .now) (c .before .before .before .before .args .sp) (c .before .before .before .before .args .lo) (c .before .before .before .before .args .hi) (c .before .before .before .before .pre .0) (c .before .before .before .if1 .left) (c .if2 .taken)
 
--- at Else2
 mul-result : tie.Need-mul-result
 mul-result c = search needs
 
--- at After-shared-slice-known2
 shared-slice-read-result : tie.Need-shared-slice-read-result
 shared-slice-read-result c = search needs
 
--- at After-struct-known2
 returns-3 : tie.Need-returns-3
 returns-3 c = inside-one (c .before .before .before .before .before .before .args .start .now) (c .before .before .before .before .before .before .args .end .now) (c .before .before .before .before .before .before .args .sp) (c .before .before .before .before .before .before .args .lo) (c .before .before .before .before .before .before .args .hi) (c .before .before .before .before .before .before .pre .0) (c .before .before .before .before .before .if1 .left) (c .before .before .if2 .left)
 

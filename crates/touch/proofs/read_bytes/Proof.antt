@@ -5,19 +5,15 @@ use Rattle.model.specs.Store.{ranges}
 use Rattle.tree.specs.Span.{onlyDepth}
 use Rattle.overlap.specs.Overlap.{onlySpans}
 use Rattle.touch.proofs.Laws.{read-off, read-on}
-use native.Mathlib.Omega.{arith}
 use Rattle.touch.proofs.read_bytes.Statement.{statement}
 use Rattle.touch.proofs.read_bytes.Tie as tie
 
--- at Then1
 returns : tie.Need-returns
 returns c = read-off (c .before .before .before .before .before .args .counted) (onlyDepth (c .before .before .before .before .before .args .depth .now)) (c .before .before .before .before .before .args .bytes .now) (c .before .before .before .before .before .args .sp) (ranges (onlySpans (c .before .before .before .before .before .args .start .now) (c .before .before .before .before .before .args .end .now)) (c .before .before .before .before .before .args .lo) (c .before .before .before .before .before .args .hi - c .before .before .before .before .before .args .lo)) (c .if1 .taken)
 
--- at Else1
 held-bytes-requires : tie.Need-held-bytes-requires
 held-bytes-requires c κs = c .before .before .before .before .before .pre
 
--- at After-held-bytes
 returns-2 : tie.Need-returns-2
 returns-2 c = read-on (c .before .before .before .before .before .before .args .counted) (onlyDepth (c .before .before .before .before .before .before .args .depth .now)) (c .before .before .before .before .before .before .args .bytes .now) (c .before .before .before .before .before .before .args .sp) (ranges (onlySpans (c .before .before .before .before .before .before .args .start .now) (c .before .before .before .before .before .before .args .end .now)) (c .before .before .before .before .before .before .args .lo) (c .before .before .before .before .before .before .args .hi - c .before .before .before .before .before .before .args .lo)) _ (c .before .if1 .left) (c .held-bytes .ensures [] [] [] [] [])
 
