@@ -3,7 +3,6 @@ ghost use Prim.Native.Nat.{ℕ, _+_, _≤_, _<_};
 ghost use lib.ListN.{length};
 ghost use Rattle.model.specs.Words.{Says, Each};
 ghost use Rattle.model.specs.State.{at};
-ghost use Rattle.model.specs.Sound.{Finite};
 ghost use Rattle.soundstore.specs.Places.{PairsFrom};
 ghost use Rattle.soundstore.specs.Records.{InsideAt, BeforeAt, NumberedAt, FiniteAt, heldFrom, RecordsFit};
 ghost use Rattle.soundstore.specs.Pins.{PinBeforeAt, CountedAt, pinnedFrom, PinsFit};
@@ -91,25 +90,13 @@ fn all_numbered(id: &[u64], stamp: &[u64], next: u64, top: u64, a: usize, b: usi
     true
 }
 
-fn finite(x: f64) -> bool
-    ensures { λ r. ⌜ Says r (Finite x) ⌝ }
-{
-    let inf = 1.0 / 0.0;
-    if x < inf {
-        if -inf < x {
-            return true;
-        }
-    }
-    false
-}
-
 fn all_finite(touched: &[f64], a: usize, b: usize) -> bool
     requires { ⌜ b ≤ length (now touched) ⌝ }
     ensures { λ r. ⌜ Says r (Each a b (FiniteAt (now (touched .entry)))) ⌝ }
 {
     let mut i = a;
     while i < b {
-        if !finite(touched[i]) {
+        if !refuse::finite(touched[i]) {
             return false;
         }
         i += 1;

@@ -1,7 +1,7 @@
--- `soundstore::finite` meets its contract: finite is between the two infinities. Assumes nothing.
-use Rattle.soundstore.proofs.Infinities.{between, not-below, not-above, top, bottom}
-use Rattle.soundstore.proofs.finite.Statement.{statement}
-use Rattle.soundstore.proofs.finite.Tie as tie
+-- `refuse::finite` meets its contract: finite is between the two infinities. Assumes nothing.
+use Rattle.refuse.proofs.Infinities.{between, not-below, not-above, top, bottom}
+use Rattle.refuse.proofs.finite.Statement.{statement}
+use Rattle.refuse.proofs.finite.Tie as tie
 
 returns : tie.Need-returns
 returns c = between _ (rw top at (c .before .if1 .taken)) (rw bottom at (c .if2 .taken))

@@ -1,0 +1,2 @@
+pub mod Infinities
+pub mod Laws
