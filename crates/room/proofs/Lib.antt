@@ -1,0 +1,4 @@
+pub mod Trim
+pub mod Lookup
+pub mod After
+pub mod Room

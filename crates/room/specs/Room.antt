@@ -1,0 +1,77 @@
+-- Demand 3, as it is stated: two states that are equal but for one store's capacity, and what a lookup gives in all. Assumes nothing.
+use Prim.Native.Nat.{ℕ, _+_, _≤_}
+use mathlib.Core.Path.{_≡_}
+use mathlib.Core.List.{List, [], _∷_}
+use lib.ListN.{set}
+use Rattle.model.specs.State.{State, at}
+use lib.Ieee.{Float}
+use Rattle.model.specs.declared.Span.{Span}
+use Rattle.model.specs.Store.{storeOf}
+use Rattle.model.specs.Refusals.{OutList}
+use Rattle.model.specs.Calls.{Answer, refused, done, storeInsert, LookupLists, LookupAnswer, lookup}
+use Rattle.kepttouch.proofs.Holds.{Holds}
+
+-- the state with capacity c for store s, and all else as it is
+unfoldable pub withCapacity : ℕ → ℕ → State → State
+withCapacity s c st =
+    let b = st .books in
+    record {
+      tree = st .tree;
+      ranges = st .ranges;
+      pins = st .pins;
+      marks = st .marks;
+      bytes = st .bytes;
+      books = record {
+        stores = b .stores;
+        nextId = b .nextId;
+        stalls = b .stalls;
+        capacity = set (b .capacity) s c;
+        refreshes = b .refreshes;
+        records = b .records;
+        held = b .held;
+        stamp = b .stamp;
+        version = b .version;
+        entries = b .entries;
+        pinned = b .pinned;
+      };
+    }
+
+-- "two equal .. states but for one store's capacity, C in one and D in the other"
+pub record ButCapacity (s C D : ℕ) (a b : State) : Type 0 where
+  pub small : at (a .books .capacity) s ≡ C
+  pub large : at (b .books .capacity) s ≡ D
+  pub same : b ≡ withCapacity s D a
+
+-- "Both accept or both refuse alike"
+abbrev pub Alike : {A : Type 0} → Answer A → Answer A → Type 0
+Alike (refused n) (refused m) = n ≡ m
+Alike (refused n) (done b) = ⊥
+Alike (done a) (refused m) = ⊥
+Alike (done a) (done b) = Unit {0}
+
+-- "blocks in all": the sum over the tiers, 0 where the call was refused
+unfoldable pub sumOf : List ℕ → ℕ
+sumOf [] = 0
+sumOf (n ∷ ns) = n + sumOf ns
+
+abbrev pub blocksIn : Answer LookupAnswer → ℕ
+blocksIn (refused n) = 0
+blocksIn (done a) = sumOf (a .blocks)
+
+-- "the same insertion into that store. Both accept or both refuse alike; if accepted, every block kept under C is kept under D, and afterwards any hash list
+-- looked up through any one tier list gives at least as many blocks in all under D". A is under C and b under D; `Holds` says that a range has the block
+pub record MoreRoom (a b : State) (l : OutList) (s : ℕ) (sp : Span) (time : Float) (write : ℕ) : Type 0 where
+  pub alike : Alike (storeInsert a l s sp time write .answer) (storeInsert b l s sp time write .answer)
+  pub kept :
+      (v : ℕ) → storeInsert a l s sp time write .answer ≡ done v
+      → (n o : ℕ) → Holds (storeOf (storeInsert a l s sp time write .state) s .ranges) n o
+      → Holds (storeOf (storeInsert b l s sp time write .state) s .ranges) n o
+  pub readsAlike :
+      (v : ℕ) → storeInsert a l s sp time write .answer ≡ done v
+      → (k : LookupLists) (ts hs : List ℕ)
+      → Alike (lookup (storeInsert a l s sp time write .state) k ts hs .answer) (lookup (storeInsert b l s sp time write .state) k ts hs .answer)
+  pub reads :
+      (v : ℕ) → storeInsert a l s sp time write .answer ≡ done v
+      → (k : LookupLists) (ts hs : List ℕ)
+      → blocksIn (lookup (storeInsert a l s sp time write .state) k ts hs .answer)
+      ≤ blocksIn (lookup (storeInsert b l s sp time write .state) k ts hs .answer)

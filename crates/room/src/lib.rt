@@ -1,0 +1,1 @@
+// More room never shortens a reading: theorems of the definitions only.
