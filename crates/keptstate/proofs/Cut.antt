@@ -27,7 +27,7 @@ unfoldable pub sumTo : (ℕ → ℕ) → ℕ → ℕ
 sumTo f zero = 0
 sumTo f (suc n) = sumTo f n + f n
 
-sum-rises : (f : ℕ → ℕ) (m n : ℕ) → m ≤ n → sumTo f m ≤ sumTo f n
+pub sum-rises : (f : ℕ → ℕ) (m n : ℕ) → m ≤ n → sumTo f m ≤ sumTo f n
 unfolding sumTo
 sum-rises f m zero l = let e : m ≡ 0 = omega arith in rw e (le-refl 0)
 sum-rises f m (suc n) l = go (ℕ-discrete m (suc n)) (λ k. sum-rises f m n k)
@@ -53,26 +53,26 @@ abbrev pub needs : ℕ → ℕ → State → ℕ → ℕ
 needs j k st q = rangesAcross j k (storeOf st q .ranges)
 
 -- The state at the turn of store s, when st₀'s tree has become u: the stores from s on are as they were
-record Cutting (j k : ℕ) (st₀ : State) (u : Tree) (s : ℕ) (st : State) : Type 0 where
-  way : Midway (st₀ .tree) s st
-  tree : st .tree ≡ u
-  stores : st .books .stores ≡ st₀ .books .stores
-  nextId : st .books .nextId ≡ st₀ .books .nextId + sumTo (needs j k st₀) s
-  rest : (q : ℕ) → s ≤ q → q < st₀ .books .stores → storeOf st q ≡ storeOf st₀ q
+pub record Cutting (j k : ℕ) (st₀ : State) (u : Tree) (s : ℕ) (st : State) : Type 0 where
+  pub way : Midway (st₀ .tree) s st
+  pub tree : st .tree ≡ u
+  pub stores : st .books .stores ≡ st₀ .books .stores
+  pub nextId : st .books .nextId ≡ st₀ .books .nextId + sumTo (needs j k st₀) s
+  pub rest : (q : ℕ) → s ≤ q → q < st₀ .books .stores → storeOf st q ≡ storeOf st₀ q
 
-first-turn : (j k : ℕ) (st : State) (u : Tree) → Parts st → TreeSound u → Cutting j k st u 0 (withTree u st)
+pub first-turn : (j k : ℕ) (st : State) (u : Tree) → Parts st → TreeSound u → Cutting j k st u 0 (withTree u st)
 unfolding storeOf sumTo
 first-turn j k st u h tree =
     record { way = midway-start st u h tree; tree = refl; stores = refl; nextId = rw add-zero; rest = λ q low less. refl }
 
 -- what cutStoreIn makes of the state, to be opened alone
-cutIn : ℕ → ℕ → ℕ → ℕ → State → State
+pub cutIn : ℕ → ℕ → ℕ → ℕ → State → State
 cutIn j k m s st =
     let x = storeOf st s in
     let y = cutStore j k m (st .books .nextId) x in
     withNext (st .books .nextId + needs j k st s) (st .books .stalls) (withPins s (pinsAcross j k (x .pins)) y (withRanges s (needs j k st s) y st))
 
-cutIn-is : (j k m s : ℕ) (st : State) → cutIn j k m s st ≡ cutStoreIn j k m s st
+pub cutIn-is : (j k m s : ℕ) (st : State) → cutIn j k m s st ≡ cutStoreIn j k m s st
 unfolding cutIn cutStoreIn
 cutIn-is j k m s st = refl
 
@@ -85,10 +85,10 @@ module _ (j k m : ℕ) (st₀ : State) (u : Tree)
     (room : (q : ℕ) → q < st₀ .books .stores → Room j k (storeOf st₀ q))
     (last : st₀ .books .nextId + sumTo (needs j k st₀) (st₀ .books .stores) ≤ maxStamp) where
   module _ (s : ℕ) (st : State) (h : Cutting j k st₀ u s st) (less : s < st₀ .books .stores) where
-    inUse : s < st .books .stores
+    pub inUse : s < st .books .stores
     inUse = rw (h .stores) less
 
-    fits : Room j k (storeOf st s)
+    pub fits : Room j k (storeOf st s)
     fits = rw (h .rest s (le-refl s) less) (room s less)
 
     done : StoreCut j k m u (st .books .nextId) (storeOf st s)
@@ -119,7 +119,7 @@ module _ (j k m : ℕ) (st₀ : State) (u : Tree)
     unfolding cutIn withNext sumTo
     next-is = rw (h .rest s (le-refl s) less, h .nextId) (omega arith)
 
-    next-turn : Cutting j k st₀ u (suc s) (cutIn j k m s st)
+    pub next-turn : Cutting j k st₀ u (suc s) (cutIn j k m s st)
     unfolding cutIn withNext
     next-turn =
         let l : sumTo (needs j k st₀) (suc s) ≤ sumTo (needs j k st₀) (st₀ .books .stores) = sum-rises (needs j k st₀) (suc s) (st₀ .books .stores) less in

@@ -122,7 +122,7 @@ module _ (a : State) (s D : ℕ) (l : OutList) (sp : Span) (time : Float) (write
   unfolding withCapacity
   refused-alike ha hb e = rw (ha, hb, e) refl
 
-taken : (st : State) (l : OutList) (s : ℕ) (sp : Span) (time : Float) → Sound st → NoneHolds (storeInsertRefusals st l s sp time) → Taken st s sp time
+pub taken : (st : State) (l : OutList) (s : ℕ) (sp : Span) (time : Float) → Sound st → NoneHolds (storeInsertRefusals st l s sp time) → Taken st s sp time
 taken st l s sp time h (unsound, (short, (noStore, (badSpan, (badTime, (fewRecords, (late, end))))))) =
     record {
       sound = h;

@@ -1,0 +1,124 @@
+-- After the cut of node j at k every store has its own ranges, cut: each turn cuts one store and leaves the others. Assumes nothing.
+use Prim.Native.Nat.{ℕ, zero, suc, _+_, _≤_, _<_, zero-le}
+use mathlib.Core.Path.{_≡_, refl, sym, ap, subst, _∙_}
+use mathlib.Core.Logic.{_⊎_, inl, inr, _≢_}
+use mathlib.Core.List.{List, _++_}
+use native.Mathlib.Omega.{arith}
+use native.Mathlib.Nat.{le-refl, le-of-eq, zero-add}
+use native.Mathlib.Decide.{ℕ-discrete}
+use lib.ListN.{length}
+use Rattle.model.specs.Words.{Each}
+use Rattle.model.specs.Sizes.{maxNodes, maxStamp, storeRecords, storePins}
+use Rattle.model.specs.State.{Tree, State, Range, at}
+use Rattle.model.specs.Store.{Store, storeOf, withRanges, withPins, withNext}
+use Rattle.model.specs.Insert.{nextNode, cutTree, heads, tails, cutStore, cutStoreIn, cutStores, rangesAcross, pinsAcross, withTree, cut}
+use Rattle.laid.proofs.Store.{RangesFit, PinsFit, rangesFrom, pinsFrom, records-length, entries-length}
+use Rattle.kept.specs.StoreSound.{TreeSound, StoreSound, Parts}
+use Rattle.keptcut.proofs.CutTree.{cutTree-sound}
+use Rattle.keptcut.proofs.CutStore.{cutStore-ids, cutStore-length, cutStore-pins, cutStore-sound}
+use Rattle.keptstate.proofs.Laid.{Laid, laid-next, laid-both}
+use Rattle.keptstate.proofs.Changed.{midway-sizes}
+use Rattle.keptstate.proofs.Cut.{Room, StoreCut, needs, sumTo, Cutting, first-turn, cutIn-is, next-turn, inUse, fits}
+
+-- the ranges of store q are those it had, cut; new ids begin somewhere
+pub record WasCut (j k m : ℕ) (st₀ : State) (q : ℕ) (st : State) : Type 0 where
+  pub next : ℕ
+  pub ranges : storeOf st q .ranges ≡ heads j k (storeOf st₀ q .ranges) ++ tails j k m next (storeOf st₀ q .ranges)
+
+sides : (j k m next : ℕ) (x : Store) → pinsFrom (cutStore j k m next x) (rangesFrom (cutStore j k m next x) x) ≡ cutStore j k m next x
+unfolding cutStore
+sides j k m next x = refl
+
+cut-ranges : (j k m next : ℕ) (x : Store) → cutStore j k m next x .ranges ≡ heads j k (x .ranges) ++ tails j k m next (x .ranges)
+unfolding cutStore
+cut-ranges j k m next x = refl
+
+module _ (j k m : ℕ) (st₀ : State) (u : Tree)
+    (kept : (next : ℕ) (x : Store) → 1 ≤ next → StoreSound (st₀ .tree) next x → Room j k x → StoreCut j k m u next x)
+    (room : (q : ℕ) → q < st₀ .books .stores → Room j k (storeOf st₀ q))
+    (last : st₀ .books .nextId + sumTo (needs j k st₀) (st₀ .books .stores) ≤ maxStamp) where
+  module _ (s : ℕ) (st : State) (h : Cutting j k st₀ u s st) (less : s < st₀ .books .stores) where
+    has : s < st .books .stores
+    has = inUse j k m st₀ u kept room last s st h less
+
+    room-here : Room j k (storeOf st s)
+    room-here = fits j k m st₀ u kept room last s st h less
+
+    here : StoreCut j k m u (st .books .nextId) (storeOf st s)
+    here = kept (st .books .nextId) (storeOf st s) (h .way .frame .firstId) (h .way .from s (le-refl s) has) room-here
+
+    laid : Laid s (cutStore j k m (st .books .nextId) (storeOf st s)) st (cutStoreIn j k m s st)
+    unfolding cutStoreIn
+    laid =
+        let x = storeOf st s in
+        let y = cutStore j k m (st .books .nextId) x in
+        let fit : RangesFit st s (needs j k st s) y = record {
+          ranges = omega (arith, here .few, records-length st s);
+          room = omega (arith, room-here .records, records-length st s);
+          marks = here .sound .marks .long;
+        } in
+        let fitPins : PinsFit st s (pinsAcross j k (x .pins)) y = record {
+          pins = omega (arith, here .fewPins, entries-length st s);
+          room = omega (arith, room-here .entries, entries-length st s);
+        } in
+        laid-next (st .books .nextId + needs j k st s) (st .books .stalls)
+        (laid-both st s (needs j k st s) y (midway-sizes (st₀ .tree) s st (h .way)) has (pinsAcross j k (x .pins))
+        (sides j k m (st .books .nextId) x) fit fitPins)
+
+    -- the stores below s were cut, and store s is now
+    one-more : ((q : ℕ) → q < s → WasCut j k m st₀ q st) → (q : ℕ) → q < suc s → WasCut j k m st₀ q (cutStoreIn j k m s st)
+    one-more before q below = go (ℕ-discrete q s)
+      where
+        go : Dec (q ≡ s) → WasCut j k m st₀ q (cutStoreIn j k m s st)
+        go (yes e) =
+            rw e
+            (record {
+              next = st .books .nextId;
+              ranges =
+                  ap (λ x. x .ranges) (laid .own)
+                  ∙ (cut-ranges j k m (st .books .nextId) (storeOf st s)
+                  ∙ ap (λ x. heads j k (x .ranges) ++ tails j k m (st .books .nextId) (x .ranges)) (h .rest s (le-refl s) less));
+            })
+        go (no e) =
+            let b = before q (omega arith) in
+            record { next = b .next; ranges = ap (λ x. x .ranges) (laid .other q e (omega (arith, h .stores))) ∙ b .ranges }
+
+  turns : (n s : ℕ) (st : State) → Cutting j k st₀ u s st → s + n ≡ st₀ .books .stores → ((q : ℕ) → q < s → WasCut j k m st₀ q st)
+      → (q : ℕ) → q < st₀ .books .stores → WasCut j k m st₀ q (cutStores j k m s n st)
+  unfolding cutStores
+  turns zero s st h e before q below = before q (omega arith)
+  turns (suc n) s st h e before q below =
+      turns n (suc s) (cutStoreIn j k m s st)
+      (subst (Cutting j k st₀ u (suc s)) (cutIn-is j k m s st) (next-turn j k m st₀ u kept room last s st h (omega arith))) (omega arith)
+      (one-more s st h (omega arith) before) q below
+
+-- the cut of the whole state
+pub stores-cut : (j k : ℕ) (st : State) → Parts st → 1 ≤ j → j < st .tree .nodes → 0 < k → k < at (st .tree .len) j → st .tree .nodes < maxNodes
+    → Each 0 (st .books .stores) (λ s. at (st .books .records) s + needs j k st s ≤ storeRecords)
+    → Each 0 (st .books .stores) (λ s. at (st .books .entries) s + pinsAcross j k (storeOf st s .pins) ≤ storePins)
+    → st .books .nextId + sumTo (needs j k st) (st .books .stores) ≤ maxStamp
+    → (q : ℕ) → q < st .books .stores → WasCut j k (nextNode (st .tree)) st q (cut j k st)
+unfolding cut
+stores-cut j k st h low inUse some inside few records entries last =
+    turns j k m st u kept room last (st .books .stores) 0 (withTree u st) (first-turn j k st u h sound) (zero-add _) (λ q l. absurd (omega arith))
+  where
+    m : ℕ
+    m = nextNode (st .tree)
+
+    u : Tree
+    u = cutTree j k (st .tree)
+
+    sound : TreeSound u
+    sound = cutTree-sound j k (st .tree) (h .tree) low inUse some inside few
+
+    kept : (next : ℕ) (x : Store) → 1 ≤ next → StoreSound (st .tree) next x → Room j k x → StoreCut j k m u next x
+    kept next x first s r =
+        record {
+          sound = cutStore-sound j k (st .tree) (h .tree) low inUse few s (r .records) (r .entries);
+          ids = cutStore-ids j k m next x;
+          few = le-of-eq (cutStore-length j k m next x);
+          fewPins = cutStore-pins j k m next x;
+        }
+
+    room : (q : ℕ) → q < st .books .stores → Room j k (storeOf st q)
+    room q less = record { records = rw records-length (records q zero-le less); entries = rw entries-length (entries q zero-le less) }

@@ -1,0 +1,126 @@
+-- A history is exact where each store holds just the blocks it names. A call that leaves the tree keeps it so where it holds what it held or brought in and
+-- did not give up; a call that only moves blocks keeps it so where no name changes. Assumes nothing.
+use Prim.Native.Nat.{ℕ, zero, suc, _+_, _≤_, _<_, zero-le}
+use mathlib.Core.Path.{_≡_, refl, sym, ap, subst, _∙_}
+use mathlib.Core.Logic.{_⊎_, inl, inr, ⊎-elim}
+use mathlib.Core.List.{List, [], _∷_}
+use native.Mathlib.Omega.{arith}
+use Rattle.model.specs.declared.Span.{Span}
+use Rattle.model.specs.State.{Tree, State, Range, at}
+use Rattle.model.specs.Sound.{Sound, Inside}
+use Rattle.model.specs.Store.{storeOf}
+use Rattle.model.specs.Refusals.{SpanIn}
+use Rattle.kept.specs.Facts.{All}
+use Rattle.kept.specs.StoreSound.{TreeSound, Parts}
+use Rattle.keptstate.proofs.Parts.{sound-parts}
+use Rattle.kepttouch.proofs.Holds.{Holds, InSpan}
+use Rattle.history.specs.Names.{nameOf, Named, Stored}
+use Rattle.history.specs.History.{Call, after, BroughtIn, Gone, History, next}
+use Rattle.history.proofs.Names.{same-name}
+
+-- ---- blocks of the tree
+
+pub record Real (t : Tree) (n o : ℕ) : Type 0 where
+  pub root : 1 ≤ n
+  pub node : n < t .nodes
+  pub offset : o < at (t .len) n
+
+real : (t : Tree) → TreeSound t → (n o : ℕ) → n < t .nodes → o < at (t .len) n → Real t n o
+real t h zero o l m = absurd (omega (arith, h .root .len))
+real t h (suc n) o l m = record { root = omega arith; node = l; offset = m }
+
+held-in : (t : Tree) → TreeSound t → (rs : List Range) → All (Inside t) rs → (n o : ℕ) → Holds rs n o → Real t n o
+unfolding Holds All
+held-in t h [] a n o w = absurd w
+held-in t h (r ∷ rs) a n o (inl w) =
+    let e = w .node in
+    real t h n o (subst (λ k. k < t .nodes) e (a .0 .inUse)) (omega (arith, w .high, subst (λ k. r .end ≤ at (t .len) k) e (a .0 .ends)))
+held-in t h (r ∷ rs) a n o (inr w) = held-in t h rs (a .1) n o w
+
+pub real-parts : (st : State) (q : ℕ) → Parts st → q < st .books .stores → (n o : ℕ) → Holds (storeOf st q .ranges) n o → Real (st .tree) n o
+real-parts st q h less = held-in (st .tree) (h .tree) (storeOf st q .ranges) (h .each q zero-le less .ranges .inside)
+
+pub real-held : (st : State) (q : ℕ) → Sound st → q < st .books .stores → (n o : ℕ) → Holds (storeOf st q .ranges) n o → Real (st .tree) n o
+real-held st q h less = real-parts st q (sound-parts st h) less
+
+pub real-span : (st : State) (sp : Span) → Sound st → SpanIn (st .tree) sp → (n o : ℕ) → InSpan sp n o → Real (st .tree) n o
+real-span st sp h s n o i =
+    real (st .tree) (sound-parts st h .tree) n o (omega (arith, i .node, s .node)) (rw (i .node) (omega (arith, i .high, s .ends)))
+
+pub same-block : (st : State) → Sound st → (n o m p : ℕ) → Real (st .tree) n o → Real (st .tree) m p → nameOf (st .tree) n o ≡ nameOf (st .tree) m p
+    → (n ≡ m) × (o ≡ p)
+same-block st h n o m p a b e =
+    same-name (st .tree) (sound-parts st h .tree) n o m p (a .root) (a .node) (a .offset) (b .root) (b .node) (b .offset) e
+
+-- ---- exact
+
+pub record Exact (st : State) (h : History) : Type 0 where
+  pub only : (q : ℕ) (w : List ℕ) → q < st .books .stores → Stored st q w → h q w
+  pub all : (q : ℕ) (w : List ℕ) → h q w → (q < st .books .stores) × Stored st q w
+
+-- what a call that leaves the tree does to the blocks of each store
+pub record Changes (c : Call) (a b : State) : Type 0 where
+  pub tree : b .tree ≡ a .tree
+  pub stores : b .books .stores ≡ a .books .stores
+  pub came : (q n o : ℕ) → q < a .books .stores → Holds (storeOf b q .ranges) n o → Holds (storeOf a q .ranges) n o ⊎ BroughtIn c a q n o
+  pub stayed : (q n o : ℕ) → q < a .books .stores → Holds (storeOf b q .ranges) n o → Gone c a q n o → ⊥
+  pub kept :
+      (q n o : ℕ) → q < a .books .stores → Holds (storeOf a q .ranges) n o ⊎ BroughtIn c a q n o → (Gone c a q n o → ⊥) → Holds (storeOf b q .ranges) n o
+  pub inUse : (q n o : ℕ) → BroughtIn c a q n o → q < a .books .stores
+  pub goneReal : (q n o : ℕ) → Gone c a q n o → Real (a .tree) n o
+
+module _ (c : Call) (a b : State) (h : History) (s : Sound a) (t : Sound b) (k : Changes c a b) (e : Exact a h) where
+  only-of : (q : ℕ) (w : List ℕ) → q < b .books .stores → Stored b q w → next c a h q w
+  only-of q w l x =
+      let less : q < a .books .stores = rw (k .stores) at l in
+      let n = x .node in
+      let o = x .offset in
+      let name : nameOf (a .tree) n o ≡ w = subst (λ z. nameOf z n o ≡ w) (k .tree) (x .name) in
+      let there : Real (a .tree) n o = subst (λ z. Real z n o) (k .tree) (real-held b q t l n o (x .is)) in (
+        ⊎-elim (λ y. inl (e .only q w less (record { node = n; offset = o; is = y; name = name })))
+            (λ y. inr (record { node = n; offset = o; is = y; name = name })) (k .came q n o less (x .is)),
+        λ g.
+            let same = same-block a s (g .node) (g .offset) n o (k .goneReal q (g .node) (g .offset) (g .is)) there (g .name ∙ sym name) in
+            k .stayed q n o less (x .is) (subst (Gone c a q n) (same .1) (subst (λ z. Gone c a q z (g .offset)) (same .0) (g .is))),
+      )
+
+  back : (q : ℕ) (w : List ℕ) (P : ℕ → ℕ → Type 0) → q < a .books .stores → ((n o : ℕ) → P n o → Holds (storeOf a q .ranges) n o ⊎ BroughtIn c a q n o)
+      → Named (a .tree) P w → (Named (a .tree) (Gone c a q) w → ⊥) → (q < b .books .stores) × Stored b q w
+  back q w P less f x g = (
+    rw (k .stores) less,
+    record {
+      node = x .node;
+      offset = x .offset;
+      is = k .kept q (x .node) (x .offset) less (f (x .node) (x .offset) (x .is))
+          (λ y. g (record { node = x .node; offset = x .offset; is = y; name = x .name }));
+      name = subst (λ z. nameOf z (x .node) (x .offset) ≡ w) (sym (k .tree)) (x .name);
+    },
+  )
+
+  all-of : (q : ℕ) (w : List ℕ) → next c a h q w → (q < b .books .stores) × Stored b q w
+  all-of q w (inl x, g) = let y = e .all q w x in back q w (Holds (storeOf a q .ranges)) (y .0) (λ n o z. inl z) (y .1) g
+  all-of q w (inr x, g) = back q w (BroughtIn c a q) (k .inUse q (x .node) (x .offset) (x .is)) (λ n o z. inr z) x g
+
+  pub changes-exact : Exact b (next c a h)
+  changes-exact = record { only = only-of; all = all-of }
+
+-- a call that brings nothing in and gives nothing up, and after which every store has the names it had
+pub record Moves (c : Call) (a b : State) : Type 0 where
+  pub none : (q n o : ℕ) → BroughtIn c a q n o → ⊥
+  pub nothing : (q n o : ℕ) → Gone c a q n o → ⊥
+  pub stores : b .books .stores ≡ a .books .stores
+  pub came : (q : ℕ) (w : List ℕ) → q < a .books .stores → Stored b q w → Stored a q w
+  pub kept : (q : ℕ) (w : List ℕ) → q < a .books .stores → Stored a q w → Stored b q w
+
+pub moves-exact : (c : Call) (a b : State) (h : History) → Moves c a b → Exact a h → Exact b (next c a h)
+moves-exact c a b h k e =
+    record {
+      only =
+          λ q w l x.
+          let less : q < a .books .stores = rw (k .stores) at l in
+          (inl (e .only q w less (k .came q w less x)), λ g. k .nothing q (g .node) (g .offset) (g .is));
+      all =
+          λ q w x.
+          ⊎-elim (λ y. let z = e .all q w y in (rw (k .stores) (z .0), k .kept q w (z .0) (z .1)))
+          (λ y. absurd (k .none q (y .node) (y .offset) (y .is))) (x .0);
+    }

@@ -1,0 +1,181 @@
+-- Demand 2's history: after any calls from set-up, accepted or refused, each store's ranges are sorted and disjoint and hold exactly the blocks brought in
+-- and not since given out or removed, and held is their number. Assumes nothing.
+use Prim.Native.Nat.{ℕ, zero, suc, _+_, _≤_, _<_, zero-le}
+use mathlib.Core.Bool.{Bool}
+use mathlib.Core.Path.{_≡_, refl, sym, ap, subst, _∙_}
+use mathlib.Core.Logic.{_⊎_, inl, inr, ⊎-elim}
+use mathlib.Core.List.{List, [], _∷_}
+use native.Mathlib.Omega.{arith}
+use lib.ListN.{length, replicate}
+use Rattle.model.specs.State.{State, Range, at}
+use Rattle.model.specs.Sound.{Sound}
+use Rattle.model.specs.Store.{storeOf, ranges, total}
+use Rattle.model.specs.SetUp.{setUpState, zeros}
+use Rattle.model.specs.Refusals.{firstOf, setUpRefusals}
+use Rattle.model.specs.Calls as Calls
+use Rattle.model.specs.Calls.{Answer, refused, done, Outcome, NoList, NoValue, unless}
+use Rattle.sure.proofs.Refused.{setUp-kept}
+use Rattle.kept.specs.StoreSound.{StoreSound}
+use Rattle.keptcalls.proofs.Accepted.{unless-done, set-up-fits}
+use Rattle.keptcalls.proofs.Stores.{store-sound}
+use Rattle.keptcalls.proofs.Calls as Kept
+use Rattle.laid.proofs.SetUp as Set
+use Rattle.kepttouch.proofs.Holds.{Holds}
+use Rattle.history.specs.Names.{Named, Stored}
+use Rattle.history.specs.History.{Call, setUp, resolve, insert, storeInsert, storeUsed, storeRemove, storeExpire, pinSource, unpinSource, lookup, count, after, IfDone, BroughtIn, Gone, History, next, since, run, nothing, Exactly}
+use Rattle.history.proofs.Exact.{Exact}
+use Rattle.history.proofs.Steps.{still, unless-at, none-where, storeInsert-exact, storeRemove-exact, storeExpire-exact, storeUsed-exact, pin-exact, unpin-exact}
+use Rattle.history.proofs.Insert.{insert-exact}
+
+-- ---- set-up
+
+zero-at : (n q : ℕ) → at (replicate n 0) q ≡ 0
+zero-at zero q = refl
+zero-at (suc n) zero = refl
+zero-at (suc n) (suc q) = zero-at n q
+
+no-ranges : (st : State) (q n : ℕ) → n ≡ 0 → ranges (st .ranges) q n ≡ []
+unfolding ranges
+no-ranges st q zero e = refl
+no-ranges st q (suc n) e = absurd (omega arith)
+
+fresh-empty : (pools : State) (table capacity : List ℕ) (refreshes : List Bool) (q n o : ℕ)
+    → Holds (storeOf (setUpState pools table capacity refreshes) q .ranges) n o → ⊥
+unfolding setUpState storeOf Holds
+fresh-empty pools table capacity refreshes q n o h =
+    subst (λ rs. Holds rs n o) (no-ranges pools _ (at zeros q) (zero-at 8 q)) h
+
+module _ (a : State) (table capacity : List ℕ) (refreshes : List Bool) where
+  abbrev n₀ : ℕ
+  n₀ = firstOf (setUpRefusals a table capacity refreshes)
+
+  made : Outcome NoList NoValue
+  made = record { state = setUpState a table capacity refreshes; lists = tt; answer = done tt }
+
+  outcome-is : (n : ℕ) → n₀ ≡ n → Calls.setUp a table capacity refreshes ≡ unless n a tt made
+  unfolding Calls.setUp made
+  outcome-is n e = unless-at n₀ n a tt made e
+
+  -- what a fresh state holds
+  fresh-exact : (h : History) → ((q : ℕ) (w : List ℕ) → h q w → ⊥) → Exact (setUpState a table capacity refreshes) h
+  fresh-exact h none =
+      record {
+        only = λ q w l x. absurd (fresh-empty a table capacity refreshes q (x .node) (x .offset) (x .is));
+        all = λ q w x. absurd (none q w x);
+      }
+
+  module _ (h : History) (exact : Exact a h) where
+    abbrev c : Call
+    c = setUp table capacity refreshes
+
+    set-refused : (n : ℕ) → n₀ ≡ suc n → Exact (Calls.setUp a table capacity refreshes .state) (next c a h)
+    unfolding BroughtIn Gone
+    set-refused n e =
+        let is = outcome-is (suc n) e in
+        still c a (Calls.setUp a table capacity refreshes .state) h (ap (λ (z : Outcome NoList NoValue). z .state) is) (λ q v o x. x)
+        (λ q v o x. subst (λ (z : Outcome NoList NoValue). IfDone (z .answer) (λ k. Unit {0})) is x) exact
+
+    all-gone : n₀ ≡ 0 → (q v o : ℕ) → Gone c a q v o
+    unfolding Gone made
+    all-gone e q v o = subst (λ (z : Outcome NoList NoValue). IfDone (z .answer) (λ k. Unit {0})) (sym (outcome-is 0 e)) tt
+
+    emptied : n₀ ≡ 0 → (q : ℕ) (w : List ℕ) → next c a h q w → ⊥
+    unfolding BroughtIn
+    emptied e q w (inl x, g) =
+        let y = exact .all q w x .1 in
+        g (record { node = y .node; offset = y .offset; is = all-gone e q (y .node) (y .offset); name = y .name })
+    emptied e q w (inr x, g) = x .is
+
+    set-accepted : n₀ ≡ 0 → Exact (Calls.setUp a table capacity refreshes .state) (next c a h)
+    unfolding made
+    set-accepted e =
+        subst (λ (z : Outcome NoList NoValue). Exact (z .state) (next c a h)) (sym (outcome-is 0 e)) (fresh-exact (next c a h) (emptied e))
+
+    setUp-exact : Exact (Calls.setUp a table capacity refreshes .state) (next c a h)
+    setUp-exact = go n₀ refl
+      where
+        go : (n : ℕ) → n₀ ≡ n → Exact (Calls.setUp a table capacity refreshes .state) (next c a h)
+        go zero e = set-accepted e
+        go (suc n) e = set-refused n e
+
+  accepted-sound : n₀ ≡ 0 → Sound (Calls.setUp a table capacity refreshes .state)
+  unfolding made
+  accepted-sound e = Kept.setUp-sound a table capacity refreshes (ap (λ (z : Outcome NoList NoValue). z .answer) (outcome-is 0 e))
+
+  setUp-stays : Sound a → Sound (Calls.setUp a table capacity refreshes .state)
+  setUp-stays s = go n₀ refl
+    where
+      go : (n : ℕ) → n₀ ≡ n → Sound (Calls.setUp a table capacity refreshes .state)
+      go zero e = accepted-sound e
+      go (suc n) e = subst (λ (z : Outcome NoList NoValue). Sound (z .state)) (sym (outcome-is (suc n) e)) s
+
+-- ---- any call
+
+call-sound : (c : Call) (a : State) → Sound a → Sound (after c a)
+unfolding after
+call-sound (setUp table capacity refreshes) a s = setUp-stays a table capacity refreshes s
+call-sound (resolve l hs) a s = Kept.resolve-sound a l hs s
+call-sound (insert l hs) a s = Kept.insert-sound a l hs s
+call-sound (storeInsert l k sp time write) a s = Kept.storeInsert-sound a l k sp time write s
+call-sound (storeUsed k sps time counted) a s = Kept.storeUsed-sound a k sps time counted s
+call-sound (storeRemove l k sp) a s = Kept.storeRemove-sound a l k sp s
+call-sound (storeExpire l k now seconds) a s = Kept.storeExpire-sound a l k now seconds s
+call-sound (pinSource k sp) a s = Kept.pin-sound a k sp s
+call-sound (unpinSource k sp) a s = Kept.unpin-sound a k sp s
+call-sound (lookup l ts hs) a s = Kept.lookup-sound a l ts hs s
+call-sound (count k) a s = Kept.held-sound a k s
+
+call-exact : (c : Call) (a : State) (h : History) → Sound a → Exact a h → Exact (after c a) (next c a h)
+unfolding after BroughtIn Gone
+call-exact (setUp table capacity refreshes) a h s e = setUp-exact a table capacity refreshes h e
+call-exact (resolve l hs) a h s e = still (resolve l hs) a (Calls.resolveCall a l hs .state) h (Kept.resolve-same a l hs) (λ q n o x. x) (λ q n o x. x) e
+call-exact (insert l hs) a h s e = insert-exact a l hs h s e
+call-exact (storeInsert l k sp time write) a h s e = storeInsert-exact a l k sp time write h s e
+call-exact (storeUsed k sps time counted) a h s e = storeUsed-exact a k sps time counted h s e
+call-exact (storeRemove l k sp) a h s e = storeRemove-exact a l k sp h s e
+call-exact (storeExpire l k now seconds) a h s e = storeExpire-exact a l k now seconds h s e
+call-exact (pinSource k sp) a h s e = pin-exact a k sp h e
+call-exact (unpinSource k sp) a h s e = unpin-exact a k sp h e
+call-exact (lookup l ts hs) a h s e =
+    still (lookup l ts hs) a (Calls.lookup a l ts hs .state) h (Kept.lookup-same a l ts hs) (λ q n o x. x) (λ q n o x. x) e
+call-exact (count k) a h s e = still (count k) a (Calls.heldCall a k .state) h (Kept.held-same a k) (λ q n o x. x) (λ q n o x. x) e
+
+-- ---- any calls
+
+pub run-sound : (a : State) (cs : List Call) → Sound a → Sound (run a cs)
+unfolding run
+run-sound a [] s = s
+run-sound a (c ∷ cs) s = run-sound (after c a) cs (call-sound c a s)
+
+run-exact : (a : State) (cs : List Call) (h : History) → Sound a → Exact a h → Exact (run a cs) (since h a cs)
+unfolding run since
+run-exact a [] h s e = e
+run-exact a (c ∷ cs) h s e = run-exact (after c a) cs (next c a h) (call-sound c a s) (call-exact c a h s e)
+
+held-is : (st : State) (q : ℕ) → at (st .books .held) q ≡ storeOf st q .held
+unfolding storeOf
+held-is st q = refl
+
+start-exact : (pools : State) (table capacity : List ℕ) (refreshes : List Bool) → Calls.setUp pools table capacity refreshes .answer ≡ done tt
+    → Exact (Calls.setUp pools table capacity refreshes .state) nothing
+unfolding Calls.setUp
+start-exact pools table capacity refreshes e =
+    let a = unless-done _ _ _ (setUp-kept pools table capacity refreshes) tt e in
+    rw (a .state) (fresh-exact pools table capacity refreshes nothing (λ q w x. x))
+
+-- "After any calls from set-up"
+pub history : (pools : State) (table capacity : List ℕ) (refreshes : List Bool) → Calls.setUp pools table capacity refreshes .answer ≡ done tt
+    → (cs : List Call) (q : ℕ)
+    → q < run (Calls.setUp pools table capacity refreshes .state) cs .books .stores
+    → Exactly (run (Calls.setUp pools table capacity refreshes .state) cs) (since nothing (Calls.setUp pools table capacity refreshes .state) cs) q
+history pools table capacity refreshes e cs q l =
+    let s = Kept.setUp-sound pools table capacity refreshes e in
+    let st = Calls.setUp pools table capacity refreshes .state in
+    let x = run-exact st cs nothing s (start-exact pools table capacity refreshes e) in
+    let own = store-sound (run st cs) q (run-sound st cs s) l in
+    record {
+      sorted = own .ranges .sorted;
+      number = held-is (run st cs) q ∙ own .held;
+      only = λ w. x .only q w l;
+      all = λ w y. x .all q w y .1;
+    }

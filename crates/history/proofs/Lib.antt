@@ -1,0 +1,9 @@
+pub mod Names
+pub mod Grown
+pub mod Blocks
+pub mod CutStores
+pub mod Exact
+pub mod Stores
+pub mod Steps
+pub mod Insert
+pub mod History

@@ -1,0 +1,613 @@
+-- Each public call keeps the history exact: a refused one and one that only reads leave all as it was; the others by what they do to the blocks of their
+-- store, and an insert by what it does to names. Assumes nothing.
+use Prim.Native.Nat.{ℕ, zero, suc, _+_, _-_, _≤_, _<_, zero-le}
+use mathlib.Core.Bool.{Bool, true, false}
+use mathlib.Core.Path.{_≡_, refl, sym, ap, subst, _∙_}
+use mathlib.Core.Logic.{_⊎_, inl, inr, ⊎-elim, _≢_}
+use mathlib.Core.List.{List, [], _∷_}
+use native.Mathlib.Omega.{arith}
+use native.Mathlib.Nat.{le-refl, add-zero}
+use native.Mathlib.Decide.{ℕ-discrete}
+use lib.ListN.{length}
+use lib.Ieee.{Float}
+use Rattle.model.specs.declared.Span.{Span}
+use Rattle.model.specs.Sizes.{storeRecords, maxStamp}
+use Rattle.model.specs.State.{State, Range, at}
+use Rattle.model.specs.Sound.{Sound, Finite}
+use Rattle.model.specs.Store.{Store, storeOf, withRanges, withPins, withNext}
+use Rattle.model.specs.Remove.{Removed, remove}
+use Rattle.model.specs.Expire.{Expired, expire, expireBy, oldest}
+use Rattle.model.specs.Pins.{pin, pinNeed, unpin}
+use Rattle.model.specs.Refusals.{Condition, firstOf, OutList, SpanIn, noSpan, touchedBy, touchSpan, turnRefusals, storeInsertRefusals, storeUsedRefusals, storeRemoveRefusals, storeExpireRefusals, pinRefusals, unpinRefusals}
+use Rattle.model.specs.Calls as Calls
+use Rattle.model.specs.Calls.{Outcome, Answer, refused, done, unless, layOuts, front, brought, bringIn, touchSpans, bytesTouched}
+use Rattle.sure.specs.Refused.{KeptWhenRefused}
+use Rattle.sure.proofs.Refused.{storeInsert-kept, storeUsed-kept, storeRemove-kept, storeExpire-kept, pin-kept, unpin-kept}
+use Rattle.laid.proofs.Store.{Roomy, sound-roomy, RangesFit, records-length, ranges-read, ranges-other, next-store}
+use Rattle.kept.specs.Facts.{All}
+use Rattle.kept.specs.StoreSound.{StoreSound}
+use Rattle.keptbring.proofs.Facts.{all-from}
+use Rattle.keptbring.proofs.Expire.{expire-sound, expire-length}
+use Rattle.kepttouch.proofs.Holds.{Holds, InSpan}
+use Rattle.kepttouch.proofs.Touch.{touch-holds, touch-length, touch-sound}
+use Rattle.kepttouch.proofs.Remove.{remove-holds, remove-length, remove-sound}
+use Rattle.keptcalls.proofs.Accepted.{NoneHolds, unless-done, neither, span-in, is-finite}
+use Rattle.keptcalls.proofs.Stores.{store-sound, removedBy, touchSpan-sound}
+use Rattle.keptcalls.proofs.Calls.{storeInsert-sound, storeUsed-sound, storeRemove-sound, storeExpire-sound, pin-sound, unpin-sound, resolve-same, lookup-same, held-same}
+use Rattle.room.proofs.After.{Taken, own, others, tree-stays, stores-stay}
+use Rattle.room.proofs.Room.{taken}
+use Rattle.history.specs.Names.{nameOf, Named, Stored}
+use Rattle.history.specs.History.{Call, setUp, resolve, insert, storeInsert, storeUsed, storeRemove, storeExpire, pinSource, unpinSource, lookup, count, after, IfDone, Listed, BroughtIn, Gone, History, next}
+use Rattle.history.proofs.Blocks.{InOuts, Split}
+use Rattle.history.proofs.Exact.{Real, real-held, real-span, Exact, Changes, changes-exact, Moves, moves-exact}
+use Rattle.history.proofs.Stores.{Filled, bring-filled, expire-filled, listed-out, out-listed}
+
+-- ---- a call that leaves the state as it was and tells of no block
+
+pub still : (c : Call) (a b : State) (h : History) → b ≡ a → ((q n o : ℕ) → BroughtIn c a q n o → ⊥) → ((q n o : ℕ) → Gone c a q n o → ⊥) → Exact a h
+    → Exact b (next c a h)
+still c a b h e f g =
+    moves-exact c a b h
+    (record {
+      none = f;
+      nothing = g;
+      stores = ap (λ x. x .books .stores) e;
+      came = λ q w l x. subst (λ z. Stored z q w) e x;
+      kept = λ q w l x. subst (λ z. Stored z q w) (sym e) x;
+    })
+
+-- no condition holds where the first number is 0
+pub unless-at : {L A : Type 0} (n m : ℕ) (x : State) (l : L) (o : Outcome L A) → n ≡ m → unless n x l o ≡ unless m x l o
+unless-at n m x l o e = ap (λ k. unless k x l o) e
+
+pub none-where : {L A : Type 0} {cs : List Condition} {st : State} {l : L} (st′ : State) (l′ : L) (v : A)
+    → KeptWhenRefused cs st l (unless (firstOf cs) st l (record { state = st′; lists = l′; answer = done v })) → firstOf cs ≡ 0 → NoneHolds cs
+none-where {cs = cs} {st = st} {l = l} st′ l′ v k e =
+    unless-done st′ l′ v k v (ap (λ (o : Outcome _ _). o .answer) (unless-at (firstOf cs) 0 st l (record { state = st′; lists = l′; answer = done v }) e)) .none
+
+stamp-is : (st : State) (s : ℕ) → storeOf st s .stamp ≡ at (st .books .stamp) s
+unfolding storeOf
+stamp-is st s = refl
+
+-- ---- a store of the state with other ranges
+
+module _ (st : State) (s need nextId stalls : ℕ) (y : Store) (h : Sound st) (less : s < st .books .stores) (fit : RangesFit st s need y) where
+  laid-own : storeOf (withNext nextId stalls (withRanges s need y st)) s .ranges ≡ y .ranges
+  laid-own = ap (λ x. x .ranges) (next-store nextId stalls (withRanges s need y st) s ∙ ranges-read st s need y (sound-roomy st s h less) fit)
+
+  laid-other : (q : ℕ) → q ≢ s → q < st .books .stores → storeOf (withNext nextId stalls (withRanges s need y st)) q ≡ storeOf st q
+  laid-other q other l =
+      next-store nextId stalls (withRanges s need y st) q
+      ∙ ranges-other st s need y (sound-roomy st s h less) fit q other (sound-roomy st q h l .records)
+
+-- ---- a call that changes the ranges of store s alone: it has rs then, `In` was brought in and `Out` given up
+
+record OneStore (c : Call) (a b : State) (s : ℕ) (rs : List Range) (In Out : ℕ → ℕ → Type 0) : Type 0 where
+  less : s < a .books .stores
+  tree : b .tree ≡ a .tree
+  stores : b .books .stores ≡ a .books .stores
+  own : storeOf b s .ranges ≡ rs
+  other : (q : ℕ) → q ≢ s → q < a .books .stores → storeOf b q ≡ storeOf a q
+  inOf : (q v o : ℕ) → q ≡ s → In v o → BroughtIn c a q v o
+  ofIn : (q v o : ℕ) → BroughtIn c a q v o → (q ≡ s) × In v o
+  goneOf : (q v o : ℕ) → q ≡ s → Out v o → Gone c a q v o
+  ofGone : (q v o : ℕ) → Gone c a q v o → (q ≡ s) × Out v o
+  came : (v o : ℕ) → Holds rs v o → Holds (storeOf a s .ranges) v o ⊎ In v o
+  stayed : (v o : ℕ) → Holds rs v o → Out v o → ⊥
+  kept : (v o : ℕ) → Holds (storeOf a s .ranges) v o ⊎ In v o → (Out v o → ⊥) → Holds rs v o
+  outReal : (v o : ℕ) → Out v o → Real (a .tree) v o
+
+module _ {c : Call} {a b : State} {s : ℕ} {rs : List Range} {In Out : ℕ → ℕ → Type 0} (k : OneStore c a b s rs In Out) where
+  one-came : (q v o : ℕ) → q < a .books .stores → Dec (q ≡ s) → Holds (storeOf b q .ranges) v o → Holds (storeOf a q .ranges) v o ⊎ BroughtIn c a q v o
+  one-came q v o less (yes i) = rw (i, k .own) (λ x. ⊎-elim (λ y. inl y) (λ y. inr (k .inOf s v o refl y)) (k .came v o x))
+  one-came q v o less (no i) = rw (k .other q i less) (λ x. inl x)
+
+  one-stayed : (q v o : ℕ) → q < a .books .stores → Dec (q ≡ s) → Holds (storeOf b q .ranges) v o → Gone c a q v o → ⊥
+  one-stayed q v o less (yes i) = rw (i, k .own) (λ x g. k .stayed v o x (k .ofGone s v o g .1))
+  one-stayed q v o less (no i) = λ x g. i (k .ofGone q v o g .0)
+
+  one-kept : (q v o : ℕ) → q < a .books .stores → Dec (q ≡ s) → Holds (storeOf a q .ranges) v o ⊎ BroughtIn c a q v o → (Gone c a q v o → ⊥)
+      → Holds (storeOf b q .ranges) v o
+  one-kept q v o less (yes i) =
+      rw (i, k .own)
+      (λ x g. k .kept v o (⊎-elim (λ y. inl y) (λ y. inr (k .ofIn s v o y .1)) x) (λ z. g (k .goneOf s v o refl z)))
+  one-kept q v o less (no i) = rw (k .other q i less) (λ x g. ⊎-elim (λ y. y) (λ y. absurd (i (k .ofIn q v o y .0))) x)
+
+  one-changes : Changes c a b
+  one-changes =
+      record {
+        tree = k .tree;
+        stores = k .stores;
+        came = λ q v o less. one-came q v o less (ℕ-discrete q s);
+        stayed = λ q v o less. one-stayed q v o less (ℕ-discrete q s);
+        kept = λ q v o less. one-kept q v o less (ℕ-discrete q s);
+        inUse = λ q v o x. subst (λ z. z < a .books .stores) (sym (k .ofIn q v o x .0)) (k .less);
+        goneReal = λ q v o x. k .outReal v o (k .ofGone q v o x .1);
+      }
+
+-- ---- bring in
+
+module _ (a : State) (l : OutList) (s : ℕ) (sp : Span) (time : Float) (write : ℕ) (h : History) (sound : Sound a) (exact : Exact a h) where
+  abbrev c : Call
+  c = storeInsert l s sp time write
+
+  abbrev n₀ : ℕ
+  n₀ = firstOf (storeInsertRefusals a l s sp time)
+
+  made : Outcome OutList ℕ
+  made =
+      record {
+        state = bringIn a s sp time write;
+        lists = layOuts (brought a s sp time write .outs) l;
+        answer = done (length (brought a s sp time write .outs));
+      }
+
+  outcome-is : (n : ℕ) → n₀ ≡ n → Calls.storeInsert a l s sp time write ≡ unless n a l made
+  unfolding Calls.storeInsert made
+  outcome-is n e = unless-at n₀ n a l made e
+
+  insert-refused : (n : ℕ) → n₀ ≡ suc n → Exact (Calls.storeInsert a l s sp time write .state) (next c a h)
+  unfolding BroughtIn Gone
+  insert-refused n e =
+      let is = outcome-is (suc n) e in
+      still c a (Calls.storeInsert a l s sp time write .state) h (ap (λ (x : Outcome OutList ℕ). x .state) is)
+      (λ q v o x. subst (λ (w : Outcome OutList ℕ). IfDone (w .answer) (λ k. (q ≡ s) × InSpan sp v o)) is x)
+      (λ q v o x. subst (λ (w : Outcome OutList ℕ). IfDone (w .answer) (λ k. (q ≡ s) × Listed (w .lists) k v o)) is x) exact
+
+  module _ (e : n₀ ≡ 0) where
+    abbrev done-is : Calls.storeInsert a l s sp time write ≡ unless 0 a l made
+    done-is = outcome-is 0 e
+
+    took : Taken a s sp time
+    unfolding Calls.storeInsert
+    took = taken a l s sp time sound (none-where _ _ _ (storeInsert-kept a l s sp time write) e)
+
+    in-of : (q v o : ℕ) → q ≡ s → InSpan sp v o → BroughtIn c a q v o
+    unfolding BroughtIn made
+    in-of q v o x y = subst (λ (w : Outcome OutList ℕ). IfDone (w .answer) (λ k. (q ≡ s) × InSpan sp v o)) (sym done-is) (x, y)
+
+    of-in : (q v o : ℕ) → BroughtIn c a q v o → (q ≡ s) × InSpan sp v o
+    unfolding BroughtIn made
+    of-in q v o x = subst (λ (w : Outcome OutList ℕ). IfDone (w .answer) (λ k. (q ≡ s) × InSpan sp v o)) done-is x
+
+    gone-of : (q v o : ℕ) → q ≡ s → InOuts (brought a s sp time write .outs) v o → Gone c a q v o
+    unfolding Gone made
+    gone-of q v o x y =
+        subst (λ (w : Outcome OutList ℕ). IfDone (w .answer) (λ k. (q ≡ s) × Listed (w .lists) k v o)) (sym done-is)
+        (x, out-listed (brought a s sp time write .outs) l v o y)
+
+    of-gone : (q v o : ℕ) → Gone c a q v o → (q ≡ s) × InOuts (brought a s sp time write .outs) v o
+    unfolding Gone made
+    of-gone q v o x =
+        let y = subst (λ (w : Outcome OutList ℕ). IfDone (w .answer) (λ k. (q ≡ s) × Listed (w .lists) k v o)) done-is x in
+        (y .0, listed-out (brought a s sp time write .outs) l v o (y .1))
+
+    filled : (v o : ℕ) → Filled (storeOf a s) sp (brought a s sp time write) v o
+    unfolding brought
+    filled v o =
+        bring-filled (a .tree) (a .bytes) (a .books .nextId) (storeOf a s) sp time write (store-sound a s sound (took .store)) (took .span)
+        (took .finite) (sound .counts .firstId) v o
+
+    one-brought : OneStore c a (bringIn a s sp time write) s (brought a s sp time write .store .ranges) (InSpan sp) (InOuts (brought a s sp time write .outs))
+    one-brought =
+        record {
+          less = took .store;
+          tree = tree-stays a s sp time write took;
+          stores = stores-stay a s sp time write took;
+          own = own a s sp time write took;
+          other = others a s sp time write took;
+          inOf = in-of;
+          ofIn = of-in;
+          goneOf = gone-of;
+          ofGone = of-gone;
+          came = λ v o. filled v o .came;
+          stayed = λ v o. filled v o .stayed;
+          kept = λ v o. filled v o .kept;
+          outReal =
+              λ v o x.
+              ⊎-elim (λ y. real-held a s sound (took .store) v o y) (λ y. real-span a sp sound (took .span) v o y) (filled v o .was x);
+        }
+
+    insert-accepted : Exact (Calls.storeInsert a l s sp time write .state) (next c a h)
+    unfolding made
+    insert-accepted =
+        subst (λ (w : Outcome OutList ℕ). Exact (w .state) (next c a h)) (sym done-is)
+        (changes-exact c a (bringIn a s sp time write) h sound
+        (subst (λ (w : Outcome OutList ℕ). Sound (w .state)) done-is (storeInsert-sound a l s sp time write sound)) (one-changes one-brought) exact)
+
+  pub storeInsert-exact : Exact (Calls.storeInsert a l s sp time write .state) (next c a h)
+  storeInsert-exact = go n₀ refl
+    where
+      go : (n : ℕ) → n₀ ≡ n → Exact (Calls.storeInsert a l s sp time write .state) (next c a h)
+      go zero e = insert-accepted e
+      go (suc n) e = insert-refused n e
+
+-- ---- remove
+
+module _ (a : State) (l : List ℕ) (s : ℕ) (sp : Span) (h : History) (sound : Sound a) (exact : Exact a h) where
+  abbrev r : Call
+  r = storeRemove l s sp
+
+  abbrev r₀ : ℕ
+  r₀ = firstOf (storeRemoveRefusals a l s sp)
+
+  w : Removed
+  w = removedBy a s sp
+
+  removed : State
+  removed = withNext (a .books .nextId + w .need) (a .books .stalls) (withRanges s (w .need) (w .store) a)
+
+  unmade : Outcome (List ℕ) ℕ
+  unmade = record { state = removed; lists = front (w .writes) l; answer = done (length (w .writes)) }
+
+  remove-is : (n : ℕ) → r₀ ≡ n → Calls.storeRemove a l s sp ≡ unless n a l unmade
+  unfolding Calls.storeRemove unmade removed w
+  remove-is n e = unless-at r₀ n a l unmade e
+
+  remove-refused : (n : ℕ) → r₀ ≡ suc n → Exact (Calls.storeRemove a l s sp .state) (next r a h)
+  unfolding BroughtIn Gone
+  remove-refused n e =
+      let is = remove-is (suc n) e in
+      still r a (Calls.storeRemove a l s sp .state) h (ap (λ (x : Outcome (List ℕ) ℕ). x .state) is) (λ q v o x. x)
+      (λ q v o x. subst (λ (z : Outcome (List ℕ) ℕ). IfDone (z .answer) (λ k. (q ≡ s) × InSpan sp v o)) is x) exact
+
+  -- what an accepted removal asks of the state
+  removable : NoneHolds (storeRemoveRefusals a l s sp)
+      → (s < a .books .stores) × (SpanIn (a .tree) sp × (at (a .books .records) s + w .need ≤ storeRecords))
+  unfolding w
+  removable (unsound, (short, (noStore, (badSpan, (fewRecords, (late, end)))))) = (omega arith, (span-in (a .tree) sp badSpan, omega arith))
+
+  module _ (e : r₀ ≡ 0) where
+    abbrev gone-is : Calls.storeRemove a l s sp ≡ unless 0 a l unmade
+    gone-is = remove-is 0 e
+
+    asks : (s < a .books .stores) × (SpanIn (a .tree) sp × (at (a .books .records) s + w .need ≤ storeRecords))
+    unfolding Calls.storeRemove
+    asks = removable (none-where _ _ _ (storeRemove-kept a l s sp) e)
+
+    abbrev here : s < a .books .stores
+    here = asks .0
+
+    abbrev inside : SpanIn (a .tree) sp
+    inside = asks .1 .0
+
+    own-sound : StoreSound (a .tree) (a .books .nextId) (storeOf a s)
+    own-sound = store-sound a s sound here
+
+    first-id : 1 ≤ a .books .nextId
+    first-id = sound .counts .firstId
+
+    fit-removed : RangesFit a s (w .need) (w .store)
+    unfolding w
+    fit-removed =
+        record {
+          ranges = omega (arith, remove-length (storeOf a s) (a .books .nextId) sp own-sound inside first-id, records-length a s);
+          room = asks .1 .1;
+          marks =
+              remove-sound (storeOf a s) (a .books .nextId) sp own-sound inside first-id (omega (arith, asks .1 .1, records-length a s)) .marks .long;
+        }
+
+    holds-removed : (v o : ℕ) → (Holds (w .store .ranges) v o → Holds (storeOf a s .ranges) v o × (InSpan sp v o → ⊥))
+        × (Holds (storeOf a s .ranges) v o × (InSpan sp v o → ⊥) → Holds (w .store .ranges) v o)
+    unfolding w
+    holds-removed v o = remove-holds (storeOf a s) (a .books .nextId) sp own-sound inside first-id v o
+
+    one-removed : OneStore r a removed s (w .store .ranges) (λ v o. ⊥) (InSpan sp)
+    unfolding BroughtIn Gone unmade removed withNext withRanges
+    one-removed =
+        record {
+          less = here;
+          tree = refl;
+          stores = refl;
+          own = laid-own a s (w .need) (a .books .nextId + w .need) (a .books .stalls) (w .store) sound here fit-removed;
+          other = laid-other a s (w .need) (a .books .nextId + w .need) (a .books .stalls) (w .store) sound here fit-removed;
+          inOf = λ q v o x y. y;
+          ofIn = λ q v o x. absurd x;
+          goneOf =
+              λ q v o x y. subst (λ (z : Outcome (List ℕ) ℕ). IfDone (z .answer) (λ k. (q ≡ s) × InSpan sp v o)) (sym gone-is) (x, y);
+          ofGone = λ q v o x. subst (λ (z : Outcome (List ℕ) ℕ). IfDone (z .answer) (λ k. (q ≡ s) × InSpan sp v o)) gone-is x;
+          came = λ v o x. inl (holds-removed v o .0 x .0);
+          stayed = λ v o x. holds-removed v o .0 x .1;
+          kept = λ v o x g. holds-removed v o .1 (⊎-elim (λ y. y) (λ y. absurd y) x, g);
+          outReal = λ v o x. real-span a sp sound inside v o x;
+        }
+
+    remove-accepted : Exact (Calls.storeRemove a l s sp .state) (next r a h)
+    unfolding unmade
+    remove-accepted =
+        subst (λ (z : Outcome (List ℕ) ℕ). Exact (z .state) (next r a h)) (sym gone-is)
+        (changes-exact r a removed h sound (subst (λ (z : Outcome (List ℕ) ℕ). Sound (z .state)) gone-is (storeRemove-sound a l s sp sound))
+        (one-changes one-removed) exact)
+
+  pub storeRemove-exact : Exact (Calls.storeRemove a l s sp .state) (next r a h)
+  storeRemove-exact = go r₀ refl
+    where
+      go : (n : ℕ) → r₀ ≡ n → Exact (Calls.storeRemove a l s sp .state) (next r a h)
+      go zero e = remove-accepted e
+      go (suc n) e = remove-refused n e
+
+-- ---- expire
+
+module _ (a : State) (l : OutList) (s : ℕ) (now seconds : Float) (h : History) (sound : Sound a) (exact : Exact a h) where
+  abbrev x : Call
+  x = storeExpire l s now seconds
+
+  abbrev x₀ : ℕ
+  x₀ = firstOf (storeExpireRefusals a l s now seconds)
+
+  aged : Expired
+  aged = expire (a .tree) (a .bytes) (storeOf a s) now seconds
+
+  expired : State
+  expired = withRanges s 0 (aged .store) a
+
+  outlived : Outcome OutList ℕ
+  outlived = record { state = expired; lists = layOuts (aged .outs) l; answer = done (length (aged .outs)) }
+
+  expire-is : (n : ℕ) → x₀ ≡ n → Calls.storeExpire a l s now seconds ≡ unless n a l outlived
+  unfolding Calls.storeExpire outlived expired aged
+  expire-is n e = unless-at x₀ n a l outlived e
+
+  expire-refused : (n : ℕ) → x₀ ≡ suc n → Exact (Calls.storeExpire a l s now seconds .state) (next x a h)
+  unfolding BroughtIn Gone
+  expire-refused n e =
+      let is = expire-is (suc n) e in
+      still x a (Calls.storeExpire a l s now seconds .state) h (ap (λ (z : Outcome OutList ℕ). z .state) is) (λ q v o y. y)
+      (λ q v o y. subst (λ (z : Outcome OutList ℕ). IfDone (z .answer) (λ k. (q ≡ s) × Listed (z .lists) k v o)) is y) exact
+
+  expirable : NoneHolds (storeExpireRefusals a l s now seconds) → s < a .books .stores
+  expirable (unsound, (short, (noStore, (badTimes, end)))) = omega arith
+
+  module _ (e : x₀ ≡ 0) where
+    abbrev aged-is : Calls.storeExpire a l s now seconds ≡ unless 0 a l outlived
+    aged-is = expire-is 0 e
+
+    used : s < a .books .stores
+    unfolding Calls.storeExpire
+    used = expirable (none-where _ _ _ (storeExpire-kept a l s now seconds) e)
+
+    store-is : StoreSound (a .tree) (a .books .nextId) (storeOf a s)
+    store-is = store-sound a s sound used
+
+    fit-expired : RangesFit a s 0 (aged .store)
+    unfolding aged
+    fit-expired =
+        record {
+          ranges = omega (arith, expire-length (a .tree) (a .bytes) (storeOf a s) now seconds, records-length a s);
+          room = omega (arith, store-is .few, records-length a s);
+          marks = expire-sound (a .tree) (a .bytes) (storeOf a s) now seconds (a .books .nextId) store-is .marks .long;
+        }
+
+    -- what is left and what was given out, as of any ranges and outs
+    split-here : (v o : ℕ)
+        → (Holds (aged .store .ranges) v o → Holds (storeOf a s .ranges) v o) × ((Holds (aged .store .ranges) v o → InOuts (aged .outs) v o → ⊥)
+        × ((Holds (storeOf a s .ranges) v o → (InOuts (aged .outs) v o → ⊥) → Holds (aged .store .ranges) v o)
+        × (InOuts (aged .outs) v o → Holds (storeOf a s .ranges) v o)))
+    unfolding aged expire
+    split-here v o =
+        let k = expire-filled (a .tree) (a .bytes) (a .books .nextId) (storeOf a s) now seconds store-is v o in
+        (k .was, (k .apart, (λ y g. ⊎-elim (λ z. z) (λ z. absurd (g z)) (k .held y), k .out)))
+
+    gone-out : (q v o : ℕ) → q ≡ s → InOuts (aged .outs) v o → Gone x a q v o
+    unfolding Gone outlived
+    gone-out q v o y z =
+        subst (λ (w : Outcome OutList ℕ). IfDone (w .answer) (λ k. (q ≡ s) × Listed (w .lists) k v o)) (sym aged-is) (y, out-listed (aged .outs) l v o z)
+
+    out-gone : (q v o : ℕ) → Gone x a q v o → (q ≡ s) × InOuts (aged .outs) v o
+    unfolding Gone outlived
+    out-gone q v o y =
+        let z = subst (λ (w : Outcome OutList ℕ). IfDone (w .answer) (λ k. (q ≡ s) × Listed (w .lists) k v o)) aged-is y in
+        (z .0, listed-out (aged .outs) l v o (z .1))
+
+    one-expired : OneStore x a expired s (aged .store .ranges) (λ v o. ⊥) (InOuts (aged .outs))
+    unfolding BroughtIn expired withRanges
+    one-expired =
+        record {
+          less = used;
+          tree = refl;
+          stores = refl;
+          own = ap (λ (y : Store). y .ranges) (ranges-read a s 0 (aged .store) (sound-roomy a s sound used) fit-expired);
+          other = λ q i less. ranges-other a s 0 (aged .store) (sound-roomy a s sound used) fit-expired q i (sound-roomy a q sound less .records);
+          inOf = λ q v o y z. z;
+          ofIn = λ q v o y. absurd y;
+          goneOf = gone-out;
+          ofGone = out-gone;
+          came = λ v o y. inl (split-here v o .0 y);
+          stayed = λ v o. split-here v o .1 .0;
+          kept = λ v o y. split-here v o .1 .1 .0 (⊎-elim (λ z. z) (λ z. absurd z) y);
+          outReal = λ v o y. real-held a s sound used v o (split-here v o .1 .1 .1 y);
+        }
+
+    expire-accepted : Exact (Calls.storeExpire a l s now seconds .state) (next x a h)
+    unfolding outlived
+    expire-accepted =
+        subst (λ (z : Outcome OutList ℕ). Exact (z .state) (next x a h)) (sym aged-is)
+        (changes-exact x a expired h sound
+        (subst (λ (z : Outcome OutList ℕ). Sound (z .state)) aged-is (storeExpire-sound a l s now seconds sound)) (one-changes one-expired) exact)
+
+  pub storeExpire-exact : Exact (Calls.storeExpire a l s now seconds .state) (next x a h)
+  storeExpire-exact = go x₀ refl
+    where
+      go : (n : ℕ) → x₀ ≡ n → Exact (Calls.storeExpire a l s now seconds .state) (next x a h)
+      go zero e = expire-accepted e
+      go (suc n) e = expire-refused n e
+
+-- ---- touch: every store holds what it held
+
+-- every store of b holds what it holds in a
+record SameBlocks (a b : State) : Type 0 where
+  tree : b .tree ≡ a .tree
+  stores : b .books .stores ≡ a .books .stores
+  came : (q n o : ℕ) → q < a .books .stores → Holds (storeOf b q .ranges) n o → Holds (storeOf a q .ranges) n o
+  kept : (q n o : ℕ) → q < a .books .stores → Holds (storeOf a q .ranges) n o → Holds (storeOf b q .ranges) n o
+
+same-then : {a b c : State} → SameBlocks a b → SameBlocks b c → SameBlocks a c
+same-then {a} {b} {c} f g =
+    record {
+      tree = g .tree ∙ f .tree;
+      stores = g .stores ∙ f .stores;
+      came = λ q n o l y. f .came q n o l (g .came q n o (rw (f .stores) l) y);
+      kept = λ q n o l y. g .kept q n o (rw (f .stores) l) (f .kept q n o l y);
+    }
+
+same-blocks : (c : Call) (a b : State) (h : History) → ((q n o : ℕ) → BroughtIn c a q n o → ⊥) → ((q n o : ℕ) → Gone c a q n o → ⊥) → SameBlocks a b
+    → Exact a h → Exact b (next c a h)
+same-blocks c a b h none nothing k =
+    moves-exact c a b h
+    (record {
+      none = none;
+      nothing = nothing;
+      stores = k .stores;
+      came =
+          λ q w l y.
+          record {
+            node = y .node;
+            offset = y .offset;
+            is = k .came q (y .node) (y .offset) l (y .is);
+            name = subst (λ t. nameOf t (y .node) (y .offset) ≡ w) (k .tree) (y .name);
+          };
+      kept =
+          λ q w l y.
+          record {
+            node = y .node;
+            offset = y .offset;
+            is = k .kept q (y .node) (y .offset) l (y .is);
+            name = subst (λ t. nameOf t (y .node) (y .offset) ≡ w) (sym (k .tree)) (y .name);
+          };
+    })
+
+touch-tree : (st : State) (s : ℕ) (sp : Span) (time : Float) (counted : Bool) → touchSpan st s sp time counted .tree ≡ st .tree
+unfolding touchSpan
+touch-tree st s sp time counted = refl
+
+touch-stores : (st : State) (s : ℕ) (sp : Span) (time : Float) (counted : Bool) → touchSpan st s sp time counted .books .stores ≡ st .books .stores
+unfolding touchSpan
+touch-stores st s sp time counted = refl
+
+-- one span of a touch
+module _ (st : State) (s : ℕ) (sp : Span) (time : Float) (counted : Bool) (h : Sound st) (less : s < st .books .stores) (inside : SpanIn (st .tree) sp)
+    (finite : Finite time) (room : at (st .books .records) s + touchedBy st s sp time counted .need ≤ storeRecords)
+    (top : at (st .books .stamp) s + touchedBy st s sp time counted .stamps ≤ maxStamp) where
+  abbrev y : Store
+  y = touchedBy st s sp time counted .store
+
+  touched-store : StoreSound (st .tree) (st .books .nextId) (storeOf st s)
+  touched-store = store-sound st s h less
+
+  fit-touched : RangesFit st s (touchedBy st s sp time counted .need) y
+  fit-touched =
+      record {
+        ranges =
+            omega (
+              arith,
+              touch-length (st .tree) (st .bytes) (storeOf st s) (st .books .nextId) sp time counted touched-store inside finite
+                  (h .counts .firstId),
+              records-length st s,
+            );
+        room = room;
+        marks =
+            touch-sound (st .tree) (st .bytes) (storeOf st s) (st .books .nextId) sp time counted touched-store inside finite (h .counts .firstId)
+            (omega (arith, records-length st s)) (omega (arith, stamp-is st s)) .marks .long;
+      }
+
+  holds-touched : (n o : ℕ) → (Holds (y .ranges) n o → Holds (storeOf st s .ranges) n o) × (Holds (storeOf st s .ranges) n o → Holds (y .ranges) n o)
+  holds-touched n o =
+      touch-holds (st .tree) (st .bytes) (storeOf st s) (st .books .nextId) sp time counted touched-store inside finite (h .counts .firstId) n o
+
+  next-id : ℕ
+  next-id = st .books .nextId + touchedBy st s sp time counted .need
+
+  touched-own : storeOf (touchSpan st s sp time counted) s .ranges ≡ y .ranges
+  unfolding touchSpan next-id
+  touched-own = laid-own st s (touchedBy st s sp time counted .need) next-id (st .books .stalls) y h less fit-touched
+
+  touched-other : (q : ℕ) → q ≢ s → q < st .books .stores → storeOf (touchSpan st s sp time counted) q ≡ storeOf st q
+  unfolding touchSpan next-id
+  touched-other = laid-other st s (touchedBy st s sp time counted .need) next-id (st .books .stalls) y h less fit-touched
+
+  touched-came : (q n o : ℕ) → q < st .books .stores → Dec (q ≡ s) → Holds (storeOf (touchSpan st s sp time counted) q .ranges) n o
+      → Holds (storeOf st q .ranges) n o
+  touched-came q n o l (yes i) = rw (i, touched-own) (holds-touched n o .0)
+  touched-came q n o l (no i) = rw (touched-other q i l) (λ z. z)
+
+  touched-kept : (q n o : ℕ) → q < st .books .stores → Dec (q ≡ s) → Holds (storeOf st q .ranges) n o
+      → Holds (storeOf (touchSpan st s sp time counted) q .ranges) n o
+  touched-kept q n o l (yes i) = rw (i, touched-own) (holds-touched n o .1)
+  touched-kept q n o l (no i) = rw (touched-other q i l) (λ z. z)
+
+  touched-same : SameBlocks st (touchSpan st s sp time counted)
+  touched-same =
+      record {
+        tree = touch-tree st s sp time counted;
+        stores = touch-stores st s sp time counted;
+        came = λ q n o l. touched-came q n o l (ℕ-discrete q s);
+        kept = λ q n o l. touched-kept q n o l (ℕ-discrete q s);
+      }
+
+same-start : (a : State) → SameBlocks a a
+same-start a = record { tree = refl; stores = refl; came = λ q n o l z. z; kept = λ q n o l z. z }
+
+same-or : {L A : Type 0} (a b : State) (l l′ : L) (v : A) (n : ℕ) → (n ≡ 0 → SameBlocks a b)
+    → SameBlocks a (unless n a l (record { state = b; lists = l′; answer = done v }) .state)
+same-or a b l l′ v zero k = k refl
+same-or a b l l′ v (suc n) k = same-start a
+
+spans-same : (st : State) (s : ℕ) (sps : List Span) (time : Float) (counted : Bool) → Sound st → s < st .books .stores → All (SpanIn (st .tree)) sps
+    → Finite time → NoneHolds (turnRefusals st s sps time counted) → SameBlocks st (touchSpans st s sps time counted)
+unfolding touchSpans All
+spans-same st s [] time counted h less inside finite none = same-start st
+spans-same st s (sp ∷ sps) time counted h less inside finite none =
+    let late = neither (none .1 .0) in
+    let room : at (st .books .records) s + touchedBy st s sp time counted .need ≤ storeRecords = omega (arith, none .0) in
+    same-then (touched-same st s sp time counted h less (inside .0) finite room (late .0))
+    (spans-same (touchSpan st s sp time counted) s sps time counted
+    (touchSpan-sound st s h less sp time counted (inside .0) finite room (late .0) (late .1)) (rw (touch-stores st s sp time counted) less)
+    (subst (λ t. All (SpanIn t) sps) (sym (touch-tree st s sp time counted)) (inside .1)) finite (none .1 .1))
+
+module _ (a : State) (s : ℕ) (sps : List Span) (time : Float) (counted : Bool) (h : History) (sound : Sound a) (exact : Exact a h) where
+  abbrev u : Call
+  u = storeUsed s sps time counted
+
+  abbrev u₀ : ℕ
+  u₀ = firstOf (storeUsedRefusals a s sps time counted)
+
+  spans-of : NoneHolds (storeUsedRefusals a s sps time counted) → SameBlocks a (touchSpans a s sps time counted)
+  spans-of (unsound, (noStore, (many, (badSpans, (badTime, turns))))) =
+      spans-same a s sps time counted sound (omega arith)
+      (all-from (SpanIn (a .tree)) noSpan sps (λ i l. span-in (a .tree) _ (λ bad. badSpans (i, l, bad)))) (is-finite time badTime) turns
+
+  used-same : SameBlocks a (Calls.storeUsed a s sps time counted .state)
+  unfolding Calls.storeUsed
+  used-same =
+      same-or a (touchSpans a s sps time counted) _ _ (bytesTouched a s sps time counted) u₀
+      (λ e. spans-of (none-where _ _ _ (storeUsed-kept a s sps time counted) e))
+
+  pub storeUsed-exact : Exact (Calls.storeUsed a s sps time counted .state) (next u a h)
+  unfolding BroughtIn Gone
+  storeUsed-exact = same-blocks u a (Calls.storeUsed a s sps time counted .state) h (λ q n o z. z) (λ q n o z. z) used-same exact
+
+-- ---- pins: no range moves
+
+pins-same : (a : State) (s need : ℕ) (x : Store) → SameBlocks a (withPins s need x a)
+unfolding withPins storeOf
+pins-same a s need x = record { tree = refl; stores = refl; came = λ q n o l z. z; kept = λ q n o l z. z }
+
+module _ (a : State) (s : ℕ) (sp : Span) (h : History) (exact : Exact a h) where
+  pinned-same : SameBlocks a (Calls.pinSource a s sp .state)
+  unfolding Calls.pinSource
+  pinned-same =
+      same-or a (withPins s (pinNeed (storeOf a s) sp) (pin (storeOf a s) sp) a) _ _ _ (firstOf (pinRefusals a s sp))
+      (λ e. pins-same a s (pinNeed (storeOf a s) sp) (pin (storeOf a s) sp))
+
+  unpinned-same : SameBlocks a (Calls.unpinSource a s sp .state)
+  unfolding Calls.unpinSource
+  unpinned-same =
+      same-or a (withPins s 0 (unpin (storeOf a s) sp) a) _ _ _ (firstOf (unpinRefusals a s sp)) (λ e. pins-same a s 0 (unpin (storeOf a s) sp))
+
+  pub pin-exact : Exact (Calls.pinSource a s sp .state) (next (pinSource s sp) a h)
+  unfolding BroughtIn Gone
+  pin-exact = same-blocks (pinSource s sp) a (Calls.pinSource a s sp .state) h (λ q n o z. z) (λ q n o z. z) pinned-same exact
+
+  pub unpin-exact : Exact (Calls.unpinSource a s sp .state) (next (unpinSource s sp) a h)
+  unfolding BroughtIn Gone
+  unpin-exact = same-blocks (unpinSource s sp) a (Calls.unpinSource a s sp .state) h (λ q n o z. z) (λ q n o z. z) unpinned-same exact
