@@ -175,7 +175,7 @@ history pools table capacity refreshes e cs q l =
     let own = store-sound (run st cs) q (run-sound st cs s) l in
     record {
       sorted = own .ranges .sorted;
-      number = held-is (run st cs) q ∙ own .held;
+      held = held-is (run st cs) q ∙ own .held;
       only = λ w. x .only q w l;
       all = λ w y. x .all q w y .1;
     }

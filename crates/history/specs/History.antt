@@ -6,7 +6,7 @@ use mathlib.Core.Path.{_≡_}
 use mathlib.Core.List.{List, [], _∷_}
 use lib.Ieee.{Float}
 use Rattle.model.specs.declared.Span.{Span}
-use Rattle.model.specs.State.{State, at}
+use Rattle.model.specs.State.{State, Range, at}
 use Rattle.model.specs.Store.{Store, storeOf, total}
 use Rattle.model.specs.Refusals.{PathList, OutList}
 use Rattle.model.specs.Calls as Calls
@@ -109,9 +109,13 @@ run st (c ∷ cs) = run (after c st) cs
 abbrev pub nothing : History
 nothing q w = ⊥
 
+-- how many blocks ranges hold that are sorted and disjoint
+abbrev pub number : List Range → ℕ
+number rs = total rs
+
 -- store q as demand 2 has it: "each store's ranges are sorted and disjoint and hold exactly the blocks .. ; held is their number"
 pub record Exactly (st : State) (h : History) (q : ℕ) : Type 0 where
   pub sorted : Sorted (storeOf st q .ranges)
-  pub number : at (st .books .held) q ≡ total (storeOf st q .ranges)
+  pub held : at (st .books .held) q ≡ number (storeOf st q .ranges)
   pub only : (w : List ℕ) → Stored st q w → h q w
   pub all : (w : List ℕ) → h q w → Stored st q w

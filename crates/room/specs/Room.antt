@@ -8,7 +8,7 @@ use lib.Ieee.{Float}
 use Rattle.model.specs.declared.Span.{Span}
 use Rattle.model.specs.Store.{storeOf}
 use Rattle.model.specs.Refusals.{OutList}
-use Rattle.model.specs.Calls.{Answer, refused, done, storeInsert, LookupLists, LookupAnswer, lookup}
+use Rattle.model.specs.Calls.{Outcome, Answer, refused, done, storeInsert, LookupLists, LookupAnswer, lookup}
 use Rattle.kepttouch.proofs.Holds.{Holds}
 
 -- the state with capacity c for store s, and all else as it is
@@ -58,20 +58,26 @@ abbrev pub blocksIn : Answer LookupAnswer → ℕ
 blocksIn (refused n) = 0
 blocksIn (done a) = sumOf (a .blocks)
 
--- "the same insertion into that store. Both accept or both refuse alike; if accepted, every block kept under C is kept under D, and afterwards any hash list
--- looked up through any one tier list gives at least as many blocks in all under D". A is under C and b under D; `Holds` says that a range has the block
+-- "make the same insertion into that store", under C and under D
+abbrev pub underC : State → OutList → ℕ → Span → Float → ℕ → Outcome OutList ℕ
+underC st l s sp time write = storeInsert st l s sp time write
+
+abbrev pub underD : State → OutList → ℕ → Span → Float → ℕ → Outcome OutList ℕ
+underD st l s sp time write = storeInsert st l s sp time write
+
+-- "Both accept or both refuse alike; if accepted, every block kept under C is kept under D, and afterwards any hash list looked up through any one tier
+-- list gives at least as many blocks in all under D". `Holds` says that a range has the block
 pub record MoreRoom (a b : State) (l : OutList) (s : ℕ) (sp : Span) (time : Float) (write : ℕ) : Type 0 where
-  pub alike : Alike (storeInsert a l s sp time write .answer) (storeInsert b l s sp time write .answer)
+  pub alike : Alike (underC a l s sp time write .answer) (underD b l s sp time write .answer)
   pub kept :
-      (v : ℕ) → storeInsert a l s sp time write .answer ≡ done v
-      → (n o : ℕ) → Holds (storeOf (storeInsert a l s sp time write .state) s .ranges) n o
-      → Holds (storeOf (storeInsert b l s sp time write .state) s .ranges) n o
+      (v : ℕ) → underC a l s sp time write .answer ≡ done v
+      → (n o : ℕ) → Holds (storeOf (underC a l s sp time write .state) s .ranges) n o
+      → Holds (storeOf (underD b l s sp time write .state) s .ranges) n o
   pub readsAlike :
-      (v : ℕ) → storeInsert a l s sp time write .answer ≡ done v
+      (v : ℕ) → underC a l s sp time write .answer ≡ done v
       → (k : LookupLists) (ts hs : List ℕ)
-      → Alike (lookup (storeInsert a l s sp time write .state) k ts hs .answer) (lookup (storeInsert b l s sp time write .state) k ts hs .answer)
+      → Alike (lookup (underC a l s sp time write .state) k ts hs .answer) (lookup (underD b l s sp time write .state) k ts hs .answer)
   pub reads :
-      (v : ℕ) → storeInsert a l s sp time write .answer ≡ done v
+      (v : ℕ) → underC a l s sp time write .answer ≡ done v
       → (k : LookupLists) (ts hs : List ℕ)
-      → blocksIn (lookup (storeInsert a l s sp time write .state) k ts hs .answer)
-      ≤ blocksIn (lookup (storeInsert b l s sp time write .state) k ts hs .answer)
+      → blocksIn (lookup (underC a l s sp time write .state) k ts hs .answer) ≤ blocksIn (lookup (underD b l s sp time write .state) k ts hs .answer)
