@@ -1,0 +1,125 @@
+-- `cutstate::cut_stores` meets its contract. The loop's invariant is `Turning`: what is left to cut gives what was to be cut.
+-- Assumes nothing.
+use Prim.Native.Nat.{_-_}
+use native.Mathlib.Omega.{arith}
+use Rattle.lent.specs.Lent.{rangesOf, pinsOf}
+use Rattle.cutstate.proofs.Laws.{Turning, AsLong, turning-start, turning-asks, turning-turn, turning-end, turn-fits}
+use Rattle.cutstate.proofs.cut_stores.Statement.{statement}
+use Rattle.cutstate.proofs.cut_stores.Tie as tie
+
+abbrev Inv-loop : tie.InvT-loop
+Inv-loop node₀ start₀ end₀ id₀ stamp₀ touched₀ write₀ pin-node₀ pin-start₀ pin-end₀ pin-count₀ marks₀ j k m stores y₀ s₀ node start end id stamp touched write pin-node pin-start pin-end pin-count marks y s =
+    Turning j k m (rangesOf node₀ start₀ end₀ id₀ stamp₀ touched₀ write₀)
+    (pinsOf pin-node₀ pin-start₀ pin-end₀ pin-count₀) marks₀ y₀ s
+    (rangesOf node start end id stamp touched write) (pinsOf pin-node pin-start pin-end pin-count) marks y
+
+abbrev μ-loop : tie.MeasureT-loop
+μ-loop node₀ start₀ end₀ id₀ stamp₀ touched₀ write₀ pin-node₀ pin-start₀ pin-end₀ pin-count₀ marks₀ j k m stores y₀ s₀ node start end id stamp touched write pin-node pin-start pin-end pin-count marks y s = stores - s
+
+loop-holds : tie.Need-loop-holds Inv-loop μ-loop
+loop-holds c =
+    let a = c .before .before .before .before .before .before .before .before .before .before .before .before .args in
+    turning-start (a .j) (a .k) (a .m) (rangesOf (a .node .now) (a .start .now) (a .end .now) (a .id .now) (a .stamp .now) (a .touched .now) (a .write .now))
+    (pinsOf (a .pin-node .now) (a .pin-start .now) (a .pin-end .now) (a .pin-count .now)) (a .marks .now) (a .x)
+
+cut-store-requires : tie.Need-cut-store-requires Inv-loop μ-loop
+cut-store-requires c κs =
+    let z = c .before .before .before .before .before .before .before .before .before .before .before .before .before .before .before .before .before .before .before .before .before .before .before .before .before .before in
+    let a = z .args in
+    let l = c .before .before .before .before .before .before .before .before .before .before .before .before .before .loop in
+    turning-asks (a .j) (a .k) (a .m) (rangesOf (a .node .now) (a .start .now) (a .end .now) (a .id .now) (a .stamp .now) (a .touched .now) (a .write .now))
+    (pinsOf (a .pin-node .now) (a .pin-start .now) (a .pin-end .now) (a .pin-count .now)) (a .marks .now) (a .x) (l .s)
+    (rangesOf (l .node) (l .start) (l .end) (l .id) (l .stamp) (l .touched) (l .write)) (pinsOf (l .pin-node) (l .pin-start) (l .pin-end) (l .pin-count)) (l .marks) (l .y)
+    (l .inv) (z .pre) (c .before .before .before .before .before .before .before .before .before .before .before .before .loop-test .taken)
+
+add-s : tie.Need-add-s Inv-loop μ-loop
+add-s c = let z = c .before .before .before .before .before .before .before .before .before .before .before .before .before .before .before .before .before .before .before .before .before .before .before .before .before .before .before .before .before .before .before .before .before .before .before .before .before .before .before .before .before .before .before .before .before .before .before .before .before .before .before in record { fits = turn-fits (c .before .before .before .before .before .before .before .before .before .before .before .before .before .before .before .before .before .before .before .before .before .before .before .before .before .before .before .before .before .before .before .before .before .before .before .before .before .before .loop .s) (z .args .x .stores) (c .before .before .before .before .before .before .before .before .before .before .before .before .before .before .before .before .before .before .before .before .before .before .before .before .before .before .before .before .before .before .before .before .before .before .before .before .before .loop-test .taken) (z .pre .whole .sound .counts .stores) }
+
+loop-less : tie.Need-loop-less Inv-loop μ-loop
+loop-less c = omega (arith, c .before .before .before .before .before .before .before .before .before .before .before .before .before .before .before .before .before .before .before .before .before .before .before .before .before .before .before .before .before .before .before .before .before .before .before .before .before .loop-test .taken)
+
+loop-again : tie.Need-loop-again Inv-loop μ-loop
+loop-again c =
+    let a = c .before .before .before .before .before .before .before .before .before .before .before .before .before .before .before .before .before .before .before .before .before .before .before .before .before .before .before .before .before .before .before .before .before .before .before .before .before .before .before .before .before .before .before .before .before .before .before .before .before .before .before .args in
+    let l = c .before .before .before .before .before .before .before .before .before .before .before .before .before .before .before .before .before .before .before .before .before .before .before .before .before .before .before .before .before .before .before .before .before .before .before .before .before .before .loop in
+    let f = c .before .before .before .before .before .before .before .before .before .before .before .before .before .before .before .before .before .before .before .before .before .before .before .before .cut-store in
+    turning-turn (a .j) (a .k) (a .m) (rangesOf (a .node .now) (a .start .now) (a .end .now) (a .id .now) (a .stamp .now) (a .touched .now) (a .write .now))
+    (pinsOf (a .pin-node .now) (a .pin-start .now) (a .pin-end .now) (a .pin-count .now)) (a .marks .now) (a .x) (l .s)
+    (rangesOf (l .node) (l .start) (l .end) (l .id) (l .stamp) (l .touched) (l .write)) (pinsOf (l .pin-node) (l .pin-start) (l .pin-end) (l .pin-count)) (l .marks) (l .y)
+    (l .inv)
+    (rangesOf (f .last .0) (f .last .1 .0) (f .last .1 .1 .0) (f .last .1 .1 .1 .0) (f .last .1 .1 .1 .1 .0) (f .last .1 .1 .1 .1 .1 .0) (f .last .1 .1 .1 .1 .1 .1 .0))
+    (pinsOf (f .last .1 .1 .1 .1 .1 .1 .1 .0) (f .last .1 .1 .1 .1 .1 .1 .1 .1 .0) (f .last .1 .1 .1 .1 .1 .1 .1 .1 .1 .0) (f .last .1 .1 .1 .1 .1 .1 .1 .1 .1 .1 .0)) (f .last .1 .1 .1 .1 .1 .1 .1 .1 .1 .1 .1 .0) (f .result)
+    (c .before .before .before .before .before .before .before .before .before .before .before .before .before .before .before .before .before .before .before .before .before .before .before .before .before .before .before .before .before .before .before .before .before .before .before .before .before .loop-test .taken) (f .ensures)
+    (record {
+      node = f .kept .0; start = f .kept .1 .0; end = f .kept .1 .1 .0; id = f .kept .1 .1 .1 .0; stamp = f .kept .1 .1 .1 .1 .0; touched = f .kept .1 .1 .1 .1 .1 .0; write = f .kept .1 .1 .1 .1 .1 .1 .0; pinNode = f .kept .1 .1 .1 .1 .1 .1 .1 .0; pinStart = f .kept .1 .1 .1 .1 .1 .1 .1 .1 .0; pinEnd = f .kept .1 .1 .1 .1 .1 .1 .1 .1 .1 .0; pinCount = f .kept .1 .1 .1 .1 .1 .1 .1 .1 .1 .1 .0; marks = f .kept .1 .1 .1 .1 .1 .1 .1 .1 .1 .1 .1 .0
+    })
+
+same-length : tie.Need-same-length Inv-loop μ-loop
+same-length c = c .before .loop .inv .long .node
+
+same-length-2 : tie.Need-same-length-2 Inv-loop μ-loop
+same-length-2 c = c .before .loop .inv .long .start
+
+same-length-3 : tie.Need-same-length-3 Inv-loop μ-loop
+same-length-3 c = c .before .loop .inv .long .end
+
+same-length-4 : tie.Need-same-length-4 Inv-loop μ-loop
+same-length-4 c = c .before .loop .inv .long .id
+
+same-length-5 : tie.Need-same-length-5 Inv-loop μ-loop
+same-length-5 c = c .before .loop .inv .long .stamp
+
+same-length-6 : tie.Need-same-length-6 Inv-loop μ-loop
+same-length-6 c = c .before .loop .inv .long .touched
+
+same-length-7 : tie.Need-same-length-7 Inv-loop μ-loop
+same-length-7 c = c .before .loop .inv .long .write
+
+same-length-8 : tie.Need-same-length-8 Inv-loop μ-loop
+same-length-8 c = c .before .loop .inv .long .pinNode
+
+same-length-9 : tie.Need-same-length-9 Inv-loop μ-loop
+same-length-9 c = c .before .loop .inv .long .pinStart
+
+same-length-10 : tie.Need-same-length-10 Inv-loop μ-loop
+same-length-10 c = c .before .loop .inv .long .pinEnd
+
+same-length-11 : tie.Need-same-length-11 Inv-loop μ-loop
+same-length-11 c = c .before .loop .inv .long .pinCount
+
+same-length-12 : tie.Need-same-length-12 Inv-loop μ-loop
+same-length-12 c = c .before .loop .inv .long .marks
+
+returns : tie.Need-returns Inv-loop μ-loop
+returns c =
+    let a = c .before .before .before .before .before .before .before .before .before .before .before .before .before .before .args in
+    let l = c .before .loop in
+    turning-end (a .j) (a .k) (a .m) (rangesOf (a .node .now) (a .start .now) (a .end .now) (a .id .now) (a .stamp .now) (a .touched .now) (a .write .now))
+    (pinsOf (a .pin-node .now) (a .pin-start .now) (a .pin-end .now) (a .pin-count .now)) (a .marks .now) (a .x) (l .s)
+    (rangesOf (l .node) (l .start) (l .end) (l .id) (l .stamp) (l .touched) (l .write)) (pinsOf (l .pin-node) (l .pin-start) (l .pin-end) (l .pin-count)) (l .marks) (l .y)
+    (l .inv) (c .loop-test .left)
+
+pub cut-stores-spec : {M : Type 1} → statement M
+cut-stores-spec =
+    tie.close
+    (tie.spec
+    Inv-loop
+    μ-loop
+    loop-holds
+    cut-store-requires
+    add-s
+    loop-less
+    loop-again
+    same-length
+    same-length-2
+    same-length-3
+    same-length-4
+    same-length-5
+    same-length-6
+    same-length-7
+    same-length-8
+    same-length-9
+    same-length-10
+    same-length-11
+    same-length-12
+    returns)

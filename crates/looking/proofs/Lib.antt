@@ -1,0 +1,3 @@
+-- The laws of lookup's outcomes.
+pub mod Sums
+pub mod Outcomes

@@ -1,0 +1,124 @@
+use answers::Looked;
+use answers::Path;
+use answers::Reading;
+use lent::Small;
+ghost use mathlib.Core.Path.{_≡_};
+ghost use Prim.Native.Nat.{ℕ, _≤_};
+ghost use lib.ListN.{length};
+ghost use Rattle.model.specs.Words.{Says, Some};
+ghost use Rattle.model.specs.State.{at};
+ghost use Rattle.model.specs.Sound.{Sound};
+ghost use Rattle.model.specs.SetUp.{zeros};
+ghost use Rattle.model.specs.Refusals.{PathFits, TierFits};
+ghost use Rattle.tree.specs.Walk.{pathListOf};
+ghost use Rattle.tiers.specs.Tiers.{tierListOf};
+ghost use Rattle.answers.specs.Answers.{stateFrom};
+ghost use Rattle.looking.specs.Looking.{listsOf, LookedUp};
+
+// Is some tier no store?
+fn no_tier(tiers: &[usize], stores: usize) -> bool
+    ensures { λ r. ⌜ Says r (Some (length (now (tiers .entry))) (λ (i : ℕ). stores ≤ at (now (tiers .entry)) i)) ⌝ }
+{
+    let mut i = 0;
+    while i < tiers.len() {
+        if stores <= tiers[i] {
+            return true;
+        }
+        i += 1;
+    }
+    false
+}
+
+fn refused(n: u8) -> Looked
+    ensures { λ r. ⌜ (r .answer ≡ Reading.Refused n) × (r .blocks ≡ zeros) × (r .bytes ≡ zeros) ⌝ }
+{
+    Looked {
+        answer: Reading::Refused(n),
+        blocks: [0; 8],
+        bytes: [0; 8],
+    }
+}
+
+// Lookup, with its tests for 2 and 3: the path and the tier spans stand in front of their lists.
+pub fn lookup(
+    parent: &[usize],
+    depth: &[usize],
+    len: &[usize],
+    run: &[usize],
+    words: &[u64],
+    node: &[usize],
+    start: &[usize],
+    end: &[usize],
+    id: &[u64],
+    stamp: &[u64],
+    touched: &[f64],
+    write: &[u32],
+    pin_node: &[usize],
+    pin_start: &[usize],
+    pin_end: &[usize],
+    pin_count: &[u64],
+    marks: &[usize],
+    bytes: &[u64],
+    path_node: &mut [usize],
+    path_len: &mut [usize],
+    span_tier: &mut [usize],
+    span_node: &mut [usize],
+    span_start: &mut [usize],
+    span_end: &mut [usize],
+    x: Small,
+    tiers: &[usize],
+    hashes: &[u64],
+) -> Looked
+    requires { ⌜ Sound (stateFrom (now parent) (now depth) (now len) (now run) (now words) (now node) (now start) (now end) (now id) (now stamp) (now touched) (now write) (now «pin_node») (now «pin_start») (now «pin_end») (now «pin_count») (now marks) (now bytes) x) × PathFits (pathListOf (now «path_node») (now «path_len»)) × TierFits (tierListOf (now «span_tier») (now «span_node») (now «span_start») (now «span_end»)) ⌝ }
+    ensures { λ r. ⌜ LookedUp (stateFrom (now (parent .entry)) (now (depth .entry)) (now (len .entry)) (now (run .entry)) (now (words .entry)) (now (node .entry)) (now (start .entry)) (now (end .entry)) (now (id .entry)) (now (stamp .entry)) (now (touched .entry)) (now (write .entry)) (now («pin_node» .entry)) (now («pin_start» .entry)) (now («pin_end» .entry)) (now («pin_count» .entry)) (now (marks .entry)) (now (bytes .entry)) x) (listsOf (pathListOf (now («path_node» .entry)) (now («path_len» .entry))) (tierListOf (now («span_tier» .entry)) (now («span_node» .entry)) (now («span_start» .entry)) (now («span_end» .entry)))) (now (tiers .entry)) (now (hashes .entry)) (listsOf (pathListOf (now («path_node» .exit)) (now («path_len» .exit))) (tierListOf (now («span_tier» .exit)) (now («span_node» .exit)) (now («span_start» .exit)) (now («span_end» .exit)))) r ⌝ }
+{
+    if no_tier(tiers, x.stores) {
+        return refused(2);
+    }
+    if 1024 < hashes.len() {
+        return refused(3);
+    }
+    if 8 < tiers.len() {
+        return refused(3);
+    }
+    let m = tree::resolve(
+        parent,
+        len,
+        run,
+        words,
+        x.nodes,
+        hashes,
+        &mut *path_node,
+        &mut *path_len,
+    );
+    let records = x.records;
+    let w = tiers::lookup_resolved(
+        depth,
+        node,
+        start,
+        end,
+        bytes,
+        &*path_node,
+        &*path_len,
+        span_tier,
+        span_node,
+        span_start,
+        span_end,
+        records,
+        m.segs,
+        tiers,
+    );
+    let blocks = w.blocks;
+    let sums = w.bytes;
+    Looked {
+        answer: Reading::Done(
+            Path {
+                segs: m.segs,
+                blocks: m.blocks,
+            },
+            w.spans,
+        ),
+        blocks,
+        bytes: sums,
+    }
+}

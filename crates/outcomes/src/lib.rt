@@ -1,0 +1,1 @@
+// What the contracts of the public calls leave open, and what they refuse: theorems only. See specs/ and proofs/.

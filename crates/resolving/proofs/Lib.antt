@@ -1,0 +1,2 @@
+-- The laws of resolve's outcomes.
+pub mod Outcomes

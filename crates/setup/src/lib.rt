@@ -1,0 +1,322 @@
+use answers::Plain;
+use answers::Plainly;
+use lent::Small;
+ghost use mathlib.Core.Path.{_≡_};
+ghost use mathlib.Core.Bool.{Bool, false};
+ghost use Prim.Native.Nat.{ℕ, _≤_};
+ghost use lib.ListN.{length, set, replicate};
+ghost use Rattle.model.specs.Words.{Says, Each};
+ghost use Rattle.model.specs.State.{at};
+ghost use Rattle.model.specs.Sound.{TreeLent, RangesLent, PinsLent, Rising};
+ghost use Rattle.model.specs.SetUp.{SetUpFits, setUpState, eight};
+ghost use Rattle.model.specs.Calls.{front, setUp};
+ghost use Rattle.lent.specs.Lent.{treeOf, rangesOf, pinsOf};
+ghost use Rattle.setup.specs.Fresh.{freshSmall};
+ghost use Rattle.answers.specs.Answers.{stateFrom, outcome, plainOf};
+
+// ---- the test for 12
+
+fn tree_lent(parent: &[usize], depth: &[usize], len: &[usize], run: &[usize], words: &[u64]) -> bool
+    ensures { λ r. ⌜ ((nodes used : ℕ) → Says r (TreeLent (treeOf (now (parent .entry)) (now (depth .entry)) (now (len .entry)) (now (run .entry)) (now (words .entry)) nodes used))) ⌝ }
+{
+    if parent.len() < 256 {
+        return false;
+    }
+    if depth.len() < 256 {
+        return false;
+    }
+    if len.len() < 256 {
+        return false;
+    }
+    if run.len() < 256 {
+        return false;
+    }
+    if words.len() < 4096 {
+        return false;
+    }
+    true
+}
+
+fn ranges_lent(
+    node: &[usize],
+    start: &[usize],
+    end: &[usize],
+    id: &[u64],
+    stamp: &[u64],
+    touched: &[f64],
+    write: &[u32],
+) -> bool
+    ensures { λ r. ⌜ Says r (RangesLent (rangesOf (now (node .entry)) (now (start .entry)) (now (end .entry)) (now (id .entry)) (now (stamp .entry)) (now (touched .entry)) (now (write .entry)))) ⌝ }
+{
+    if node.len() < 1024 {
+        return false;
+    }
+    if start.len() < 1024 {
+        return false;
+    }
+    if end.len() < 1024 {
+        return false;
+    }
+    if id.len() < 1024 {
+        return false;
+    }
+    if stamp.len() < 1024 {
+        return false;
+    }
+    if touched.len() < 1024 {
+        return false;
+    }
+    if write.len() < 1024 {
+        return false;
+    }
+    true
+}
+
+fn pins_lent(node: &[usize], start: &[usize], end: &[usize], count: &[u64]) -> bool
+    ensures { λ r. ⌜ Says r (PinsLent (pinsOf (now (node .entry)) (now (start .entry)) (now (end .entry)) (now (count .entry)))) ⌝ }
+{
+    if node.len() < 256 {
+        return false;
+    }
+    if start.len() < 256 {
+        return false;
+    }
+    if end.len() < 256 {
+        return false;
+    }
+    if count.len() < 256 {
+        return false;
+    }
+    true
+}
+
+fn capacities_fit(capacity: &[u64]) -> bool
+    ensures { λ r. ⌜ Says r (Each 0 (length (now (capacity .entry))) (λ (s : ℕ). at (now (capacity .entry)) s ≤ 1000000)) ⌝ }
+{
+    let mut s = 0;
+    while s < capacity.len() {
+        if 1000000 < capacity[s] {
+            return false;
+        }
+        s += 1;
+    }
+    true
+}
+
+// Whether sizes, capacities, byte table and pools are inside the rules, on any lists.
+fn fits(
+    parent: &[usize],
+    depth: &[usize],
+    len: &[usize],
+    run: &[usize],
+    words: &[u64],
+    node: &[usize],
+    start: &[usize],
+    end: &[usize],
+    id: &[u64],
+    stamp: &[u64],
+    touched: &[f64],
+    write: &[u32],
+    pin_node: &[usize],
+    pin_start: &[usize],
+    pin_end: &[usize],
+    pin_count: &[u64],
+    marks: &[usize],
+    bytes: &[u64],
+    x: Small,
+    table: &[u64],
+    capacity: &[u64],
+    refreshes: &[bool],
+) -> bool
+    ensures { λ r. ⌜ Says r (SetUpFits (stateFrom (now (parent .entry)) (now (depth .entry)) (now (len .entry)) (now (run .entry)) (now (words .entry)) (now (node .entry)) (now (start .entry)) (now (end .entry)) (now (id .entry)) (now (stamp .entry)) (now (touched .entry)) (now (write .entry)) (now («pin_node» .entry)) (now («pin_start» .entry)) (now («pin_end» .entry)) (now («pin_count» .entry)) (now (marks .entry)) (now (bytes .entry)) x) (now (table .entry)) (now (capacity .entry)) (now (refreshes .entry))) ⌝ }
+{
+    if capacity.len() < 1 {
+        return false;
+    }
+    if 8 < capacity.len() {
+        return false;
+    }
+    if refreshes.len() != capacity.len() {
+        return false;
+    }
+    if !capacities_fit(capacity) {
+        return false;
+    }
+    if table.len() != 1025 {
+        return false;
+    }
+    if !soundtree::table_rises(table) {
+        return false;
+    }
+    if !tree_lent(parent, depth, len, run, words) {
+        return false;
+    }
+    if !ranges_lent(node, start, end, id, stamp, touched, write) {
+        return false;
+    }
+    if !pins_lent(pin_node, pin_start, pin_end, pin_count) {
+        return false;
+    }
+    if marks.len() < 2048 {
+        return false;
+    }
+    if bytes.len() < 1025 {
+        return false;
+    }
+    true
+}
+
+// ---- what set-up writes
+
+// `from` in front of what stands in `to`.
+fn copy_in(to: &mut [u64], from: &[u64])
+    requires { ⌜ length (now from) ≤ length (now to) ⌝ }
+    ensures { λ _. ⌜ now (to .exit) ≡ front (now (from .entry)) (now (to .entry)) ⌝ }
+{
+    let mut i = 0;
+    while i < from.len() {
+        to[i] = from[i];
+        i += 1;
+    }
+}
+
+fn copy_flags_in(to: &mut [bool], from: &[bool])
+    requires { ⌜ length (now from) ≤ length (now to) ⌝ }
+    ensures { λ _. ⌜ now (to .exit) ≡ front (now (from .entry)) (now (to .entry)) ⌝ }
+{
+    let mut i = 0;
+    while i < from.len() {
+        to[i] = from[i];
+        i += 1;
+    }
+}
+
+fn clear_marks(marks: &mut [usize])
+    requires { ⌜ 2048 ≤ length (now marks) ⌝ }
+    ensures { λ _. ⌜ now (marks .exit) ≡ front (replicate 2048 0) (now (marks .entry)) ⌝ }
+{
+    let mut i = 0;
+    while i < 2048 {
+        marks[i] = 0;
+        i += 1;
+    }
+}
+
+// One number for each of the eight stores.
+fn eight_of(xs: &[u64]) -> [u64; 8]
+    requires { ⌜ length (now xs) ≤ 8 ⌝ }
+    ensures { λ r. ⌜ r ≡ eight 0 (now (xs .entry)) ⌝ }
+{
+    let mut out = [0u64; 8];
+    copy_in(&mut out, xs);
+    out
+}
+
+fn eight_flags_of(xs: &[bool]) -> [bool; 8]
+    requires { ⌜ length (now xs) ≤ 8 ⌝ }
+    ensures { λ r. ⌜ r ≡ eight false (now (xs .entry)) ⌝ }
+{
+    let mut out = [false; 8];
+    copy_flags_in(&mut out, xs);
+    out
+}
+
+// The small numbers: the root only, next id 1, everything else 0.
+fn fresh_small(capacity: &[u64], refreshes: &[bool]) -> Small
+    requires { ⌜ (length (now capacity) ≤ 8) × (length (now refreshes) ≤ 8) ⌝ }
+    ensures { λ r. ⌜ r ≡ freshSmall (now (capacity .entry)) (now (refreshes .entry)) ⌝ }
+{
+    let capacities = eight_of(capacity);
+    let policies = eight_flags_of(refreshes);
+    Small {
+        nodes: 1,
+        used: 0,
+        stores: capacity.len(),
+        next: 1,
+        stalls: 0,
+        capacity: capacities,
+        refreshes: policies,
+        records: [0usize; 8],
+        held: [0u64; 8],
+        stamp: [0u64; 8],
+        version: [0u64; 8],
+        entries: [0usize; 8],
+        pinned: [0u64; 8],
+    }
+}
+
+// Node 0 with length and depth 0.
+fn root_only(parent: &mut [usize], depth: &mut [usize], len: &mut [usize], run: &mut [usize])
+    requires { ⌜ (1 ≤ length (now parent)) × (1 ≤ length (now depth)) × (1 ≤ length (now len)) × (1 ≤ length (now run)) ⌝ }
+    ensures { λ _. ⌜ ((now (parent .exit) ≡ set (now (parent .entry)) 0 0) × (now (depth .exit) ≡ set (now (depth .entry)) 0 0) × (now (len .exit) ≡ set (now (len .entry)) 0 0) × (now (run .exit) ≡ set (now (run .entry)) 0 0)) ⌝ }
+{
+    parent[0] = 0;
+    depth[0] = 0;
+    len[0] = 0;
+    run[0] = 0;
+}
+
+// Sets up the tree and the stores, one for each capacity; or refuses by 12.
+pub fn set_up(
+    parent: &mut [usize],
+    depth: &mut [usize],
+    len: &mut [usize],
+    run: &mut [usize],
+    words: &[u64],
+    node: &[usize],
+    start: &[usize],
+    end: &[usize],
+    id: &[u64],
+    stamp: &[u64],
+    touched: &[f64],
+    write: &[u32],
+    pin_node: &[usize],
+    pin_start: &[usize],
+    pin_end: &[usize],
+    pin_count: &[u64],
+    marks: &mut [usize],
+    bytes: &mut [u64],
+    x: Small,
+    table: &[u64],
+    capacity: &[u64],
+    refreshes: &[bool],
+) -> Plainly
+    ensures { λ r. ⌜ outcome (stateFrom (now (parent .exit)) (now (depth .exit)) (now (len .exit)) (now (run .exit)) (now (words .entry)) (now (node .entry)) (now (start .entry)) (now (end .entry)) (now (id .entry)) (now (stamp .entry)) (now (touched .entry)) (now (write .entry)) (now («pin_node» .entry)) (now («pin_start» .entry)) (now («pin_end» .entry)) (now («pin_count» .entry)) (now (marks .exit)) (now (bytes .exit)) (r .small)) tt (plainOf (r .answer)) ≡ setUp (stateFrom (now (parent .entry)) (now (depth .entry)) (now (len .entry)) (now (run .entry)) (now (words .entry)) (now (node .entry)) (now (start .entry)) (now (end .entry)) (now (id .entry)) (now (stamp .entry)) (now (touched .entry)) (now (write .entry)) (now («pin_node» .entry)) (now («pin_start» .entry)) (now («pin_end» .entry)) (now («pin_count» .entry)) (now (marks .entry)) (now (bytes .entry)) x) (now (table .entry)) (now (capacity .entry)) (now (refreshes .entry)) ⌝ }
+{
+    if !fits(
+        parent,
+        depth,
+        len,
+        run,
+        words,
+        node,
+        start,
+        end,
+        id,
+        stamp,
+        touched,
+        write,
+        pin_node,
+        pin_start,
+        pin_end,
+        pin_count,
+        marks,
+        bytes,
+        x,
+        table,
+        capacity,
+        refreshes,
+    ) {
+        return Plainly {
+            small: x,
+            answer: Plain::Refused(12),
+        };
+    }
+    root_only(parent, depth, len, run);
+    clear_marks(marks);
+    copy_in(bytes, table);
+    Plainly {
+        small: fresh_small(capacity, refreshes),
+        answer: Plain::Done,
+    }
+}

@@ -1,0 +1,184 @@
+use answers::Count;
+use answers::Counted;
+use lent::Small;
+use model::Span;
+use remove::Removing;
+ghost use mathlib.Core.Path.{_≡_};
+ghost use mathlib.Core.List.{List};
+ghost use Prim.Native.Nat.{ℕ, _+_, _*_, _≤_, _<_};
+ghost use lib.ListN.{length};
+ghost use Rattle.model.specs.Sizes.{outPlaces, maxStamp};
+ghost use Rattle.model.specs.State.{State, at};
+ghost use Rattle.model.specs.Sound.{Sound};
+ghost use Rattle.model.specs.Store.{Store, ranges};
+ghost use Rattle.model.specs.Remove.{remove as removeOf};
+ghost use Rattle.model.specs.Refusals.{firstOf, storeRemoveRefusals};
+ghost use Rattle.model.specs.Calls.{storeRemove};
+ghost use Rattle.lent.specs.Lent.{rangesOf};
+ghost use Rattle.parts.specs.Parts.{mid};
+ghost use Rattle.remove.specs.Remove.{versionPast};
+ghost use Rattle.answers.specs.Answers.{stateFrom, outcome, countOf};
+ghost use Rattle.storeremove.specs.Pool.{Seen, Placed, NeedsAt, FitsAt, PoolReady, FreedAt};
+ghost use Rattle.storeremove.specs.Settled.{Settled};
+
+// How many records the removal of a span from store s needs.
+fn need_at(node: &[usize], start: &[usize], end: &[usize], s: usize, n: usize, sp: Span) -> usize
+    requires { ⌜ Placed s n (now node) (now start) (now end) ⌝ }
+    ensures { λ r. ⌜ NeedsAt s n (now (node .entry)) (now (start .entry)) (now (end .entry)) sp r ⌝ }
+{
+    let a = 128 * s;
+    let e = a + 128;
+    overlap::remove_need(&node[a..e], &start[a..e], &end[a..e], n, sp)
+}
+
+// What a removal from a sound state is refused for, the list long enough: 2, 4, 8, 11 or nothing, 0.
+fn refusal(
+    len: &[usize],
+    node: &[usize],
+    start: &[usize],
+    end: &[usize],
+    x: Small,
+    s: usize,
+    sp: Span,
+) -> u8
+    requires { ⌜ ((st : State) × Seen (now len) (now node) (now start) (now end) x st) ⌝ }
+    ensures { λ r. ⌜ ((st : State) (l : List ℕ) → Seen (now (len .entry)) (now (node .entry)) (now (start .entry)) (now (end .entry)) x st → outPlaces ≤ length l → r ≡ firstOf (storeRemoveRefusals st l s sp)) ⌝ }
+    ensures { λ r. ⌜ (r ≡ 0 → FitsAt s (at (x .records) s) (now (node .entry)) (now (start .entry)) (now (end .entry)) sp) ⌝ }
+{
+    if x.stores <= s {
+        return 2;
+    }
+    if !refuse::span_in(len, x.nodes, sp) {
+        return 4;
+    }
+    let records = x.records;
+    let n = records[s];
+    let need = need_at(node, start, end, s, n, sp);
+    if 128 < n + need {
+        return 8;
+    }
+    if 281474976710655 < x.next + need as u64 {
+        return 11;
+    }
+    0
+}
+
+// The span taken out of the parts of store s, of the whole pools.
+fn remove_pools(
+    node: &mut [usize],
+    start: &mut [usize],
+    end: &mut [usize],
+    id: &mut [u64],
+    stamp: &mut [u64],
+    touched: &mut [f64],
+    write: &mut [u32],
+    marks: &mut [usize],
+    list: &mut [u32],
+    s: usize,
+    n: usize,
+    sp: Span,
+    next: u64,
+) -> Removing
+    requires { ⌜ PoolReady s n sp (rangesOf (now node) (now start) (now end) (now id) (now stamp) (now touched) (now write)) (now marks) (now list) ⌝ }
+    ensures { λ r. ⌜ ((x : Store) → x .ranges ≡ ranges (rangesOf (now (node .entry)) (now (start .entry)) (now (end .entry)) (now (id .entry)) (now (stamp .entry)) (now (touched .entry)) (now (write .entry))) (128 * s) n → x .marks ≡ mid (256 * s) 256 (now (marks .entry)) → FreedAt s n x (removeOf x next sp) (rangesOf (now (node .entry)) (now (start .entry)) (now (end .entry)) (now (id .entry)) (now (stamp .entry)) (now (touched .entry)) (now (write .entry))) (now (marks .entry)) (now (list .entry)) (rangesOf (now (node .exit)) (now (start .exit)) (now (end .exit)) (now (id .exit)) (now (stamp .exit)) (now (touched .exit)) (now (write .exit))) (now (marks .exit)) (now (list .exit)) r) ⌝ }
+{
+    let a = 128 * s;
+    let e = a + 128;
+    let b = 256 * s;
+    let f = b + 256;
+    remove::store_remove(
+        &mut node[a..e],
+        &mut start[a..e],
+        &mut end[a..e],
+        &mut id[a..e],
+        &mut stamp[a..e],
+        &mut touched[a..e],
+        &mut write[a..e],
+        &mut marks[b..f],
+        list,
+        n,
+        sp,
+        next,
+    )
+}
+
+// The version, one higher if a block went.
+fn version_past(removed: u64, version: u64) -> u64
+    ensures { λ r. ⌜ r ≡ versionPast removed version ⌝ }
+{
+    if removed == 0 {
+        return version;
+    }
+    std::num::wrapping_add_u64(version, 1)
+}
+
+// The small numbers after a removal from store s.
+fn settle(x: Small, s: usize, r: Removing) -> Small
+    requires { ⌜ (s < 8) × (r .removed ≤ at (x .held) s) × (x .next + r .need ≤ maxStamp) ⌝ }
+    ensures { λ y. ⌜ Settled s r x y ⌝ }
+{
+    let mut y = x;
+    y.next = x.next + r.need as u64;
+    y.records[s] = r.n;
+    y.held[s] = x.held[s] - r.removed;
+    y.version[s] = version_past(r.removed, x.version[s]);
+    y
+}
+
+// A span taken out of store s of a sound state, pinned or not; the writes of the ranges that it overlapped are listed.
+pub fn store_remove(
+    parent: &[usize],
+    depth: &[usize],
+    len: &[usize],
+    run: &[usize],
+    words: &[u64],
+    node: &mut [usize],
+    start: &mut [usize],
+    end: &mut [usize],
+    id: &mut [u64],
+    stamp: &mut [u64],
+    touched: &mut [f64],
+    write: &mut [u32],
+    pin_node: &[usize],
+    pin_start: &[usize],
+    pin_end: &[usize],
+    pin_count: &[u64],
+    marks: &mut [usize],
+    bytes: &[u64],
+    list: &mut [u32],
+    x: Small,
+    s: usize,
+    sp: Span,
+) -> Counted
+    requires { ⌜ Sound (stateFrom (now parent) (now depth) (now len) (now run) (now words) (now node) (now start) (now end) (now id) (now stamp) (now touched) (now write) (now «pin_node») (now «pin_start») (now «pin_end») (now «pin_count») (now marks) (now bytes) x) × (outPlaces ≤ length (now list)) ⌝ }
+    ensures { λ r. ⌜ outcome (stateFrom (now (parent .entry)) (now (depth .entry)) (now (len .entry)) (now (run .entry)) (now (words .entry)) (now (node .exit)) (now (start .exit)) (now (end .exit)) (now (id .exit)) (now (stamp .exit)) (now (touched .exit)) (now (write .exit)) (now («pin_node» .entry)) (now («pin_start» .entry)) (now («pin_end» .entry)) (now («pin_count» .entry)) (now (marks .exit)) (now (bytes .entry)) (r .small)) (now (list .exit)) (countOf (r .answer)) ≡ storeRemove (stateFrom (now (parent .entry)) (now (depth .entry)) (now (len .entry)) (now (run .entry)) (now (words .entry)) (now (node .entry)) (now (start .entry)) (now (end .entry)) (now (id .entry)) (now (stamp .entry)) (now (touched .entry)) (now (write .entry)) (now («pin_node» .entry)) (now («pin_start» .entry)) (now («pin_end» .entry)) (now («pin_count» .entry)) (now (marks .entry)) (now (bytes .entry)) x) (now (list .entry)) s sp ⌝ }
+{
+    let number = refusal(len, node, start, end, x, s, sp);
+    if number != 0 {
+        return Counted {
+            small: x,
+            answer: Count::Refused(number),
+        };
+    }
+    let records = x.records;
+    let r = remove_pools(
+        node,
+        start,
+        end,
+        id,
+        stamp,
+        touched,
+        write,
+        marks,
+        list,
+        s,
+        records[s],
+        sp,
+        x.next,
+    );
+    let y = settle(x, s, r);
+    Counted {
+        small: y,
+        answer: Count::Done(r.writes as u64),
+    }
+}
