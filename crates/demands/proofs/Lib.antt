@@ -1,0 +1,2 @@
+-- The demands of the lead, of the public calls.
+pub mod Demands

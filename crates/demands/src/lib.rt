@@ -1,0 +1,1 @@
+// The three demands, of the public calls by their contracts. See proofs/Demands.antt.
