@@ -1,0 +1,209 @@
+-- An expiry in a sound state: each test gives the refusal's number, the store's part is ready where none holds, and what the expiry leaves of the pools and
+-- the small numbers is the state that the definition has. Assumes nothing.
+use Prim.Native.Nat.{ℕ, zero, suc, _+_, _-_, _*_, _%_, _≤_, _<_}
+use mathlib.Core.Bool.{Bool, true, false, not}
+use mathlib.Core.Logic.{inl, inr, ⊎-elim}
+use mathlib.Core.Path.{_≡_, refl, sym, ap, subst, _∙_}
+use mathlib.Core.List.{List, [], _∷_, _++_}
+use native.Mathlib.Omega.{arith}
+use lib.ListN.{length, take, set}
+use lib.Seq.{drop-drop, set-getD}
+use lib.Ieee.{Float}
+use mir.Val.{Fits}
+use mir.Syntax.{w64}
+use Rattle.model.specs.Words.{Says}
+use Rattle.model.specs.Sizes.{versions}
+use Rattle.model.specs.State.{Ranges, Range, Books, State, at}
+use Rattle.model.specs.Sound.{Sound, Finite}
+use Rattle.model.specs.Store.{ranges, storeOf, lay, layRanges, total, withRanges}
+use Rattle.model.specs.Trim.{Trimmed}
+use Rattle.model.specs.Expire.{expire}
+use Rattle.model.specs.Refusals.{First, firstOf, OutList, OutFits, noStore, badTimes, storeExpireRefusals}
+use Rattle.model.specs.Calls.{Outcome, refused, done, unless, storeExpire}
+use Rattle.sure.proofs.Says.{says-yes, says-no}
+use Rattle.sure.proofs.Refusals.{first-is, storeExpire-exact}
+use Rattle.sure.proofs.Refused.{storeExpire-kept}
+use Rattle.kept.specs.StoreSound.{RangesSound, MarksSound, StoreSound}
+use Rattle.keptstate.proofs.Parts.{sound-parts}
+use Rattle.keptcalls.proofs.Accepted.{NoneHolds, unless-done}
+use Rattle.keptcalls.proofs.Stores.{store-sound}
+use Rattle.parts.specs.Parts.{mid, back, midRanges, backRanges}
+use Rattle.parts.proofs.Parts.{mid-long, ranges-part, ranges-back, ranges-sized}
+use Rattle.tree.specs.Span.{onlyDepth}
+use Rattle.trim.specs.Given.{Ready, GivenOut}
+use Rattle.trim.proofs.Laws.{sound-ready}
+use Rattle.expire.specs.declared.Expiring.{Expiring}
+use Rattle.expire.specs.Expire.{expired}
+use Rattle.expire.proofs.Laws.{expired-depth}
+use Rattle.bringpart.specs.Pool.{GivenOutAt}
+use Rattle.answers.specs.Answers.{outcome}
+use Rattle.storeexpire.specs.Pool.{PoolReady}
+use Rattle.storeexpire.specs.Settled.{settledBooks}
+
+-- ---- the refusals
+
+module _ (st : State) (l : OutList) (s : ℕ) (time seconds : Float) (h : Sound st) (fits : OutFits l) where
+  number : (n : ℕ) → First (noStore st s ∷ badTimes time seconds ∷ []) n → n ≡ firstOf (storeExpireRefusals st l s time seconds)
+  number n f = sym (first-is (storeExpireRefusals st l s time seconds) (storeExpire-exact st l s time seconds) n (inr (λ g. g h, inr (λ g. g fits, f))))
+
+  module _ (stores : ℕ) (is : st .books .stores ≡ stores) where
+    pub refused-store : stores ≤ s → 2 ≡ firstOf (storeExpireRefusals st l s time seconds)
+    refused-store k = number 2 (inl (omega arith, refl))
+
+    module _ (k : s < stores) where
+      used : st .books .stores ≤ s → ⊥
+      used e = omega arith
+
+      pub refused-time : (b : Bool) → Says b (Finite time) → not b ≡ true → 5 ≡ firstOf (storeExpireRefusals st l s time seconds)
+      refused-time b f e = number 5 (inr (used, inl (inl (says-no b e f), refl)))
+
+      pub refused-seconds : (b : Bool) → Says b (Finite seconds) → not b ≡ true → 5 ≡ firstOf (storeExpireRefusals st l s time seconds)
+      refused-seconds b f e = number 5 (inr (used, inl (inr (says-no b e f), refl)))
+
+      pub accepted : (b d : Bool) → Says b (Finite time) → not b ≡ false → Says d (Finite seconds) → not d ≡ false
+          → 0 ≡ firstOf (storeExpireRefusals st l s time seconds)
+      accepted b d f e g q = number 0 (inr (used, inr (⊎-elim (λ n. n (says-yes b e f)) (λ n. n (says-yes d q g)), refl)))
+
+-- ---- the parts of store s
+
+-- a list as long as the part, given back
+full : (a w : ℕ) (xs pool : List ℕ) → length xs ≡ w → back a w xs pool ≡ lay 0 a w xs pool
+unfolding lay
+full a w xs pool e = let z : w - length xs ≡ 0 = omega arith in rw z (ap (λ t. take a pool ++ (xs ++ t)) (drop-drop w a pool))
+
+module _ {depth bytes : List ℕ} {s n h : ℕ} {c : Ranges} {ms : List ℕ} {l : OutList} (p : PoolReady depth bytes s n h c ms l) where
+  pub pool-part : (a b : ℕ) → a ≡ 128 → b ≡ 256 → Ready depth bytes n h (midRanges (128 * s) a c) (mid (256 * s) b ms) l
+  pool-part a b ea eb = rw (ea, eb) (p .part)
+
+  module _ {q : Ranges} {ms₂ : List ℕ} {l₂ : OutList} {j k o : ℕ} {t : Bool} where
+    given-at : (v : Trimmed) → length ms₂ ≡ 256 → GivenOut v n (midRanges (128 * s) 128 c) l q ms₂ l₂ j k o t
+        → GivenOutAt s v n c ms l (backRanges (128 * s) 128 q c) (back (256 * s) 256 ms₂ ms) l₂ j k o t
+    given-at v long u =
+        record {
+          cols = ap (λ (x : Ranges). backRanges (128 * s) 128 x c) (u .cols) ∙ ranges-back (128 * s) 128 n (v .ranges) c (p .part .few);
+          marks = full (256 * s) 256 ms₂ ms long ∙ ap (λ (x : List ℕ). lay 0 (256 * s) 256 x ms) (u .marks);
+          lists = u .lists;
+          records = u .records;
+          held = u .held;
+          outs = u .outs;
+          stalled = u .stalled;
+        }
+
+    pub pool-given : (time seconds : Float) (a b : ℕ) → a ≡ 128 → b ≡ 256 → length ms₂ ≡ length (mid (256 * s) b ms)
+        → GivenOut (expired (onlyDepth depth) bytes time seconds (ranges (midRanges (128 * s) a c) 0 n) (mid (256 * s) b ms)) n (midRanges (128 * s) a c) l q ms₂ l₂ j k o t
+        → GivenOutAt s (expired (onlyDepth depth) bytes time seconds (ranges c (128 * s) n) (mid (256 * s) 256 ms)) n c ms l (backRanges (128 * s) a q c) (back (256 * s) b ms₂ ms) l₂ j k o t
+    pool-given time seconds a b ea eb kept v =
+        let long : length ms₂ ≡ 256 = kept ∙ ap (λ (x : ℕ). length (mid (256 * s) x ms)) eb ∙ mid-long (256 * s) 256 ms (omega (arith, p .marks, p .store)) in
+        let f = ranges-part c (128 * s) 128 n (p .part .few) in
+        rw (ea, eb) (given-at _ long (rw f at (rw (ea, eb) at v)))
+
+-- ---- the small numbers
+
+pub index-fits : {s : ℕ} → s < 8 → Fits w64 (s * 8)
+index-fits h = omega arith
+
+-- the state by its columns, marks and books
+abbrev stateWith : State → Ranges → List ℕ → Books → State
+stateWith st c ms b = record { tree = st .tree; ranges = c; pins = st .pins; marks = ms; bytes = st .bytes; books = b }
+
+-- the books of store s by what changes
+abbrev booksBy : ℕ → Books → ℕ → ℕ → List ℕ → ℕ → Books
+booksBy s x records held stamp version =
+    record {
+      stores = x .stores;
+      nextId = x .nextId;
+      stalls = x .stalls;
+      capacity = x .capacity;
+      refreshes = x .refreshes;
+      records = set (x .records) s records;
+      held = set (x .held) s held;
+      stamp = stamp;
+      version = set (x .version) s version;
+      entries = x .entries;
+      pinned = x .pinned;
+    }
+
+pub books-settled : (s : ℕ) (r : Expiring) (x : Books) (v : ℕ) → v ≡ (at (x .version) s + r .outs) % versions
+    → booksBy s x (r .n) (r .held) (x .stamp) v ≡ settledBooks s r x
+books-settled s r x v e = λ j. booksBy s x (r .n) (r .held) (x .stamp) (e j)
+
+-- ---- the call
+
+module _ {L A : Type 0} (st : State) (l : L) (o : Outcome L A) where
+  unless-none : (n : ℕ) → n ≡ 0 → unless n st l o ≡ o
+  unless-none zero e = refl
+  unless-none (suc n) e = absurd (omega arith)
+
+  unless-some : (n : ℕ) → (n ≡ 0 → ⊥) → unless n st l o ≡ outcome st l (refused n)
+  unless-some zero e = absurd (e refl)
+  unless-some (suc n) e = refl
+
+module _ (st : State) (l : OutList) (s : ℕ) (time seconds : Float) where
+  pub call-refused : (n : ℕ) → n ≡ firstOf (storeExpireRefusals st l s time seconds) → (n ≡ 0 → ⊥) → outcome st l (refused n) ≡ storeExpire st l s time seconds
+  unfolding storeExpire
+  call-refused n e d = ap (λ (k : ℕ). outcome st l (refused k)) e ∙ sym (unless-some st l _ (firstOf (storeExpireRefusals st l s time seconds)) (λ z. d (e ∙ z)))
+
+  module _ (h : Sound st) (fits : OutFits l) (n : ℕ) (number : n ≡ firstOf (storeExpireRefusals st l s time seconds)) (zero : n ≡ 0) where
+    none : firstOf (storeExpireRefusals st l s time seconds) ≡ 0
+    none = sym number ∙ zero
+
+    none-holds : NoneHolds (storeExpireRefusals st l s time seconds)
+    unfolding storeExpire
+    none-holds = unless-done _ _ _ (storeExpire-kept st l s time seconds) _ (ap (λ o. o .answer) (unless-none st l _ (firstOf (storeExpireRefusals st l s time seconds)) none)) .none
+
+    less : s < st .books .stores
+    less = let f = none-holds .1 .1 .0 in omega arith
+
+    own : StoreSound (st .tree) (st .books .nextId) (storeOf st s)
+    own = store-sound st s h less
+
+    pub store-in : s < 8
+    store-in = omega (arith, less, h .counts .stores)
+
+    few : at (st .books .records) s ≤ 128
+    few = h .counts .each s (omega arith) less .records
+
+    read : ranges (midRanges (128 * s) 128 (st .ranges)) 0 (at (st .books .records) s) ≡ storeOf st s .ranges
+    unfolding storeOf
+    read = ranges-part (st .ranges) (128 * s) 128 (at (st .books .records) s) few
+
+    ready : Ready (st .tree .depth) (st .bytes) (at (st .books .records) s) (at (st .books .held) s) (midRanges (128 * s) 128 (st .ranges))
+        (mid (256 * s) 256 (st .marks)) l
+    unfolding storeOf
+    ready =
+        sound-ready {t = st .tree} {next = st .books .nextId} {top = storeOf st s .stamp} (sound-parts st h .tree) (h .table) (h .lent .bytes)
+        (ranges-sized (128 * s) (st .ranges) (h .lent .ranges) (omega (arith, store-in))) few
+        (subst (λ (rs : List Range). RangesSound (st .tree) (st .books .nextId) (storeOf st s .stamp) rs) (sym read) (own .ranges))
+        (own .held ∙ ap total (sym read))
+        (subst (λ (rs : List Range). MarksSound (st .tree) rs (storeOf st s .marks)) (sym read) (own .marks)) fits
+
+    pub pool-in : PoolReady (st .tree .depth) (st .bytes) s (at (st .books .records) s) (at (st .books .held) s) (st .ranges) (st .marks) l
+    pool-in = record { store = store-in; ranges = h .lent .ranges; marks = h .lent .marks; part = ready }
+
+    -- what goes of the store
+    abbrev gone : Trimmed
+    gone = expired (st .tree) (st .bytes) time seconds (storeOf st s .ranges) (storeOf st s .marks)
+
+    stamp-left : st .books .stamp ≡ set (st .books .stamp) s (storeOf st s .stamp)
+    unfolding storeOf
+    stamp-left = sym (set-getD (st .books .stamp) s 0)
+
+    module _ {c : Ranges} {ms : List ℕ} {lʹ : OutList} {r : Expiring} where
+      given-in : GivenOutAt s (expired (onlyDepth (st .tree .depth)) (st .bytes) time seconds (ranges (st .ranges) (128 * s) (at (st .books .records) s)) (mid (256 * s) 256 (st .marks))) (at (st .books .records) s) (st .ranges) (st .marks) l c ms lʹ (r .n) (r .held) (r .outs) false
+          → GivenOutAt s gone (at (st .books .records) s) (st .ranges) (st .marks) l c ms lʹ (r .n) (r .held) (r .outs) false
+      unfolding storeOf
+      given-in u = rw (expired-depth (st .tree)) at u
+
+      call-laid : GivenOutAt s gone (at (st .books .records) s) (st .ranges) (st .marks) l c ms lʹ (r .n) (r .held) (r .outs) false
+          → outcome (stateWith st c ms (settledBooks s r (st .books))) lʹ (done (r .outs)) ≡ storeExpire st l s time seconds
+      unfolding storeExpire withRanges expire expired storeOf
+      call-laid u =
+          let more : at (st .books .records) s ≡ at (st .books .records) s + 0 = omega arith in
+          let cols = u .cols ∙ ap (λ (k : ℕ). layRanges (128 * s) k (gone .ranges) (st .ranges)) more in
+          (λ j. outcome (stateWith st (cols j) (u .marks j) (booksBy s (st .books) (u .records j) (u .held j) (stamp-left j) ((at (st .books .version) s + u .outs j) % versions))) (u .lists j) (done (u .outs j)))
+          ∙ sym (unless-none st l _ (firstOf (storeExpireRefusals st l s time seconds)) none)
+
+      pub call-done : (st′ : State) {bs : Books} → st′ ≡ stateWith st c ms bs → bs ≡ settledBooks s r (st .books)
+          → GivenOutAt s (expired (onlyDepth (st .tree .depth)) (st .bytes) time seconds (ranges (st .ranges) (128 * s) (at (st .books .records) s)) (mid (256 * s) 256 (st .marks))) (at (st .books .records) s) (st .ranges) (st .marks) l c ms lʹ (r .n) (r .held) (r .outs) false
+          → outcome st′ lʹ (done (r .outs)) ≡ storeExpire st l s time seconds
+      call-done st′ e d u = (λ j. outcome (e j) lʹ (done (r .outs))) ∙ (λ j. outcome (stateWith st c ms (d j)) lʹ (done (r .outs))) ∙ call-laid (given-in u)

@@ -1,0 +1,177 @@
+use answers::Count;
+use answers::Counted;
+use expire::Expiring;
+use lent::Small;
+ghost use mathlib.Core.Path.{_≡_};
+ghost use mathlib.Core.Bool.{false};
+ghost use Prim.Native.Nat.{_*_, _<_};
+ghost use Rattle.model.specs.State.{State};
+ghost use Rattle.model.specs.Sound.{Sound};
+ghost use Rattle.model.specs.Store.{ranges};
+ghost use Rattle.model.specs.Refusals.{OutList, OutFits, firstOf, storeExpireRefusals};
+ghost use Rattle.model.specs.Calls.{storeExpire};
+ghost use Rattle.lent.specs.Lent.{rangesOf};
+ghost use Rattle.parts.specs.Parts.{mid};
+ghost use Rattle.tree.specs.Span.{onlyDepth};
+ghost use Rattle.evicted.specs.Evicted.{outList};
+ghost use Rattle.expire.specs.Expire.{expired};
+ghost use Rattle.bringpart.specs.Pool.{GivenOutAt};
+ghost use Rattle.answers.specs.Answers.{stateFrom, outcome, countOf};
+ghost use Rattle.storeexpire.specs.Pool.{PoolReady};
+ghost use Rattle.storeexpire.specs.Settled.{Settled};
+
+// What an expiry in a sound state is refused for, the lists long enough: 2, 5 or nothing, 0.
+fn refusal(stores: usize, s: usize, time: f64, seconds: f64) -> u8
+    ensures { λ r. ⌜ ((st : State) (l : OutList) → Sound st → OutFits l → st .books .stores ≡ stores → r ≡ firstOf (storeExpireRefusals st l s time seconds)) ⌝ }
+{
+    if stores <= s {
+        return 2;
+    }
+    if !refuse::finite(time) {
+        return 5;
+    }
+    if !refuse::finite(seconds) {
+        return 5;
+    }
+    0
+}
+
+// The aged ranges of store s given out, in its parts of the whole pools.
+fn expire_pools(
+    node: &mut [usize],
+    start: &mut [usize],
+    end: &mut [usize],
+    id: &mut [u64],
+    stamp: &mut [u64],
+    touched: &mut [f64],
+    write: &mut [u32],
+    marks: &mut [usize],
+    out_node: &mut [usize],
+    out_start: &mut [usize],
+    out_end: &mut [usize],
+    out_write: &mut [u32],
+    out_bytes: &mut [u64],
+    out_dead: &mut [u64],
+    depth: &[usize],
+    bytes: &[u64],
+    s: usize,
+    n: usize,
+    held: u64,
+    time: f64,
+    seconds: f64,
+) -> Expiring
+    requires { ⌜ PoolReady (now depth) (now bytes) s n held (rangesOf (now node) (now start) (now end) (now id) (now stamp) (now touched) (now write)) (now marks) (outList (now «out_node») (now «out_start») (now «out_end») (now «out_write») (now «out_bytes») (now «out_dead»)) ⌝ }
+    ensures { λ r. ⌜ GivenOutAt s (expired (onlyDepth (now (depth .entry))) (now (bytes .entry)) time seconds (ranges (rangesOf (now (node .entry)) (now (start .entry)) (now (end .entry)) (now (id .entry)) (now (stamp .entry)) (now (touched .entry)) (now (write .entry))) (128 * s) n) (mid (256 * s) 256 (now (marks .entry)))) n (rangesOf (now (node .entry)) (now (start .entry)) (now (end .entry)) (now (id .entry)) (now (stamp .entry)) (now (touched .entry)) (now (write .entry))) (now (marks .entry)) (outList (now («out_node» .entry)) (now («out_start» .entry)) (now («out_end» .entry)) (now («out_write» .entry)) (now («out_bytes» .entry)) (now («out_dead» .entry))) (rangesOf (now (node .exit)) (now (start .exit)) (now (end .exit)) (now (id .exit)) (now (stamp .exit)) (now (touched .exit)) (now (write .exit))) (now (marks .exit)) (outList (now («out_node» .exit)) (now («out_start» .exit)) (now («out_end» .exit)) (now («out_write» .exit)) (now («out_bytes» .exit)) (now («out_dead» .exit))) (r .n) (r .held) (r .outs) false ⌝ }
+{
+    let a = 128 * s;
+    let e = a + 128;
+    let b = 256 * s;
+    let f = b + 256;
+    expire::store_expire(
+        &mut node[a..e],
+        &mut start[a..e],
+        &mut end[a..e],
+        &mut id[a..e],
+        &mut stamp[a..e],
+        &mut touched[a..e],
+        &mut write[a..e],
+        &mut marks[b..f],
+        out_node,
+        out_start,
+        out_end,
+        out_write,
+        out_bytes,
+        out_dead,
+        depth,
+        bytes,
+        n,
+        held,
+        time,
+        seconds,
+    )
+}
+
+// The small numbers after an expiry of store s.
+fn settle(x: Small, s: usize, r: Expiring) -> Small
+    requires { ⌜ s < 8 ⌝ }
+    ensures { λ y. ⌜ Settled s r x y ⌝ }
+{
+    let mut y = x;
+    y.records[s] = r.n;
+    y.held[s] = r.held;
+    y.version[s] = std::num::wrapping_add_u64(x.version[s], r.outs as u64);
+    y
+}
+
+// The ranges of store s of a sound state that were touched more than the seconds ago, oldest first, pinned or not, given out.
+pub fn store_expire(
+    parent: &[usize],
+    depth: &[usize],
+    len: &[usize],
+    run: &[usize],
+    words: &[u64],
+    node: &mut [usize],
+    start: &mut [usize],
+    end: &mut [usize],
+    id: &mut [u64],
+    stamp: &mut [u64],
+    touched: &mut [f64],
+    write: &mut [u32],
+    pin_node: &[usize],
+    pin_start: &[usize],
+    pin_end: &[usize],
+    pin_count: &[u64],
+    marks: &mut [usize],
+    bytes: &[u64],
+    out_node: &mut [usize],
+    out_start: &mut [usize],
+    out_end: &mut [usize],
+    out_write: &mut [u32],
+    out_bytes: &mut [u64],
+    out_dead: &mut [u64],
+    x: Small,
+    s: usize,
+    time: f64,
+    seconds: f64,
+) -> Counted
+    requires { ⌜ Sound (stateFrom (now parent) (now depth) (now len) (now run) (now words) (now node) (now start) (now end) (now id) (now stamp) (now touched) (now write) (now «pin_node») (now «pin_start») (now «pin_end») (now «pin_count») (now marks) (now bytes) x) × OutFits (outList (now «out_node») (now «out_start») (now «out_end») (now «out_write») (now «out_bytes») (now «out_dead»)) ⌝ }
+    ensures { λ r. ⌜ outcome (stateFrom (now (parent .entry)) (now (depth .entry)) (now (len .entry)) (now (run .entry)) (now (words .entry)) (now (node .exit)) (now (start .exit)) (now (end .exit)) (now (id .exit)) (now (stamp .exit)) (now (touched .exit)) (now (write .exit)) (now («pin_node» .entry)) (now («pin_start» .entry)) (now («pin_end» .entry)) (now («pin_count» .entry)) (now (marks .exit)) (now (bytes .entry)) (r .small)) (outList (now («out_node» .exit)) (now («out_start» .exit)) (now («out_end» .exit)) (now («out_write» .exit)) (now («out_bytes» .exit)) (now («out_dead» .exit))) (countOf (r .answer)) ≡ storeExpire (stateFrom (now (parent .entry)) (now (depth .entry)) (now (len .entry)) (now (run .entry)) (now (words .entry)) (now (node .entry)) (now (start .entry)) (now (end .entry)) (now (id .entry)) (now (stamp .entry)) (now (touched .entry)) (now (write .entry)) (now («pin_node» .entry)) (now («pin_start» .entry)) (now («pin_end» .entry)) (now («pin_count» .entry)) (now (marks .entry)) (now (bytes .entry)) x) (outList (now («out_node» .entry)) (now («out_start» .entry)) (now («out_end» .entry)) (now («out_write» .entry)) (now («out_bytes» .entry)) (now («out_dead» .entry))) s time seconds ⌝ }
+{
+    let number = refusal(x.stores, s, time, seconds);
+    if number != 0 {
+        return Counted {
+            small: x,
+            answer: Count::Refused(number),
+        };
+    }
+    let records = x.records;
+    let held = x.held;
+    let r = expire_pools(
+        node,
+        start,
+        end,
+        id,
+        stamp,
+        touched,
+        write,
+        marks,
+        out_node,
+        out_start,
+        out_end,
+        out_write,
+        out_bytes,
+        out_dead,
+        depth,
+        bytes,
+        s,
+        records[s],
+        held[s],
+        time,
+        seconds,
+    );
+    let y = settle(x, s, r);
+    Counted {
+        small: y,
+        answer: Count::Done(r.outs as u64),
+    }
+}
