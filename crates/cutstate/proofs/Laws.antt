@@ -6,13 +6,12 @@ use native.Mathlib.Numerals.{add-one}
 use native.Mathlib.Omega.{arith}
 use native.Mathlib.Nat.{le-refl, le-of-eq, mul-le-mul-right, sub-zero}
 use lib.ListN.{length}
-use Rattle.model.specs.Words.{Each}
-use Rattle.model.specs.Sizes.{maxNodes, maxStores, maxStamp, maxPinned, storeRecords, storePins}
+use Rattle.model.specs.Sizes.{maxNodes, maxStores, maxStamp}
 use Rattle.model.specs.State.{Tree, Ranges, Pins, Pin, State, at}
 use Rattle.model.specs.Sound.{EndsWithin, RunsBelow, PinInside}
-use Rattle.model.specs.Store.{Store, storeOf, ranges, pins}
+use Rattle.model.specs.Store.{Store, storeOf}
 use Rattle.model.specs.Pins.{pinnedIn}
-use Rattle.model.specs.Insert.{nextNode, rangesAcross, pinsAcross, cutTree, cutStoreIn, cutStores, withTree, cut}
+use Rattle.model.specs.Insert.{nextNode, cutTree, cutStoreIn, cutStores, withTree, cut}
 use Rattle.lent.specs.declared.Small.{Small}
 use Rattle.lent.specs.Lent.{booksOf, stateOf}
 use Rattle.laid.proofs.Store.{records-length, entries-length}
@@ -21,7 +20,7 @@ use Rattle.kept.specs.StoreSound.{TreeSound, StoreSound, Parts}
 use Rattle.keptcut.proofs.CutTree.{cutTree-sound}
 use Rattle.keptcut.proofs.CutStore.{cutStore-ids, cutStore-length, cutStore-pins, cutStore-sound}
 use Rattle.keptstate.proofs.Parts.{sound-parts}
-use Rattle.keptstate.proofs.Cut.{Cutting, Room, StoreCut, needs, sumTo, sum-rises, first-turn, cutIn-is, fits, next-turn}
+use Rattle.keptstate.proofs.Cut.{Cutting, Room, StoreCut, needs, sumTo, first-turn, cutIn-is, fits, next-turn}
 use Rattle.cutpins.specs.Entries.{counts}
 use Rattle.cutstore.specs.Needs.{idsBelow}
 use Rattle.insert.specs.Halves.{RangesRoom, PinsRoom}

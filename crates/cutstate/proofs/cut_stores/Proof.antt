@@ -3,7 +3,7 @@
 use Prim.Native.Nat.{_-_}
 use native.Mathlib.Omega.{arith}
 use Rattle.lent.specs.Lent.{rangesOf, pinsOf}
-use Rattle.cutstate.proofs.Laws.{Turning, AsLong, turning-start, turning-asks, turning-turn, turning-end, turn-fits}
+use Rattle.cutstate.proofs.Laws.{Turning, turning-start, turning-asks, turning-turn, turning-end, turn-fits}
 use Rattle.cutstate.proofs.cut_stores.Statement.{statement}
 use Rattle.cutstate.proofs.cut_stores.Tie as tie
 
@@ -51,7 +51,18 @@ loop-again c =
     (pinsOf (f .last .1 .1 .1 .1 .1 .1 .1 .0) (f .last .1 .1 .1 .1 .1 .1 .1 .1 .0) (f .last .1 .1 .1 .1 .1 .1 .1 .1 .1 .0) (f .last .1 .1 .1 .1 .1 .1 .1 .1 .1 .1 .0)) (f .last .1 .1 .1 .1 .1 .1 .1 .1 .1 .1 .1 .0) (f .result)
     (c .before .before .before .before .before .before .before .before .before .before .before .before .before .before .before .before .before .before .before .before .before .before .before .before .before .before .before .before .before .before .before .before .before .before .before .before .before .loop-test .taken) (f .ensures)
     (record {
-      node = f .kept .0; start = f .kept .1 .0; end = f .kept .1 .1 .0; id = f .kept .1 .1 .1 .0; stamp = f .kept .1 .1 .1 .1 .0; touched = f .kept .1 .1 .1 .1 .1 .0; write = f .kept .1 .1 .1 .1 .1 .1 .0; pinNode = f .kept .1 .1 .1 .1 .1 .1 .1 .0; pinStart = f .kept .1 .1 .1 .1 .1 .1 .1 .1 .0; pinEnd = f .kept .1 .1 .1 .1 .1 .1 .1 .1 .1 .0; pinCount = f .kept .1 .1 .1 .1 .1 .1 .1 .1 .1 .1 .0; marks = f .kept .1 .1 .1 .1 .1 .1 .1 .1 .1 .1 .1 .0
+      node = f .kept .0;
+      start = f .kept .1 .0;
+      end = f .kept .1 .1 .0;
+      id = f .kept .1 .1 .1 .0;
+      stamp = f .kept .1 .1 .1 .1 .0;
+      touched = f .kept .1 .1 .1 .1 .1 .0;
+      write = f .kept .1 .1 .1 .1 .1 .1 .0;
+      pinNode = f .kept .1 .1 .1 .1 .1 .1 .1 .0;
+      pinStart = f .kept .1 .1 .1 .1 .1 .1 .1 .1 .0;
+      pinEnd = f .kept .1 .1 .1 .1 .1 .1 .1 .1 .1 .0;
+      pinCount = f .kept .1 .1 .1 .1 .1 .1 .1 .1 .1 .1 .0;
+      marks = f .kept .1 .1 .1 .1 .1 .1 .1 .1 .1 .1 .1 .0;
     })
 
 same-length : tie.Need-same-length Inv-loop μ-loop
