@@ -83,7 +83,7 @@ count-one (C.Refused m) (C.Done k) e = absurd (let z : _≡_ {A = ℕ} 0 1 = cc 
 count-one (C.Done k) (C.Refused n) e = absurd (let z : _≡_ {A = ℕ} 0 1 = cc in omega arith)
 count-one (C.Done j) (C.Done k) e = ap C.Done (cc)
 
-path-one : (p q : Path) → pathFrom p ≡ pathFrom q → p ≡ q
+pub path-one : (p q : Path) → pathFrom p ≡ pathFrom q → p ≡ q
 path-one p q e = ap (λ r. record { segs = r .segs; blocks = r .blocks }) e
 
 cut-one : (p q : Cut) → cutFrom p ≡ cutFrom q → p ≡ q

@@ -1,0 +1,2 @@
+-- The laws of the counters' outcomes.
+pub mod Laws

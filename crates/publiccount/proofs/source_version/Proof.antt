@@ -1,0 +1,28 @@
+-- `publiccount::source_version` meets its contract: refused by 1, or what the inner call answers. Assumes nothing.
+use mathlib.Core.Path.{refl}
+use Rattle.sure.proofs.Says.{says-yes, says-no}
+use Rattle.publiccount.proofs.Laws.{version-is}
+use Rattle.gates.proofs.Gates.{version-unsound}
+use Rattle.publiccount.proofs.source_version.Statement.{statement}
+use Rattle.publiccount.proofs.source_version.Tie as tie
+
+sound-state-requires : tie.Need-sound-state-requires
+sound-state-requires c κs = tt
+
+returns : tie.Need-returns
+returns c = version-unsound _ (says-no (c .before .sound-state .result) (c .if1 .taken) (c .before .sound-state .ensures)) (c .before .before .before .before .before .before .before .before .before .before .before .before .before .before .before .before .before .before .before .before .args .s)
+
+source-version-requires : tie.Need-source-version-requires
+source-version-requires c κs = (says-yes (c .before .sound-state .result) (c .if1 .left) (c .before .sound-state .ensures)) .counts .stores
+
+returns-2 : tie.Need-returns-2
+returns-2 c = version-is _ (c .before .before .before .before .before .before .before .before .before .before .before .before .before .before .before .before .before .before .before .before .before .args .s) (c .source-version .ensures _ (record { books = refl; sound = (says-yes (c .before .before .sound-state .result) (c .before .if1 .left) (c .before .before .sound-state .ensures)) }))
+
+pub source-version-spec : {M : Type 1} → statement M
+source-version-spec =
+    tie.close
+    (tie.spec
+    sound-state-requires
+    returns
+    source-version-requires
+    returns-2)

@@ -1,0 +1,28 @@
+-- `publiccount::store_held_blocks` meets its contract: refused by 1, or what the inner call answers. Assumes nothing.
+use mathlib.Core.Path.{refl}
+use Rattle.sure.proofs.Says.{says-yes, says-no}
+use Rattle.publiccount.proofs.Laws.{held-is}
+use Rattle.gates.proofs.Gates.{held-unsound}
+use Rattle.publiccount.proofs.store_held_blocks.Statement.{statement}
+use Rattle.publiccount.proofs.store_held_blocks.Tie as tie
+
+sound-state-requires : tie.Need-sound-state-requires
+sound-state-requires c κs = tt
+
+returns : tie.Need-returns
+returns c = held-unsound _ (says-no (c .before .sound-state .result) (c .if1 .taken) (c .before .sound-state .ensures)) (c .before .before .before .before .before .before .before .before .before .before .before .before .before .before .before .before .before .before .before .before .args .s)
+
+store-held-blocks-requires : tie.Need-store-held-blocks-requires
+store-held-blocks-requires c κs = (says-yes (c .before .sound-state .result) (c .if1 .left) (c .before .sound-state .ensures)) .counts .stores
+
+returns-2 : tie.Need-returns-2
+returns-2 c = held-is _ (c .before .before .before .before .before .before .before .before .before .before .before .before .before .before .before .before .before .before .before .before .before .args .s) (c .store-held-blocks .ensures _ (record { books = refl; sound = (says-yes (c .before .before .sound-state .result) (c .before .if1 .left) (c .before .before .sound-state .ensures)) }))
+
+pub store-held-blocks-spec : {M : Type 1} → statement M
+store-held-blocks-spec =
+    tie.close
+    (tie.spec
+    sound-state-requires
+    returns
+    store-held-blocks-requires
+    returns-2)

@@ -1,0 +1,2 @@
+-- The law of a refused lookup.
+pub mod Laws

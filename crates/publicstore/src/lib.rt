@@ -1,0 +1,290 @@
+// The public calls that bring in and give out: the tests for 1 and 14, then the call that a caller with a sound state uses.
+use answers::Count;
+use answers::Counted;
+use lent::Small;
+use model::Span;
+ghost use mathlib.Core.Path.{_≡_};
+ghost use Rattle.model.specs.Calls.{storeInsert, storeExpire, storeRemove};
+ghost use Rattle.evicted.specs.Evicted.{outList};
+ghost use Rattle.answers.specs.Answers.{stateFrom, outcome, countOf};
+
+// Brings a span into store s, and lists what is given out.
+pub fn store_insert(
+    parent: &[usize],
+    depth: &[usize],
+    len: &[usize],
+    run: &[usize],
+    words: &[u64],
+    node: &mut [usize],
+    start: &mut [usize],
+    end: &mut [usize],
+    id: &mut [u64],
+    stamp: &mut [u64],
+    touched: &mut [f64],
+    write: &mut [u32],
+    pin_node: &[usize],
+    pin_start: &[usize],
+    pin_end: &[usize],
+    pin_count: &[u64],
+    marks: &mut [usize],
+    bytes: &[u64],
+    out_node: &mut [usize],
+    out_start: &mut [usize],
+    out_end: &mut [usize],
+    out_write: &mut [u32],
+    out_bytes: &mut [u64],
+    out_dead: &mut [u64],
+    x: Small,
+    s: usize,
+    sp: Span,
+    time: f64,
+    w: u32,
+) -> Counted
+    ensures { λ r. ⌜ outcome (stateFrom (now (parent .entry)) (now (depth .entry)) (now (len .entry)) (now (run .entry)) (now (words .entry)) (now (node .exit)) (now (start .exit)) (now (end .exit)) (now (id .exit)) (now (stamp .exit)) (now (touched .exit)) (now (write .exit)) (now («pin_node» .entry)) (now («pin_start» .entry)) (now («pin_end» .entry)) (now («pin_count» .entry)) (now (marks .exit)) (now (bytes .entry)) (r .small)) (outList (now («out_node» .exit)) (now («out_start» .exit)) (now («out_end» .exit)) (now («out_write» .exit)) (now («out_bytes» .exit)) (now («out_dead» .exit))) (countOf (r .answer)) ≡ storeInsert (stateFrom (now (parent .entry)) (now (depth .entry)) (now (len .entry)) (now (run .entry)) (now (words .entry)) (now (node .entry)) (now (start .entry)) (now (end .entry)) (now (id .entry)) (now (stamp .entry)) (now (touched .entry)) (now (write .entry)) (now («pin_node» .entry)) (now («pin_start» .entry)) (now («pin_end» .entry)) (now («pin_count» .entry)) (now (marks .entry)) (now (bytes .entry)) x) (outList (now («out_node» .entry)) (now («out_start» .entry)) (now («out_end» .entry)) (now («out_write» .entry)) (now («out_bytes» .entry)) (now («out_dead» .entry))) s sp time w ⌝ }
+{
+    if !sound::sound_state(
+        parent,
+        depth,
+        len,
+        run,
+        words,
+        node,
+        start,
+        end,
+        id,
+        stamp,
+        touched,
+        write,
+        pin_node,
+        pin_start,
+        pin_end,
+        pin_count,
+        marks,
+        bytes,
+        x,
+    ) {
+        return Counted {
+            small: x,
+            answer: Count::Refused(1),
+        };
+    }
+    if !lists::outs_fit(out_node, out_start, out_end, out_write, out_bytes, out_dead) {
+        return Counted {
+            small: x,
+            answer: Count::Refused(14),
+        };
+    }
+    storeinsert::store_insert(
+        parent,
+        depth,
+        len,
+        run,
+        words,
+        node,
+        start,
+        end,
+        id,
+        stamp,
+        touched,
+        write,
+        pin_node,
+        pin_start,
+        pin_end,
+        pin_count,
+        marks,
+        bytes,
+        out_node,
+        out_start,
+        out_end,
+        out_write,
+        out_bytes,
+        out_dead,
+        x,
+        s,
+        sp,
+        time,
+        w,
+    )
+}
+
+// Gives out what store s has not touched for more than the seconds.
+pub fn store_expire(
+    parent: &[usize],
+    depth: &[usize],
+    len: &[usize],
+    run: &[usize],
+    words: &[u64],
+    node: &mut [usize],
+    start: &mut [usize],
+    end: &mut [usize],
+    id: &mut [u64],
+    stamp: &mut [u64],
+    touched: &mut [f64],
+    write: &mut [u32],
+    pin_node: &[usize],
+    pin_start: &[usize],
+    pin_end: &[usize],
+    pin_count: &[u64],
+    marks: &mut [usize],
+    bytes: &[u64],
+    out_node: &mut [usize],
+    out_start: &mut [usize],
+    out_end: &mut [usize],
+    out_write: &mut [u32],
+    out_bytes: &mut [u64],
+    out_dead: &mut [u64],
+    x: Small,
+    s: usize,
+    time: f64,
+    seconds: f64,
+) -> Counted
+    ensures { λ r. ⌜ outcome (stateFrom (now (parent .entry)) (now (depth .entry)) (now (len .entry)) (now (run .entry)) (now (words .entry)) (now (node .exit)) (now (start .exit)) (now (end .exit)) (now (id .exit)) (now (stamp .exit)) (now (touched .exit)) (now (write .exit)) (now («pin_node» .entry)) (now («pin_start» .entry)) (now («pin_end» .entry)) (now («pin_count» .entry)) (now (marks .exit)) (now (bytes .entry)) (r .small)) (outList (now («out_node» .exit)) (now («out_start» .exit)) (now («out_end» .exit)) (now («out_write» .exit)) (now («out_bytes» .exit)) (now («out_dead» .exit))) (countOf (r .answer)) ≡ storeExpire (stateFrom (now (parent .entry)) (now (depth .entry)) (now (len .entry)) (now (run .entry)) (now (words .entry)) (now (node .entry)) (now (start .entry)) (now (end .entry)) (now (id .entry)) (now (stamp .entry)) (now (touched .entry)) (now (write .entry)) (now («pin_node» .entry)) (now («pin_start» .entry)) (now («pin_end» .entry)) (now («pin_count» .entry)) (now (marks .entry)) (now (bytes .entry)) x) (outList (now («out_node» .entry)) (now («out_start» .entry)) (now («out_end» .entry)) (now («out_write» .entry)) (now («out_bytes» .entry)) (now («out_dead» .entry))) s time seconds ⌝ }
+{
+    if !sound::sound_state(
+        parent,
+        depth,
+        len,
+        run,
+        words,
+        node,
+        start,
+        end,
+        id,
+        stamp,
+        touched,
+        write,
+        pin_node,
+        pin_start,
+        pin_end,
+        pin_count,
+        marks,
+        bytes,
+        x,
+    ) {
+        return Counted {
+            small: x,
+            answer: Count::Refused(1),
+        };
+    }
+    if !lists::outs_fit(out_node, out_start, out_end, out_write, out_bytes, out_dead) {
+        return Counted {
+            small: x,
+            answer: Count::Refused(14),
+        };
+    }
+    storeexpire::store_expire(
+        parent,
+        depth,
+        len,
+        run,
+        words,
+        node,
+        start,
+        end,
+        id,
+        stamp,
+        touched,
+        write,
+        pin_node,
+        pin_start,
+        pin_end,
+        pin_count,
+        marks,
+        bytes,
+        out_node,
+        out_start,
+        out_end,
+        out_write,
+        out_bytes,
+        out_dead,
+        x,
+        s,
+        time,
+        seconds,
+    )
+}
+
+// Cuts a span out of store s, and lists the writes of the ranges that it overlaps.
+pub fn store_remove(
+    parent: &[usize],
+    depth: &[usize],
+    len: &[usize],
+    run: &[usize],
+    words: &[u64],
+    node: &mut [usize],
+    start: &mut [usize],
+    end: &mut [usize],
+    id: &mut [u64],
+    stamp: &mut [u64],
+    touched: &mut [f64],
+    write: &mut [u32],
+    pin_node: &[usize],
+    pin_start: &[usize],
+    pin_end: &[usize],
+    pin_count: &[u64],
+    marks: &mut [usize],
+    bytes: &[u64],
+    list: &mut [u32],
+    x: Small,
+    s: usize,
+    sp: Span,
+) -> Counted
+    ensures { λ r. ⌜ outcome (stateFrom (now (parent .entry)) (now (depth .entry)) (now (len .entry)) (now (run .entry)) (now (words .entry)) (now (node .exit)) (now (start .exit)) (now (end .exit)) (now (id .exit)) (now (stamp .exit)) (now (touched .exit)) (now (write .exit)) (now («pin_node» .entry)) (now («pin_start» .entry)) (now («pin_end» .entry)) (now («pin_count» .entry)) (now (marks .exit)) (now (bytes .entry)) (r .small)) (now (list .exit)) (countOf (r .answer)) ≡ storeRemove (stateFrom (now (parent .entry)) (now (depth .entry)) (now (len .entry)) (now (run .entry)) (now (words .entry)) (now (node .entry)) (now (start .entry)) (now (end .entry)) (now (id .entry)) (now (stamp .entry)) (now (touched .entry)) (now (write .entry)) (now («pin_node» .entry)) (now («pin_start» .entry)) (now («pin_end» .entry)) (now («pin_count» .entry)) (now (marks .entry)) (now (bytes .entry)) x) (now (list .entry)) s sp ⌝ }
+{
+    if !sound::sound_state(
+        parent,
+        depth,
+        len,
+        run,
+        words,
+        node,
+        start,
+        end,
+        id,
+        stamp,
+        touched,
+        write,
+        pin_node,
+        pin_start,
+        pin_end,
+        pin_count,
+        marks,
+        bytes,
+        x,
+    ) {
+        return Counted {
+            small: x,
+            answer: Count::Refused(1),
+        };
+    }
+    if !lists::writes_fit(list) {
+        return Counted {
+            small: x,
+            answer: Count::Refused(14),
+        };
+    }
+    storeremove::store_remove(
+        parent,
+        depth,
+        len,
+        run,
+        words,
+        node,
+        start,
+        end,
+        id,
+        stamp,
+        touched,
+        write,
+        pin_node,
+        pin_start,
+        pin_end,
+        pin_count,
+        marks,
+        bytes,
+        list,
+        x,
+        s,
+        sp,
+    )
+}

@@ -1,0 +1,30 @@
+// The block tree, its stores and their rules: the public calls, under the source's names. Each makes all the tests that document 01 has for it, in 01's
+// order, and asks nothing of its caller.
+pub use answers::Count;
+pub use answers::Counted;
+pub use answers::Cut;
+pub use answers::Inserted;
+pub use answers::Insertion;
+pub use answers::Looked;
+pub use answers::Path;
+pub use answers::Plain;
+pub use answers::Plainly;
+pub use answers::Reading;
+pub use answers::Resolved;
+pub use lent::Small;
+pub use model::Span;
+pub use publiccount::pin_stalls;
+pub use publiccount::source_version;
+pub use publiccount::store_available_for_stage;
+pub use publiccount::store_capacity_blocks;
+pub use publiccount::store_held_blocks;
+pub use publiccount::store_pinned_blocks;
+pub use publicinsert::insert;
+pub use publicpins::pin_source;
+pub use publicpins::unpin_source;
+pub use publicread::lookup;
+pub use publicstore::store_expire;
+pub use publicstore::store_insert;
+pub use publicstore::store_remove;
+pub use publictree::resolve;
+pub use setup::set_up;
