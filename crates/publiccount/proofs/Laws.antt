@@ -1,6 +1,6 @@
 -- A counter's answer with the state as it was is the counter's whole outcome, since no counter changes anything. Assumes nothing.
 use Prim.Native.Nat.{ℕ, zero, suc}
-use mathlib.Core.Path.{_≡_, refl, ap}
+use mathlib.Core.Path.{_≡_, ap}
 use Rattle.model.specs.State.{State}
 use Rattle.model.specs.Refusals.{firstOf, countRefusals, storeCountRefusals}
 use Rattle.model.specs.Calls.{Outcome, Answer, NoList, done, unless, heldCall, capacityCall, pinnedCall, availableCall, versionCall, stallsCall}

@@ -1,0 +1,66 @@
+-- A touch between span i - 1 and span i of its list: what is left to do gives what all of it gives, and the store's part as it was before the first turn is kept; or a
+-- turn was refused, and the pools are as they were. Assumes nothing.
+use Prim.Native.Nat.{ℕ, _+_, _*_, _≤_, _<_}
+use mathlib.Core.Path.{_≡_}
+use mathlib.Core.Bool.{Bool}
+use mathlib.Core.List.{List}
+use lib.ListN.{length, drop, getD}
+use lib.Ieee.{Float}
+use Rattle.model.specs.declared.Span.{Span}
+use Rattle.model.specs.Sizes.{maxBytes}
+use Rattle.model.specs.State.{Ranges, State}
+use Rattle.model.specs.Sound.{Sound, Finite}
+use Rattle.model.specs.Refusals.{firstOf, SpanIn, noSpan, turnRefusals, storeUsedRefusals}
+use Rattle.model.specs.Calls.{touchSpans, bytesTouched}
+use Rattle.lent.specs.declared.Small.{Small}
+use Rattle.parts.specs.Parts.{back, backRanges}
+use Rattle.usedspan.specs.declared.Turn.{Turn}
+use Rattle.usedspan.specs.Turn.{Others, whole, oldRanges, keptOld}
+
+abbrev pub number : State → ℕ → List Span → Float → Bool → ℕ
+number st s sps time counted = firstOf (storeUsedRefusals st s sps time counted)
+
+-- no turn was refused before span i
+pub record On (st₀ : State) (s : ℕ) (sps : List Span) (time : Float) (counted : Bool) (i : ℕ) (st : State) (y : Turn) : Type 0 where
+  pub store : y .s ≡ s
+  pub when : y .time ≡ time
+  pub counts : y .counted ≡ counted
+  pub sound : Sound st
+  pub less : s < st .books .stores
+  pub tree : st .tree ≡ st₀ .tree
+  pub inside : (k : ℕ) → k < length sps → SpanIn (st₀ .tree) (getD sps k noSpan)
+  pub finite : Finite time
+  pub few : length sps ≤ 64
+  pub turns : y .turns ≡ i
+  pub sum : y .sum ≤ i * (128 * maxBytes)
+  pub first : firstOf (turnRefusals st s (drop i sps) time counted) ≡ number st₀ s sps time counted
+  pub states : touchSpans st s (drop i sps) time counted ≡ touchSpans st₀ s sps time counted
+  pub bytes : y .sum + bytesTouched st s (drop i sps) time counted ≡ bytesTouched st₀ s sps time counted
+  pub ranges : backRanges (128 * s) 128 (oldRanges (keptOld i (y .old) s (st .ranges) (st .marks))) (st .ranges) ≡ st₀ .ranges
+  pub marks : back (256 * s) 256 (keptOld i (y .old) s (st .ranges) (st .marks) .marks) (st .marks) ≡ st₀ .marks
+
+-- one was
+pub record Off (st₀ : State) (s : ℕ) (sps : List Span) (time : Float) (counted : Bool) (st : State) (y : Turn) : Type 0 where
+  pub first : y .refused ≡ number st₀ s sps time counted
+  pub ranges : st .ranges ≡ st₀ .ranges
+  pub marks : st .marks ≡ st₀ .marks
+
+pub record Going (st₀ : State) (s : ℕ) (sps : List Span) (time : Float) (counted : Bool) (i : ℕ) (st : State) (y : Turn) : Type 0 where
+  pub high : i ≤ length sps
+  pub on : y .refused ≡ 0 → On st₀ s sps time counted i st y
+  pub off : (y .refused ≡ 0 → ⊥) → Off st₀ s sps time counted st y
+
+-- the first turn of a list, on some state with these columns
+pub record AtFirst (sps : List Span) (depth bytes : List ℕ) (c : Ranges) (ms : List ℕ) (y : Turn) : Type 0 where
+  pub others : Others
+  pub before : State
+  pub store : ℕ
+  pub time : Float
+  pub counted : Bool
+  pub going : Going before store sps time counted 0 (whole others depth bytes c ms (y .small)) y
+
+-- what all turns of a list make of the columns c and ms and of y, whatever state these are of
+abbrev pub Turns : List Span → List ℕ → List ℕ → Ranges → List ℕ → Turn → ℕ → Ranges → List ℕ → Turn → Type 0
+Turns sps depth bytes c ms y i c′ ms′ r =
+    (o : Others) (before : State) (s : ℕ) (time : Float) (counted : Bool) → Going before s sps time counted 0 (whole o depth bytes c ms (y .small)) y
+    → Going before s sps time counted i (whole o depth bytes c′ ms′ (r .small)) r

@@ -1,0 +1,568 @@
+-- The laws of one turn over variables: copies, what a turn is refused for, a touch on the pools, the small numbers after it, and the turn as a whole. Assumes nothing.
+use Prim.Native.Nat.{ℕ, zero, suc, _+_, _-_, _*_, _≤_, _<_, min, max}
+use mathlib.Core.Path.{_≡_, refl, sym, ap, subst, _∙_}
+use mathlib.Core.Bool.{Bool, true, false, _||_}
+use mathlib.Core.List.{List, [], _∷_, _++_, append-assoc, append-nil}
+use native.Mathlib.Nat.{zero-add, min-le-left}
+use native.Mathlib.Omega.{arith}
+use lib.ListN.{length, take, drop, getD, set, length-set}
+use lib.Seq.{take-all, drop-length, drop-drop, set-getD}
+use lib.Dec.{ltb, leb, eqb}
+use lib.Ieee.{Float}
+use mir.Val.{Fits}
+use mir.Syntax.{w64}
+use borrow.Author.Tests.{lt-ltb, le-ltb, le-leb, lt-leb, eq-eqb, ne-eqb, ltb-false}
+use Rattle.model.specs.declared.Span.{Span}
+use Rattle.model.specs.Sizes.{storeRecords, storeMarks, maxStamp, maxSpans, maxBytes}
+use Rattle.model.specs.State.{Tree, Ranges, Pins, Books, State, Range, at}
+use Rattle.model.specs.Words.{Says}
+use Rattle.model.specs.Sound.{Sound, RangesLent, Finite}
+use Rattle.model.specs.SoundTest.{finite}
+use Rattle.model.specs.Store.{Store, storeOf, ranges, lay, layRanges, withRanges, withNext, meets, put}
+use Rattle.model.specs.Touch.{Touched, overlapped, heldBytes, oneInside, markRead, bytesRead, renew, split, refresh, touchHits, touch}
+use Rattle.model.specs.Refusals.{SpanIn, touchedBy, touchSpan}
+use Rattle.refuse.proofs.Laws.{finite-is}
+use Rattle.lent.specs.declared.Small.{Small}
+use Rattle.lent.specs.Lent.{treeOf, rangesOf, booksOf}
+use Rattle.cutcols.proofs.Laws.{Copying, copy-start, copy-turn, copy-end}
+use Rattle.parts.specs.Parts.{mid, back, midRanges, backRanges}
+use Rattle.parts.proofs.Parts.{mid-at, mid-long, ranges-part, ranges-back, ranges-sized}
+use Rattle.kept.specs.StoreSound.{RangesSound, StoreSound}
+use Rattle.kepttouch.proofs.Touch.{touch-steady, touch-held, touch-version, touch-stamp}
+use Rattle.keptcalls.proofs.Stores.{store-sound}
+use Rattle.recs.specs.Part.{Sized}
+use Rattle.recs.proofs.Laws.{ranges-eq}
+use Rattle.tree.specs.Span.{Priced}
+use Rattle.tree.proofs.Sound.{sound-priced}
+use Rattle.overlap.specs.declared.Needs.{Needs}
+use Rattle.overlap.specs.Overlap.{Ordered, TouchNeeds, TouchFits}
+use Rattle.overlap.proofs.Places.{sound-ordered}
+use Rattle.overlap.proofs.Laws.{bytes-small}
+use Rattle.touch.specs.declared.Used.{Used}
+use Rattle.touch.specs.Touch.{Touching}
+use Rattle.usedspan.specs.declared.Old.{Old}
+use Rattle.usedspan.specs.declared.Turn.{Turn}
+use Rattle.usedspan.specs.Turn.{Others, whole, pick, firstNumber, four, looked, refusing, turnNumber, Placed, Judged, PoolReady, TouchedAt, settledBooks, Settled, oldRanges, oldFrom, keptOld, undone, TurnTaken, TurnReady, Ready, Taken, Gone, Turned}
+
+-- ---- copies of a part, and a part put back
+
+module _ {A : Type 0} where
+  pub copied-turn : {l : List A} (a k : ℕ) (col : List A) {out : List A} {i : ℕ} (d : A) → Copying l 0 (mid a k col) k out i → i < k → a + k ≤ length col
+      → Copying l 0 (mid a k col) k (set out i (getD col (a + i) d)) (i + 1)
+  copied-turn {l} a k col {out} {i} d o less fits =
+      let long : length (mid a k col) ≡ k = mid-long a k col fits in
+      subst (λ (x : A). Copying l 0 (mid a k col) k (set out i x) (i + 1)) (mid-at a k i col d less)
+      (subst (λ (j : ℕ). Copying l 0 (mid a k col) k (set out j (getD (mid a k col) i d)) (i + 1)) (zero-add i)
+      (copy-turn d o less (omega (arith, long))))
+
+  pub copied-end : {l : List A} (a k : ℕ) (col : List A) {out : List A} {i : ℕ} → Copying l 0 (mid a k col) k out i → k ≤ i → length l ≡ k → a + k ≤ length col
+      → out ≡ mid a k col
+  copied-end {l} a k col {out} {i} o h long fits =
+      copy-end o h
+      ∙ ap (λ (t : List A). t ++ drop (0 + k) l) (take-all k (mid a k col) (omega (arith, mid-long a k col fits)))
+      ∙ ap (λ (t : List A). mid a k col ++ t) (none ∙ drop-length l)
+      ∙ append-nil (mid a k col)
+    where
+      none : drop (0 + k) l ≡ drop (length l) l
+      none = let e : 0 + k ≡ length l = omega arith in ap (λ (j : ℕ). drop j l) e
+
+  pub put-end : {col : List A} {a k : ℕ} {from c : List A} {i : ℕ} → Copying col a from k c i → k ≤ i → length from ≡ k → c ≡ back a k from col
+  put-end {col} {a} {k} {from} {c} {i} o h long =
+      copy-end o h
+      ∙ ap (λ (t : List A). (take a col ++ t) ++ drop (a + k) col) (take-all k from (omega arith))
+      ∙ append-assoc (take a col) from (drop (a + k) col)
+      ∙ ap (λ (t : List A). take a col ++ (from ++ t)) (sym (drop-drop k a col))
+
+-- ---- before the turns
+
+module _ (stores s n : ℕ) (time : Float) where
+  pub first-store : stores ≤ s → 2 ≡ firstNumber stores s n time
+  first-store h = simp (le-leb stores s h)
+
+  pub first-many : s < stores → 64 < n → 3 ≡ firstNumber stores s n time
+  first-many h m = simp (lt-leb stores s h, lt-ltb 64 n m)
+
+  pub first-fine : s < stores → n ≤ 64 → (b : Bool) → Says b (Finite time) → b ≡ true → 0 ≡ firstNumber stores s n time
+  first-fine h m b says e =
+      let f : finite time ≡ true = sym (finite-is time b says) ∙ e in
+      simp (lt-leb stores s h, le-ltb 64 n m, f)
+
+  pub first-time : s < stores → n ≤ 64 → (b : Bool) → Says b (Finite time) → b ≡ false → 5 ≡ firstNumber stores s n time
+  first-time h m b says e =
+      let f : finite time ≡ false = sym (finite-is time b says) ∙ e in
+      simp (lt-leb stores s h, le-ltb 64 n m, f)
+
+pub four-none : (n : ℕ) → n ≡ 0 → 4 ≡ four n
+four-none n e = simp (eq-eqb n 0 e)
+
+pub four-five : (n : ℕ) → (n ≡ 0 → ⊥) → n ≡ 5 → 4 ≡ four n
+four-five n o e = simp (ne-eqb n 0 o, eq-eqb n 5 e)
+
+pub four-else : (n : ℕ) → (n ≡ 0 → ⊥) → (n ≡ 5 → ⊥) → n ≡ four n
+four-else n o e = simp (ne-eqb n 0 o, ne-eqb n 5 e)
+
+pub looked-good : (y : Turn) (r s : Bool) → r ≡ s → r ≡ true → y ≡ looked s y
+looked-good y r s e t = ap (λ (b : Bool). looked b y) (sym t ∙ e)
+
+pub looked-bad : (y : Turn) (r s : Bool) (n : ℕ) → r ≡ s → r ≡ false → n ≡ four (y .refused) → refusing n y ≡ looked s y
+looked-bad y r s n e t h = ap (λ (k : ℕ). refusing k y) h ∙ ap (λ (b : Bool). looked b y) (sym t ∙ e)
+
+-- ---- what a turn is refused for
+
+module _ (n need top stamps next : ℕ) where
+  pub number-8 : n ≤ 128 → 128 - n < need → 8 ≡ turnNumber n need top stamps next
+  number-8 h l = let e : 128 < n + need = omega arith in simp (lt-ltb 128 (n + need) e)
+
+  room : n ≤ 128 → need ≤ 128 - n → ltb 128 (n + need) ≡ false
+  room h l = let e : n + need ≤ 128 = omega arith in le-ltb 128 (n + need) e
+
+  pub number-11 : n ≤ 128 → need ≤ 128 - n → top ≤ maxStamp → maxStamp - top < stamps → 11 ≡ turnNumber n need top stamps next
+  number-11 h l t m =
+      let e : maxStamp < top + stamps = omega arith in
+      simp (room h l, lt-ltb maxStamp (top + stamps) e)
+
+  pub number-late : n ≤ 128 → need ≤ 128 - n → top ≤ maxStamp → stamps ≤ maxStamp - top → next ≤ maxStamp → maxStamp - next < need
+      → 11 ≡ turnNumber n need top stamps next
+  number-late h l t m k q =
+      let e : top + stamps ≤ maxStamp = omega arith in
+      let f : maxStamp < next + need = omega arith in
+      simp (room h l, le-ltb maxStamp (top + stamps) e, lt-ltb maxStamp (next + need) f)
+
+  pub number-0 : n ≤ 128 → need ≤ 128 - n → top ≤ maxStamp → stamps ≤ maxStamp - top → next ≤ maxStamp → need ≤ maxStamp - next
+      → 0 ≡ turnNumber n need top stamps next
+  number-0 h l t m k q =
+      let e : top + stamps ≤ maxStamp = omega arith in
+      let f : next + need ≤ maxStamp = omega arith in
+      simp (room h l, le-ltb maxStamp (top + stamps) e, le-ltb maxStamp (next + need) f)
+
+  -- and the other way round: 0 says that all fits
+  pub number-fits : 0 ≡ turnNumber n need top stamps next → (n + need ≤ 128) × (top + stamps ≤ maxStamp) × (next + need ≤ maxStamp)
+  number-fits = go (ltb 128 (n + need)) (ltb maxStamp (top + stamps)) (ltb maxStamp (next + need)) refl refl refl
+    where
+      go : (a b c : Bool) → ltb 128 (n + need) ≡ a → ltb maxStamp (top + stamps) ≡ b → ltb maxStamp (next + need) ≡ c
+          → 0 ≡ pick a 8 (pick (b || c) 11 0) → (n + need ≤ 128) × (top + stamps ≤ maxStamp) × (next + need ≤ maxStamp)
+      go true b c p q r e = absurd (omega arith)
+      go false true c p q r e = absurd (omega arith)
+      go false false true p q r e = absurd (omega arith)
+      go false false false p q r e =
+          (omega (arith, ltb-false 128 (n + need) p), omega (arith, ltb-false maxStamp (top + stamps) q), omega (arith, ltb-false maxStamp (next + need) r))
+
+-- ---- the parts of store s
+
+pub width : (a w : ℕ) → (a + w) - a ≡ w
+width a w = omega arith
+
+module _ {s : ℕ} (h : s < 8) where
+  pub rec-fits : Fits w64 (128 * s)
+  rec-fits = omega arith
+
+  pub rec-end-fits : Fits w64 (128 * s + 128)
+  rec-end-fits = omega arith
+
+  pub rec-fits8 : Fits w64 (128 * s * 8)
+  rec-fits8 = omega arith
+
+  pub rec-fits4 : Fits w64 (128 * s * 4)
+  rec-fits4 = omega arith
+
+  pub rec-ends : {m : ℕ} → 1024 ≤ m → 128 * s + 128 ≤ m
+  rec-ends l = omega arith
+
+  pub mark-fits : Fits w64 (256 * s)
+  mark-fits = omega arith
+
+  pub mark-end-fits : Fits w64 (256 * s + 256)
+  mark-end-fits = omega arith
+
+  pub mark-fits8 : Fits w64 (256 * s * 8)
+  mark-fits8 = omega arith
+
+  pub mark-ends : {m : ℕ} → 2048 ≤ m → 256 * s + 256 ≤ m
+  mark-ends l = omega arith
+
+-- the part of store s, w places long
+module _ (s n : ℕ) (node start end : List ℕ) (w : ℕ) (e : w ≡ 128) where
+  pub ordered-part : Placed s n node start end → Ordered (mid (128 * s) w node) (mid (128 * s) w start) (mid (128 * s) w end) n
+  ordered-part p = rw e (p .order)
+
+  pub needs-part : (sp : Span) (refreshes : Bool) (r : Needs)
+      → TouchNeeds (mid (128 * s) w node) (mid (128 * s) w start) (mid (128 * s) w end) n sp refreshes r
+      → TouchNeeds (mid (128 * s) 128 node) (mid (128 * s) 128 start) (mid (128 * s) 128 end) n sp refreshes r
+  needs-part sp refreshes r h = rw e at h
+
+-- ---- a touch on the pools
+
+module _ {depth bytes : List ℕ} {s n : ℕ} {c : Ranges} {ms : List ℕ} {sp : Span} {refreshes : Bool} {top next : ℕ}
+    (p : PoolReady depth bytes s n c ms sp refreshes top next) where
+  sized : Sized 128 (midRanges (128 * s) 128 c)
+  sized = ranges-sized (128 * s) c (p .ranges) (omega (arith, p .store))
+
+  pub pool-one : (w : ℕ) → w ≡ 128 → (n ≤ 128) × Sized 128 (midRanges (128 * s) w c) × Ordered (mid (128 * s) w (c .node)) (mid (128 * s) w (c .start)) (mid (128 * s) w (c .end)) n
+  pool-one w e = rw e (p .few, sized, p .order)
+
+  pub pool-two : (w : ℕ) → w ≡ 256 → (sp .start < sp .end) × (sp .node < length (mid (256 * s) w ms)) × Priced depth bytes sp
+  pool-two w e = rw e (p .filled, omega (arith, p .node, mid-long (256 * s) 256 ms (omega (arith, p .marks, p .store))), p .priced)
+
+  pub pool-three : (w : ℕ) → w ≡ 128 → TouchFits (mid (128 * s) w (c .node)) (mid (128 * s) w (c .start)) (mid (128 * s) w (c .end)) n sp refreshes top next
+  pool-three w e = rw e (p .fits)
+
+  -- the need of a store that has these ranges
+  room-for : (t : Tree) (table : List ℕ) (x : Store) (time : Float) (counted : Bool) → x .ranges ≡ ranges c (128 * s) n → x .refreshes ≡ refreshes
+      → n + touch t table x next sp time counted .need ≤ 128
+  unfolding midRanges
+  room-for t table x time counted e f =
+      let k = p .fits .are (mid (128 * s) 128 (c .id)) (mid (128 * s) 128 (c .stamp)) (mid (128 * s) 128 (c .write)) (mid (128 * s) 128 (c .touched)) t table x next time counted (e ∙ sym (ranges-part c (128 * s) 128 n (p .few))) f in
+      omega (arith, p .fits .records, k .0)
+
+  module _ {q : Ranges} {ms₂ : List ℕ} {r : Used} where
+    touched-at : (v : Touched) → n + v .need ≤ 128 → Touching v (midRanges (128 * s) 128 c) q ms₂ n r
+        → TouchedAt s v n c ms (backRanges (128 * s) 128 q c) (back (256 * s) 256 ms₂ ms) r
+    touched-at v room u =
+        record {
+          cols = ap (λ (x : Ranges). backRanges (128 * s) 128 x c) (u .columns) ∙ ranges-back (128 * s) 128 (n + v .need) (v .store .ranges) c room;
+          marks = ap (λ (x : List ℕ). back (256 * s) 256 x ms) (u .marks);
+          records = u .records;
+          need = u .need;
+          stamps = u .stamps;
+          bytes = u .bytes;
+        }
+
+    pub pool-touched : (time : Float) (counted : Bool) (a b : ℕ) → a ≡ 128 → b ≡ 256
+        → ((t : Tree) (x : Store) → t .depth ≡ depth → x .ranges ≡ ranges (midRanges (128 * s) a c) 0 n → x .stamp ≡ top → x .refreshes ≡ refreshes → x .marks ≡ mid (256 * s) b ms
+        → Touching (touch t bytes x next sp time counted) (midRanges (128 * s) a c) q ms₂ n r)
+        → (t : Tree) (x : Store) → t .depth ≡ depth → x .ranges ≡ ranges c (128 * s) n → x .stamp ≡ top → x .refreshes ≡ refreshes → x .marks ≡ mid (256 * s) 256 ms
+        → TouchedAt s (touch t bytes x next sp time counted) n c ms (backRanges (128 * s) a q c) (back (256 * s) b ms₂ ms) r
+    pool-touched time counted a b ea eb v t x d rs st re m =
+        let f = ranges-part c (128 * s) 128 n (p .few) in
+        rw (ea, eb) (touched-at (touch t bytes x next sp time counted) (room-for t bytes x time counted rs re)
+        (subst (λ (k : ℕ). Touching (touch t bytes x next sp time counted) (midRanges (128 * s) k c) q ms₂ n r) ea
+        (v t x d (rw ea (rs ∙ sym f)) st re (rw eb m))))
+
+-- ---- the part that is kept
+
+pub old-eq : {a a′ b b′ c c′ d d′ e e′ : List ℕ} {f f′ : List Float} {g g′ h h′ : List ℕ} → a ≡ a′ → b ≡ b′ → c ≡ c′ → d ≡ d′ → e ≡ e′ → f ≡ f′ → g ≡ g′ → h ≡ h′
+    → _≡_ {A = Old} (record { node = a; start = b; end = c; id = d; stamp = e; touched = f; write = g; marks = h })
+    (record { node = a′; start = b′; end = c′; id = d′; stamp = e′; touched = f′; write = g′; marks = h′ })
+old-eq p q r s t u v w = cc
+
+pub kept-first : (n : ℕ) (r old : Old) (s : ℕ) (c : Ranges) (ms : List ℕ) → n ≡ 0 → r ≡ oldFrom s c ms → r ≡ keptOld n old s c ms
+kept-first n r old s c ms e h = h ∙ ap (λ (k : ℕ). keptOld k old s c ms) (sym e)
+
+pub kept-later : (n : ℕ) (old : Old) (s : ℕ) (c : Ranges) (ms : List ℕ) → (n ≡ 0 → ⊥) → old ≡ keptOld n old s c ms
+kept-later zero old s c ms o = absurd (o refl)
+kept-later (suc n) old s c ms o = refl
+
+pub undone-eq : (s : ℕ) (old : Old) (node start end id stamp : List ℕ) (touched : List Float) (write : List ℕ) {a b d e f : List ℕ} {g : List Float} {h : List ℕ}
+    → a ≡ back (128 * s) 128 (old .node) node → b ≡ back (128 * s) 128 (old .start) start → d ≡ back (128 * s) 128 (old .end) end
+    → e ≡ back (128 * s) 128 (old .id) id → f ≡ back (128 * s) 128 (old .stamp) stamp → g ≡ back (128 * s) 128 (old .touched) touched
+    → h ≡ back (128 * s) 128 (old .write) write
+    → rangesOf a b d e f g h ≡ backRanges (128 * s) 128 (oldRanges old) (rangesOf node start end id stamp touched write)
+unfolding backRanges
+undone-eq s old node start end id stamp touched write p q r t u v w = ranges-eq p q r t u v w
+
+-- ---- the marks and the bytes of a touch
+
+module _ (x : Store) (next : ℕ) (sp : Span) (time : Float) where
+  refreshed-marks : (on one : Bool) (ms : List ℕ) (read : ℕ) → refresh on one x next sp time ms read .store .marks ≡ ms
+  unfolding renew split
+  refreshed-marks false one ms read = refl
+  refreshed-marks true true ms read = refl
+  refreshed-marks true false ms read = refl
+
+  refreshed-bytes : (on one : Bool) (ms : List ℕ) (read : ℕ) → refresh on one x next sp time ms read .bytes ≡ read
+  unfolding renew split
+  refreshed-bytes false one ms read = refl
+  refreshed-bytes true true ms read = refl
+  refreshed-bytes true false ms read = refl
+
+read-long : (counted : Bool) (sp : Span) (ms : List ℕ) → length (markRead counted sp ms) ≡ length ms
+read-long true sp ms = length-set ms (sp .node) _
+read-long false sp ms = refl
+
+hits-few : (v a z : ℕ) (rs : List Range) → length (overlapped v a z rs) ≤ length rs
+unfolding overlapped
+hits-few v a z [] = omega arith
+hits-few v a z (r ∷ rs) = go (meets v a z r) (hits-few v a z rs)
+  where
+    go : (b : Bool) → length (overlapped v a z rs) ≤ length rs → length (put b r (overlapped v a z rs)) ≤ suc (length rs)
+    go true h = omega arith
+    go false h = omega arith
+
+held-most : (t : Tree) (table : List ℕ) (sp : Span) → Priced (t .depth) table sp → (rs : List Range)
+    → heldBytes t table (sp .node) (sp .start) (sp .end) rs ≤ length rs * maxBytes
+unfolding heldBytes
+held-most t table sp p [] = omega arith
+held-most t table sp p (r ∷ rs) =
+    omega (arith, held-most t table sp p rs, bytes-small (t .depth) table sp (max (sp .start) (r .start)) (min (sp .end) (r .end)) p (min-le-left (sp .end) (r .end)))
+
+module _ (t : Tree) (table : List ℕ) (x : Store) (next : ℕ) (sp : Span) (time : Float) (counted : Bool) where
+  pub touch-marks-long : length (touch t table x next sp time counted .store .marks) ≡ length (x .marks)
+  unfolding touch
+  touch-marks-long = go (overlapped (sp .node) (sp .start) (sp .end) (x .ranges))
+    where
+      go : (hits : List Range) → length (touchHits hits t table x next sp time counted .store .marks) ≡ length (x .marks)
+      go [] = refl
+      go (r ∷ rs) =
+          ap (λ (l : List ℕ). length l)
+          (refreshed-marks x next sp time (x .refreshes) (oneInside (sp .start) (sp .end) (r ∷ rs)) (markRead counted sp (x .marks)) (bytesRead counted t table sp (r ∷ rs)))
+          ∙ read-long counted sp (x .marks)
+
+  pub touch-bytes-most : Priced (t .depth) table sp → length (x .ranges) ≤ 128 → touch t table x next sp time counted .bytes ≤ 128 * maxBytes
+  unfolding touch
+  touch-bytes-most p few =
+      go (overlapped (sp .node) (sp .start) (sp .end) (x .ranges)) (omega (arith, hits-few (sp .node) (sp .start) (sp .end) (x .ranges)))
+    where
+      read : (b : Bool) (hits : List Range) → length hits ≤ 128 → bytesRead b t table sp hits ≤ 128 * maxBytes
+      read true hits l = omega (arith, held-most t table sp p hits)
+      read false hits l = omega arith
+
+      go : (hits : List Range) → length hits ≤ 128 → touchHits hits t table x next sp time counted .bytes ≤ 128 * maxBytes
+      go [] l = omega arith
+      go (r ∷ rs) l =
+          omega (arith, read counted (r ∷ rs) l, refreshed-bytes x next sp time (x .refreshes) (oneInside (sp .start) (sp .end) (r ∷ rs)) (markRead counted sp (x .marks)) (bytesRead counted t table sp (r ∷ rs)))
+
+-- ---- what a sound state gives
+
+module _ {sp : Span} {st : State} {y : Turn} (h : TurnReady sp st y) where
+  own : StoreSound (st .tree) (st .books .nextId) (storeOf st (y .s))
+  own = store-sound st (y .s) (h .sound) (h .store)
+
+  pub in-stores : y .s < 8
+  in-stores = omega (arith, h .store, h .sound .counts .stores)
+
+  few : at (st .books .records) (y .s) ≤ 128
+  few = h .sound .counts .each (y .s) (omega arith) (h .store) .records
+
+  top-most : at (st .books .stamp) (y .s) ≤ maxStamp
+  top-most = h .sound .counts .each (y .s) (omega arith) (h .store) .stamp
+
+  pub pools-ready : (y .s < 8) × RangesLent (st .ranges) × (2048 ≤ length (st .marks))
+  pools-ready = (in-stores, h .sound .lent .ranges, h .sound .lent .marks)
+
+  -- the store's ranges stand at the front of its part
+  part-read : ranges (midRanges (128 * y .s) 128 (st .ranges)) 0 (at (st .books .records) (y .s)) ≡ storeOf st (y .s) .ranges
+  unfolding storeOf
+  part-read = ranges-part (st .ranges) (128 * y .s) 128 (at (st .books .records) (y .s)) few
+
+  part-ordered : Ordered (mid (128 * y .s) 128 (st .ranges .node)) (mid (128 * y .s) 128 (st .ranges .start)) (mid (128 * y .s) 128 (st .ranges .end)) (at (st .books .records) (y .s))
+  unfolding midRanges
+  part-ordered =
+      sound-ordered (st .tree) (st .books .nextId) (storeOf st (y .s) .stamp) (at (st .books .records) (y .s)) (midRanges (128 * y .s) 128 (st .ranges))
+      (ranges-sized (128 * y .s) (st .ranges) (h .sound .lent .ranges) (omega (arith, in-stores))) few
+      (subst (λ rs. RangesSound (st .tree) (st .books .nextId) (storeOf st (y .s) .stamp) rs) (sym part-read) (own .ranges))
+
+  pub number-ready : Placed (y .s) (at (st .books .records) (y .s)) (st .ranges .node) (st .ranges .start) (st .ranges .end)
+      × (at (st .books .records) (y .s) ≤ 128) × (at (st .books .stamp) (y .s) ≤ maxStamp) × (st .books .nextId ≤ maxStamp)
+  number-ready = (
+    record { store = in-stores; nodes = h .sound .lent .ranges .node; starts = h .sound .lent .ranges .start; ends = h .sound .lent .ranges .end; order = part-ordered },
+    few,
+    top-most,
+    h .sound .counts .nextId,
+  )
+
+  priced : Priced (st .tree .depth) (st .bytes) sp
+  priced = sound-priced st (h .sound) sp (h .span .node) (omega (arith, h .span .filled)) (h .span .ends)
+
+  pub touch-ready : (refreshes : Bool) (r : ℕ) → r ≡ 0
+      → Judged (y .s) (at (st .books .records) (y .s)) (st .ranges .node) (st .ranges .start) (st .ranges .end) sp refreshes (at (st .books .stamp) (y .s)) (st .books .nextId) r
+      → PoolReady (st .tree .depth) (st .bytes) (y .s) (at (st .books .records) (y .s)) (st .ranges) (st .marks) sp refreshes (at (st .books .stamp) (y .s)) (st .books .nextId)
+  touch-ready refreshes r e j =
+      let f = number-fits (at (st .books .records) (y .s)) (j .needs .records) (at (st .books .stamp) (y .s)) (j .needs .stamps) (st .books .nextId) (sym e ∙ j .number) in
+      record {
+        store = in-stores;
+        few = few;
+        ranges = h .sound .lent .ranges;
+        marks = h .sound .lent .marks;
+        order = part-ordered;
+        filled = h .span .filled;
+        node = omega (arith, h .span .node, h .sound .counts .nodes);
+        priced = priced;
+        fits = record { needs = j .needs; are = j .are; records = f .0; stamps = f .1; ids = f .2 };
+      }
+
+  -- what the turn read is little
+  pub count-ready : (refreshes : Bool) (r : ℕ) → r ≡ 0
+      → Judged (y .s) (at (st .books .records) (y .s)) (st .ranges .node) (st .ranges .start) (st .ranges .end) sp refreshes (at (st .books .stamp) (y .s)) (st .books .nextId) r
+      → storeOf st (y .s) .refreshes ≡ refreshes → (used : Used) (c : Ranges) (ms : List ℕ)
+      → TouchedAt (y .s) (touchedBy st (y .s) sp (y .time) (y .counted)) (at (st .books .records) (y .s)) (st .ranges) (st .marks) c ms used
+      → (y .s < 8) × (at (st .books .stamp) (y .s) + used .stamps ≤ maxStamp) × (st .books .nextId + used .need ≤ maxStamp) × (y .turns < 64) × (y .sum + used .bytes < 18446744073709551616)
+  unfolding midRanges
+  count-ready refreshes r e j re used c ms u =
+      let f = number-fits (at (st .books .records) (y .s)) (j .needs .records) (at (st .books .stamp) (y .s)) (j .needs .stamps) (st .books .nextId) (sym e ∙ j .number) in
+      let k = j .are (mid (128 * y .s) 128 (st .ranges .id)) (mid (128 * y .s) 128 (st .ranges .stamp)) (mid (128 * y .s) 128 (st .ranges .write)) (mid (128 * y .s) 128 (st .ranges .touched)) (st .tree) (st .bytes) (storeOf st (y .s)) (st .books .nextId) (y .time) (y .counted) (sym part-read) re in
+      let b = touch-bytes-most (st .tree) (st .bytes) (storeOf st (y .s)) (st .books .nextId) sp (y .time) (y .counted) priced (own .few) in
+      (in-stores, omega (arith, f .1, k .1, u .stamps), omega (arith, f .2, k .0, u .need), h .turns, omega (arith, h .sum, h .turns, b, u .bytes))
+
+-- ---- the state after a turn
+
+abbrev stateWith : Tree → Ranges → Pins → List ℕ → List ℕ → Books → State
+stateWith t c p ms table b = record { tree = t; ranges = c; pins = p; marks = ms; bytes = table; books = b }
+
+state-eq : {t t′ : Tree} {c c′ : Ranges} {p : Pins} {m m′ table : List ℕ} {b b′ : Books} → t ≡ t′ → c ≡ c′ → m ≡ m′ → b ≡ b′
+    → stateWith t c p m table b ≡ stateWith t′ c′ p m′ table b′
+state-eq e f g h = cc
+
+tree-eq : {parent depth len run words : List ℕ} {n n′ u u′ : ℕ} → n ≡ n′ → u ≡ u′ → treeOf parent depth len run words n u ≡ treeOf parent depth len run words n′ u′
+tree-eq e f = cc
+
+-- the books that a touch leaves
+abbrev touchedBooks : ℕ → Touched → Books → Books
+touchedBooks s w b =
+    record {
+      stores = b .stores;
+      nextId = b .nextId + w .need;
+      stalls = b .stalls;
+      capacity = b .capacity;
+      refreshes = b .refreshes;
+      records = set (b .records) s (length (w .store .ranges));
+      held = set (b .held) s (w .store .held);
+      stamp = set (b .stamp) s (w .store .stamp);
+      version = set (b .version) s (w .store .version);
+      entries = b .entries;
+      pinned = b .pinned;
+    }
+
+books-touched : (s : ℕ) (used : Used) (w : Touched) (b : Books) → used .n ≡ length (w .store .ranges) → used .need ≡ w .need → used .stamps ≡ w .stamps
+    → w .store .held ≡ at (b .held) s → w .store .version ≡ at (b .version) s → w .store .stamp ≡ at (b .stamp) s + w .stamps
+    → settledBooks s used b ≡ touchedBooks s w b
+books-touched s used w b n need stamps held version stamp =
+    let h : set (b .held) s (w .store .held) ≡ b .held = ap (λ (k : ℕ). set (b .held) s k) held ∙ set-getD (b .held) s 0 in
+    let v : set (b .version) s (w .store .version) ≡ b .version = ap (λ (k : ℕ). set (b .version) s k) version ∙ set-getD (b .version) s 0 in
+    let m : at (b .stamp) s + used .stamps ≡ w .store .stamp = omega arith in
+    let i : b .nextId + used .need ≡ b .nextId + w .need = omega arith in
+    cc
+
+full : (a w : ℕ) (xs pool : List ℕ) → length xs ≡ w → back a w xs pool ≡ lay 0 a w xs pool
+unfolding lay
+full a w xs pool e = let z : w - length xs ≡ 0 = omega arith in rw z (ap (λ t. take a pool ++ (xs ++ t)) (drop-drop w a pool))
+
+-- ---- the turn as a whole
+
+pub idle-turn : {sp : Span} {st : State} {y : Turn} → (y .refused ≡ 0 → ⊥) → Turned sp st y st y
+idle-turn n = record { idle = λ l. (refl, refl); gone = λ e. absurd (n e) }
+
+module _ (sp : Span) (depth bytes : List ℕ) (c : Ranges) (ms : List ℕ) (y : Turn) (p : Ready sp depth bytes c ms y) (go : y .refused ≡ 0) where
+  abbrev ready : TurnReady sp (whole (p .others) depth bytes c ms (y .small)) y
+  ready = p .ready go
+
+  abbrev n₀ : ℕ
+  n₀ = at (y .small .records) (y .s)
+
+  abbrev top₀ : ℕ
+  top₀ = at (y .small .stamp) (y .s)
+
+  abbrev on : Bool
+  on = getD (y .small .refreshes) (y .s) false
+
+  abbrev JudgedHere : ℕ → Type 0
+  JudgedHere r = Judged (y .s) n₀ (c .node) (c .start) (c .end) sp on top₀ (y .small .next) r
+
+  module _ (o : Others) where
+    abbrev st : State
+    st = whole o depth bytes c ms (y .small)
+
+    abbrev w : Touched
+    w = touchedBy st (y .s) sp (y .time) (y .counted)
+
+    store-read : storeOf st (y .s) .ranges ≡ ranges c (128 * y .s) n₀
+    unfolding storeOf
+    store-read = refl
+
+    store-on : storeOf st (y .s) .refreshes ≡ on
+    unfolding storeOf
+    store-on = refl
+
+    needs-here : (r : ℕ) (j : JudgedHere r) → (j .needs .records ≡ w .need) × (j .needs .stamps ≡ w .stamps)
+    unfolding midRanges
+    needs-here r j =
+        j .are (mid (128 * y .s) 128 (c .id)) (mid (128 * y .s) 128 (c .stamp)) (mid (128 * y .s) 128 (c .write)) (mid (128 * y .s) 128 (c .touched)) (st .tree) bytes (storeOf st (y .s)) (y .small .next) (y .time) (y .counted)
+        (store-read ∙ sym (ranges-part c (128 * y .s) 128 n₀ (few ready))) store-on
+
+    number-here : (r : ℕ) → JudgedHere r → r ≡ turnNumber n₀ (w .need) top₀ (w .stamps) (y .small .next)
+    number-here r j = let k = needs-here r j in j .number ∙ (λ i. turnNumber n₀ (k .0 i) top₀ (k .1 i) (y .small .next))
+
+  pub refused-turn : (number : ℕ) (old : Old) (r : Turn) (c′ : Ranges) (ms′ : List ℕ) → (number ≡ 0 → ⊥) → JudgedHere number
+      → old ≡ keptOld (y .turns) (y .old) (y .s) c ms → r ≡ refusing number y
+      → c′ ≡ backRanges (128 * y .s) 128 (oldRanges old) c → ms′ ≡ back (256 * y .s) 256 (old .marks) ms
+      → (o : Others) → Turned sp (whole o depth bytes c ms (y .small)) y (whole o depth bytes c′ ms′ (r .small)) r
+  refused-turn number old r c′ ms′ some j kept is ec em o =
+      subst (λ (q : Turn). Turned sp (whole o depth bytes c ms (y .small)) y (whole o depth bytes c′ ms′ (q .small)) q) (sym is)
+      (record {
+        idle = λ l. absurd (omega arith);
+        gone = λ e.
+            record {
+              store = refl;
+              when = refl;
+              counts = refl;
+              number = number-here o number j;
+              stopped = λ l.
+                  state-eq refl (ec ∙ ap (λ (q : Old). backRanges (128 * y .s) 128 (oldRanges q) c) kept)
+                  (em ∙ ap (λ (q : Old). back (256 * y .s) 256 (q .marks) ms) kept) refl;
+              taken = λ z. absurd (some z);
+            };
+      })
+
+  module _ (o : Others) (used : Used) (r : Turn) (c′ : Ranges) (ms′ : List ℕ)
+      (u : TouchedAt (y .s) (w o) n₀ c ms c′ ms′ used) (q : Settled (y .s) used (y .small) (r .small)) where
+    marks-here : length (storeOf (st o) (y .s) .marks) ≡ 256
+    unfolding storeOf
+    marks-here = mid-long (256 * y .s) 256 ms (omega (arith, in-stores ready, ready .sound .lent .marks))
+
+    held-here : w o .store .held ≡ at (y .small .held) (y .s)
+    unfolding storeOf
+    held-here = touch-held (st o .tree) bytes (storeOf (st o) (y .s)) (y .small .next) sp (y .time) (y .counted)
+
+    version-here : w o .store .version ≡ at (y .small .version) (y .s)
+    unfolding storeOf
+    version-here = touch-version (st o .tree) bytes (storeOf (st o) (y .s)) (y .small .next) sp (y .time) (y .counted)
+
+    stamp-here : w o .store .stamp ≡ top₀ + w o .stamps
+    unfolding storeOf
+    stamp-here = touch-stamp (st o .tree) bytes (storeOf (st o) (y .s)) (y .small .next) sp (y .time) (y .counted)
+
+    state-here : whole o depth bytes c′ ms′ (r .small) ≡ touchSpan (st o) (y .s) sp (y .time) (y .counted)
+    unfolding touchSpan withRanges withNext
+    state-here =
+        state-eq (tree-eq (q .nodes) (q .used)) (u .cols)
+        (u .marks ∙ full (256 * y .s) 256 (w o .store .marks) ms (touch-marks-long (st o .tree) bytes (storeOf (st o) (y .s)) (y .small .next) sp (y .time) (y .counted) ∙ marks-here))
+        (q .books ∙ books-touched (y .s) used (w o) (booksOf (y .small)) (u .records) (u .need) (u .stamps) held-here version-here stamp-here)
+
+  pub taken-turn : (number : ℕ) (old : Old) (used : Used) (r : Turn) (c′ : Ranges) (ms′ : List ℕ) → number ≡ 0 → JudgedHere number
+      → old ≡ keptOld (y .turns) (y .old) (y .s) c ms
+      → ((t : Tree) (x : Store) → t .depth ≡ depth → x .ranges ≡ ranges c (128 * y .s) n₀ → x .stamp ≡ top₀ → x .refreshes ≡ on → x .marks ≡ mid (256 * y .s) 256 ms
+      → TouchedAt (y .s) (touch t bytes x (y .small .next) sp (y .time) (y .counted)) n₀ c ms c′ ms′ used)
+      → TurnTaken y old used r
+      → (o : Others) → Turned sp (whole o depth bytes c ms (y .small)) y (whole o depth bytes c′ ms′ (r .small)) r
+  unfolding storeOf
+  taken-turn number old used r c′ ms′ none j kept touched k o =
+      let u = touched (st o .tree) (storeOf (st o) (y .s)) refl refl refl refl refl in
+      record {
+        idle = λ l. absurd (omega arith);
+        gone = λ e.
+            record {
+              store = k .store;
+              when = k .when;
+              counts = k .counts;
+              number = k .refused ∙ sym none ∙ number-here o number j;
+              stopped = λ l. absurd (omega (arith, k .refused));
+              taken = λ z.
+                  record {
+                    state = state-here o used r c′ ms′ u (k .small);
+                    old = k .old ∙ kept;
+                    turns = k .turns;
+                    sum = k .sum ∙ ap (λ (b : ℕ). y .sum + b) (u .bytes);
+                  };
+            };
+      }
+
+  -- what the calls of a turn ask for
+  pub count-here : (number : ℕ) (used : Used) (c′ : Ranges) (ms′ : List ℕ) → number ≡ 0 → JudgedHere number
+      → ((t : Tree) (x : Store) → t .depth ≡ depth → x .ranges ≡ ranges c (128 * y .s) n₀ → x .stamp ≡ top₀ → x .refreshes ≡ on → x .marks ≡ mid (256 * y .s) 256 ms
+      → TouchedAt (y .s) (touch t bytes x (y .small .next) sp (y .time) (y .counted)) n₀ c ms c′ ms′ used)
+      → (y .s < 8) × (top₀ + used .stamps ≤ maxStamp) × (y .small .next + used .need ≤ maxStamp) × (y .turns < 64) × (y .sum + used .bytes < 18446744073709551616)
+  unfolding storeOf
+  count-here number used c′ ms′ none j touched =
+      count-ready ready on number none j refl used c′ ms′ (touched (st (p .others) .tree) (storeOf (st (p .others)) (y .s)) refl refl refl refl refl)
+
+pub index-fits : {s : ℕ} → s < 8 → Fits w64 (s * 8)
+index-fits h = omega arith

@@ -1,0 +1,232 @@
+-- A touch between two of its spans: what the turns so far left, the store's part as it was before the first, and what one more turn makes of it. Assumes nothing.
+use Prim.Native.Nat.{ℕ, zero, suc, _+_, _*_, _≤_, _<_, _^_}
+use mathlib.Core.Path.{_≡_}
+use mathlib.Core.Bool.{Bool, true, false, _||_}
+use mathlib.Core.List.{List}
+use lib.ListN.{length, set}
+use lib.Dec.{ltb, leb, eqb}
+use lib.Ieee.{Float}
+use Rattle.model.specs.declared.Span.{Span}
+use Rattle.model.specs.Sizes.{storeRecords, storeMarks, maxStores, maxMarks, maxStamp, maxBytes, maxSpans}
+use Rattle.model.specs.State.{Ranges, Books, State, at}
+use Rattle.model.specs.Sound.{Sound, RangesLent}
+use Rattle.model.specs.SoundTest.{finite}
+use Rattle.model.specs.Store.{Store, ranges, lay, layRanges}
+use Rattle.model.specs.Touch.{Touched}
+use Rattle.model.specs.Refusals.{SpanIn, touchedBy, touchSpan}
+use Rattle.lent.specs.declared.Small.{Small}
+use Rattle.lent.specs.Lent.{treeOf, rangesOf, pinsOf, stateOf, booksOf}
+use Rattle.parts.specs.Parts.{mid, back, midRanges, backRanges}
+use Rattle.tree.specs.Span.{Priced}
+use Rattle.overlap.specs.declared.Needs.{Needs}
+use Rattle.overlap.specs.Overlap.{Ordered, TouchNeeds, TouchFits}
+use Rattle.touch.specs.declared.Used.{Used}
+use Rattle.answers.specs.declared.Counted.{Counted}
+use Rattle.answers.specs.declared.Count.the-variants.{Refused, Done}
+use Rattle.usedspan.specs.declared.Old.{Old}
+use Rattle.usedspan.specs.declared.Turn.{Turn}
+
+-- ---- the state
+
+-- the columns that a touch neither reads nor writes
+pub record Others : Type 0 where
+  pub parent : List ℕ
+  pub len : List ℕ
+  pub run : List ℕ
+  pub words : List ℕ
+  pub pinNode : List ℕ
+  pub pinStart : List ℕ
+  pub pinEnd : List ℕ
+  pub pinCount : List ℕ
+
+abbrev pub whole : Others → List ℕ → List ℕ → Ranges → List ℕ → Small → State
+whole o depth bytes c marks x =
+    stateOf (treeOf (o .parent) depth (o .len) (o .run) (o .words) (x .nodes) (x .used)) c
+    (pinsOf (o .pinNode) (o .pinStart) (o .pinEnd) (o .pinCount)) marks bytes x
+
+-- ---- before the turns: 2, 3, 5 and, over all spans, 4
+
+-- the first number where the test holds, else the second
+abbrev pub pick : Bool → ℕ → ℕ → ℕ
+pick true m n = m
+pick false m n = n
+
+-- what n spans at a time are refused for before any span is looked at
+abbrev pub firstNumber : ℕ → ℕ → ℕ → Float → ℕ
+firstNumber stores s n time =
+    pick (leb stores s) 2 (pick (ltb maxSpans n) 3 (pick (finite time) 0 5))
+
+pub record Begun (x : Small) (s n : ℕ) (time : Float) (counted : Bool) (y : Turn) : Type 0 where
+  pub small : y .small ≡ x
+  pub store : y .s ≡ s
+  pub when : y .time ≡ time
+  pub counts : y .counted ≡ counted
+  pub turns : y .turns ≡ 0
+  pub sum : y .sum ≡ 0
+  pub refused : y .refused ≡ firstNumber (x .stores) s n time
+
+-- 4 goes before 5, and behind 2 and 3
+abbrev pub four : ℕ → ℕ
+four n = pick (eqb n 0 || eqb n 5) 4 n
+
+abbrev pub refusing : ℕ → Turn → Turn
+refusing n y =
+    record { small = y .small; old = y .old; s = y .s; time = y .time; counted = y .counted; turns = y .turns; sum = y .sum; refused = n }
+
+-- a span looked at: `good` is whether it is one of the tree
+abbrev pub looked : Bool → Turn → Turn
+looked true y = y
+looked false y = refusing (four (y .refused)) y
+
+-- ---- one turn
+
+-- 8, 11 or none, 0: for n records and `need` more, the stamp `top` and `stamps` more, the next id and `need` more
+abbrev pub turnNumber : ℕ → ℕ → ℕ → ℕ → ℕ → ℕ
+turnNumber n need top stamps next =
+    pick (ltb storeRecords (n + need)) 8 (pick (ltb maxStamp (top + stamps) || ltb maxStamp (next + need)) 11 0)
+
+-- the records of store s stand in order in the pools
+pub record Placed (s n : ℕ) (node start end : List ℕ) : Type 0 where
+  pub store : s < maxStores
+  pub nodes : 1024 ≤ length node
+  pub starts : 1024 ≤ length start
+  pub ends : 1024 ≤ length end
+  pub order : Ordered (mid (storeRecords * s) storeRecords node) (mid (storeRecords * s) storeRecords start) (mid (storeRecords * s) storeRecords end) n
+
+-- r is what the turn is refused for
+pub record Judged (s n : ℕ) (node start end : List ℕ) (sp : Span) (refreshes : Bool) (top next r : ℕ) : Type 0 where
+  pub needs : Needs
+  pub are : TouchNeeds (mid (storeRecords * s) storeRecords node) (mid (storeRecords * s) storeRecords start) (mid (storeRecords * s) storeRecords end) n sp refreshes needs
+  pub number : r ≡ turnNumber n (needs .records) top (needs .stamps) next
+
+-- the pools are long enough, and the store's part is ready
+pub record PoolReady (depth bytes : List ℕ) (s n : ℕ) (c : Ranges) (ms : List ℕ) (sp : Span) (refreshes : Bool) (top next : ℕ) : Type 0 where
+  pub store : s < maxStores
+  pub few : n ≤ storeRecords
+  pub ranges : RangesLent c
+  pub marks : maxMarks ≤ length ms
+  pub order : Ordered (mid (storeRecords * s) storeRecords (c .node)) (mid (storeRecords * s) storeRecords (c .start)) (mid (storeRecords * s) storeRecords (c .end)) n
+  pub filled : sp .start < sp .end
+  pub node : sp .node < storeMarks
+  pub priced : Priced depth bytes sp
+  pub fits : TouchFits (mid (storeRecords * s) storeRecords (c .node)) (mid (storeRecords * s) storeRecords (c .start)) (mid (storeRecords * s) storeRecords (c .end)) n sp refreshes top next
+
+-- in the pools c₀ and ms₀ the n records of store s became those of w
+pub record TouchedAt (s : ℕ) (w : Touched) (n : ℕ) (c₀ : Ranges) (ms₀ : List ℕ) (c : Ranges) (ms : List ℕ) (r : Used) : Type 0 where
+  pub cols : c ≡ layRanges (storeRecords * s) (n + w .need) (w .store .ranges) c₀
+  pub marks : ms ≡ back (storeMarks * s) storeMarks (w .store .marks) ms₀
+  pub records : r .n ≡ length (w .store .ranges)
+  pub need : r .need ≡ w .need
+  pub stamps : r .stamps ≡ w .stamps
+  pub bytes : r .bytes ≡ w .bytes
+
+-- the small numbers after a turn
+abbrev pub settledBooks : ℕ → Used → Books → Books
+settledBooks s w b =
+    record {
+      stores = b .stores;
+      nextId = b .nextId + w .need;
+      stalls = b .stalls;
+      capacity = b .capacity;
+      refreshes = b .refreshes;
+      records = set (b .records) s (w .n);
+      held = b .held;
+      stamp = set (b .stamp) s (at (b .stamp) s + w .stamps);
+      version = b .version;
+      entries = b .entries;
+      pinned = b .pinned;
+    }
+
+pub record Settled (s : ℕ) (w : Used) (x y : Small) : Type 0 where
+  pub nodes : y .nodes ≡ x .nodes
+  pub used : y .used ≡ x .used
+  pub books : booksOf y ≡ settledBooks s w (booksOf x)
+
+-- ---- the store's part, kept before the first turn and put back if a turn is refused
+
+abbrev pub oldRanges : Old → Ranges
+oldRanges o = rangesOf (o .node) (o .start) (o .end) (o .id) (o .stamp) (o .touched) (o .write)
+
+abbrev pub oldFrom : ℕ → Ranges → List ℕ → Old
+oldFrom s c marks =
+    record {
+      node = mid (storeRecords * s) storeRecords (c .node);
+      start = mid (storeRecords * s) storeRecords (c .start);
+      end = mid (storeRecords * s) storeRecords (c .end);
+      id = mid (storeRecords * s) storeRecords (c .id);
+      stamp = mid (storeRecords * s) storeRecords (c .stamp);
+      touched = mid (storeRecords * s) storeRecords (c .touched);
+      write = mid (storeRecords * s) storeRecords (c .write);
+      marks = mid (storeMarks * s) storeMarks marks;
+    }
+
+-- what is kept: the part as it is before the first turn, and later what was kept then
+abbrev pub keptOld : ℕ → Old → ℕ → Ranges → List ℕ → Old
+keptOld zero old s c marks = oldFrom s c marks
+keptOld (suc n) old s c marks = old
+
+-- the state with the store's part put back
+abbrev pub undone : ℕ → Old → State → State
+undone s old st =
+    record {
+      tree = st .tree;
+      ranges = backRanges (storeRecords * s) storeRecords (oldRanges old) (st .ranges);
+      pins = st .pins;
+      marks = back (storeMarks * s) storeMarks (old .marks) (st .marks);
+      bytes = st .bytes;
+      books = st .books;
+    }
+
+-- r is y with the turn taken
+pub record TurnTaken (y : Turn) (kept : Old) (w : Used) (r : Turn) : Type 0 where
+  pub small : Settled (y .s) w (y .small) (r .small)
+  pub old : r .old ≡ kept
+  pub store : r .s ≡ y .s
+  pub when : r .time ≡ y .time
+  pub counts : r .counted ≡ y .counted
+  pub turns : r .turns ≡ y .turns + 1
+  pub sum : r .sum ≡ y .sum + w .bytes
+  pub refused : r .refused ≡ 0
+
+-- ---- the whole turn
+
+-- a turn of a span, where none was refused before
+pub record TurnReady (sp : Span) (st : State) (y : Turn) : Type 0 where
+  pub sound : Sound st
+  pub store : y .s < st .books .stores
+  pub span : SpanIn (st .tree) sp
+  pub turns : y .turns < maxSpans
+  pub sum : y .sum ≤ y .turns * (storeRecords * maxBytes)
+
+pub record Ready (sp : Span) (depth bytes : List ℕ) (c : Ranges) (marks : List ℕ) (y : Turn) : Type 0 where
+  pub others : Others
+  pub ready : y .refused ≡ 0 → TurnReady sp (whole others depth bytes c marks (y .small)) y
+
+pub record Taken (sp : Span) (st : State) (y : Turn) (st′ : State) (r : Turn) : Type 0 where
+  pub state : st′ ≡ touchSpan st (y .s) sp (y .time) (y .counted)
+  pub old : r .old ≡ keptOld (y .turns) (y .old) (y .s) (st .ranges) (st .marks)
+  pub turns : r .turns ≡ y .turns + 1
+  pub sum : r .sum ≡ y .sum + touchedBy st (y .s) sp (y .time) (y .counted) .bytes
+
+pub record Gone (sp : Span) (st : State) (y : Turn) (st′ : State) (r : Turn) : Type 0 where
+  pub store : r .s ≡ y .s
+  pub when : r .time ≡ y .time
+  pub counts : r .counted ≡ y .counted
+  pub number :
+      r .refused
+      ≡ turnNumber (at (st .books .records) (y .s)) (touchedBy st (y .s) sp (y .time) (y .counted) .need) (at (st .books .stamp) (y .s))
+      (touchedBy st (y .s) sp (y .time) (y .counted) .stamps) (st .books .nextId)
+  pub stopped : 1 ≤ r .refused → st′ ≡ undone (y .s) (keptOld (y .turns) (y .old) (y .s) (st .ranges) (st .marks)) st
+  pub taken : r .refused ≡ 0 → Taken sp st y st′ r
+
+-- what a turn of the span sp makes of the state st and of y: nothing where one was refused before
+pub record Turned (sp : Span) (st : State) (y : Turn) (st′ : State) (r : Turn) : Type 0 where
+  pub idle : 1 ≤ y .refused → (st′ ≡ st) × (r ≡ y)
+  pub gone : y .refused ≡ 0 → Gone sp st y st′ r
+
+-- ---- the answer
+
+-- refused: the number, with the small numbers as they came
+pub record Finished (x : Small) (y : Turn) (r : Counted) : Type 0 where
+  pub refused : (y .refused ≡ 0 → ⊥) → r ≡ record { small = x; answer = Refused (y .refused) }
+  pub done : y .refused ≡ 0 → r ≡ record { small = y .small; answer = Done (y .sum) }
