@@ -5,10 +5,10 @@ use mathlib.Core.Path.{_≡_, refl, sym, ap, _∙_}
 use mathlib.Core.List.{List, [], _∷_}
 use native.Mathlib.Omega.{arith}
 use Rattle.model.specs.State.{State}
-use Rattle.model.specs.Refusals.{Condition, First}
+use Rattle.model.specs.Refusals.{Condition}
 use Rattle.model.specs.Insert.{Cut as CutAt}
-use Rattle.model.specs.Calls.{Outcome, Answer, InsertAnswer, refused, done}
-use Rattle.sure.specs.Refused.{SomeHolds, Kept, KeptWhenRefused}
+use Rattle.model.specs.Calls.{Outcome, Answer, InsertAnswer}
+use Rattle.sure.specs.Refused.{KeptWhenRefused}
 use Rattle.lent.specs.declared.Small.{Small}
 use Rattle.answers.specs.declared.Plain.{Plain}
 use Rattle.answers.specs.declared.Plain.the-variants as P
@@ -20,8 +20,8 @@ use Rattle.answers.specs.declared.Inserted.{Inserted}
 use Rattle.answers.specs.declared.Inserted.the-variants as I
 use Rattle.answers.specs.declared.Path.{Path}
 use Rattle.answers.specs.declared.Cut.{Cut}
-use Rattle.answers.specs.Answers.{stateFrom, outcome, plainOf, countOf, pathFrom, cutFrom, resolvedOf, insertedOf}
-use Rattle.outcomes.specs.Settled.{Pools, World, Left, stateAt, stateIn, Allows, RefusedExactly, Settled}
+use Rattle.answers.specs.Answers.{outcome, plainOf, countOf, pathFrom, cutFrom, resolvedOf, insertedOf}
+use Rattle.outcomes.specs.Settled.{Pools, World, Left, stateIn, Settled}
 
 -- ---- a state's columns and small numbers
 

@@ -1,11 +1,10 @@
 -- Lookup's contract settles a lookup: with the sums fixed, a path and a number of spans have one case. Assumes nothing.
 use Prim.Native.Nat.{ℕ}
-use mathlib.Core.Path.{_≡_, refl, sym, ap, _∙_}
+use mathlib.Core.Path.{_≡_, sym, ap, _∙_}
 use mathlib.Core.List.{List}
 use native.Mathlib.Omega.{arith}
 use lib.ListN.{length, take}
 use Rattle.model.specs.State.{State}
-use Rattle.model.specs.SetUp.{zeros}
 use Rattle.model.specs.Refusals.{lookupRefusals}
 use Rattle.model.specs.Calls.{Answer, refused, done, LookupLists, LookupAnswer, lookup, blockSums, byteSums}
 use Rattle.sure.specs.Refused.{KeptWhenRefused}
@@ -16,7 +15,7 @@ use Rattle.answers.specs.declared.Reading.{Reading}
 use Rattle.answers.specs.declared.Reading.the-variants.{Refused, Done}
 use Rattle.answers.specs.Answers.{outcome, pathFrom, readingOf, lookedOf}
 use Rattle.looking.specs.Looking.{LookedUp}
-use Rattle.outcomes.specs.SettledLookup.{LookupRefused, SettledLookup}
+use Rattle.outcomes.specs.SettledLookup.{SettledLookup}
 use Rattle.outcomes.proofs.Laws.{path-one}
 
 value : ℕ → List ℕ → List ℕ → Path → ℕ → LookupAnswer

@@ -13,8 +13,7 @@ use Rattle.model.specs.Bring.{bringNeed}
 use Rattle.model.specs.Refusals.{pathFits, outFits, tierFits, nodeNeed, newBlocks, cutRecords, cutEntries, cutIds, touchSpan}
 use Rattle.model.specs.Calls.{Outcome, Answer, refused, done, setUp, resolveCall, insert, storeInsert, storeUsed, storeRemove, storeExpire, pinSource, unpinSource, lookup, heldCall, capacityCall, pinnedCall, availableCall, versionCall, stallsCall}
 use Rattle.model.specs.Examples.{multiples, run3, run5, run7, run8, run10, run11, run12}
-use Rattle.answers.specs.Answers.{outcome, plainOf, countOf, resolvedOf, insertedOf, lookedOf}
-use Rattle.outcomes.specs.Settled.{Left, stateIn, Allows}
+use Rattle.answers.specs.Answers.{plainOf, countOf, resolvedOf, insertedOf, lookedOf}
 use Rattle.outcomes.specs.Rejected.{Rejected, given, number, run0, runPin, runUnpin, runHeld, runCapacity, runVersion, runPinned, runAvailable, runStalls}
 
 -- a contract whose outcome is done, and shows k, rules out a refusal and whatever shows another number

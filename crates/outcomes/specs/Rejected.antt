@@ -2,9 +2,7 @@
 use Prim.Native.Nat.{ℕ}
 use mathlib.Core.Path.{_≡_}
 use mathlib.Core.Bool.{true, false}
-use mathlib.Core.List.{List, [], _∷_}
-use Rattle.model.specs.State.{State, at}
-use Rattle.model.specs.Refusals.{OutList}
+use mathlib.Core.List.{[], _∷_}
 use Rattle.model.specs.Calls.{Outcome, Answer, NoList, NoValue, refused, done, setUp, storeInsert, pinSource, unpinSource, heldCall, capacityCall, pinnedCall, availableCall, versionCall, stallsCall}
 use Rattle.model.specs.Examples.{pools, table, outs, span, time, one, run7, run13}
 use Rattle.answers.specs.Answers.{outcome}

@@ -1,6 +1,6 @@
 -- A refused lookup gives back its lists, the number, and sums that are all 0. Assumes nothing.
 use Prim.Native.Nat.{ℕ}
-use mathlib.Core.Path.{_≡_, refl, sym, ap}
+use mathlib.Core.Path.{_≡_, ap}
 use mathlib.Core.List.{List}
 use Rattle.model.specs.State.{State}
 use Rattle.model.specs.SetUp.{zeros}

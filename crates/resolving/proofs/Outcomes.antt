@@ -1,5 +1,5 @@
 -- Resolve's outcomes on a sound state with a path list that is long enough: refused by 3, or the path. Assumes nothing.
-use mathlib.Core.Path.{_≡_, refl, sym, ap, _∙_}
+use mathlib.Core.Path.{_≡_, refl}
 use mathlib.Core.List.{List}
 use mathlib.Core.Logic.{inl, inr}
 use Prim.Native.Nat.{ℕ, _≤_, _<_}
@@ -9,9 +9,8 @@ use Rattle.model.specs.State.{State}
 use Rattle.model.specs.Sound.{Sound}
 use Rattle.model.specs.Tree.{resolve, blocks}
 use Rattle.model.specs.Refusals.{PathList, PathFits, resolveRefusals}
-use Rattle.model.specs.Calls.{refused, done, Path, pathOf, layPath, resolveCall}
-use Rattle.answers.specs.Answers.{outcome, pathFrom, resolvedOf}
-use Rattle.answers.specs.declared.Path as P
+use Rattle.model.specs.Calls.{refused, done, resolveCall}
+use Rattle.answers.specs.Answers.{outcome}
 use Rattle.tree.specs.declared.Match.{Match}
 use Rattle.tree.specs.Walk.{Resolved}
 use Rattle.sure.proofs.Refusals.{first-is, resolve-exact}

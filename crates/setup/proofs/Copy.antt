@@ -1,12 +1,12 @@
 -- A loop that puts a list in front of another, element by element: what stands there after i turns. Assumes nothing.
 use Prim.Native.Nat.{ℕ, zero, suc, _+_, _-_, _≤_, _<_}
 use mathlib.Core.Path.{_≡_, refl, sym, ap, _∙_}
-use mathlib.Core.List.{List, [], _∷_, _++_}
+use mathlib.Core.List.{List, _++_}
 use native.Mathlib.Omega.{arith}
 use native.Mathlib.Nat.{sub-zero}
 use native.Mathlib.Numerals.{add-one}
-use lib.ListN.{length, getD, set, take, drop, replicate, length-set, length-replicate, getD-replicate}
-use lib.Seq.{take-suc, take-length, take-all, drop-cons, drop-nil, append-snoc, set-at, length-take-le}
+use lib.ListN.{length, getD, set, take, drop, replicate, length-set}
+use lib.Seq.{take-suc, take-length, drop-cons, drop-nil, append-snoc, set-at, length-take-le}
 use Rattle.model.specs.Calls.{front}
 
 module _ {A : Type 0} where

@@ -1,18 +1,17 @@
 -- Set-up's two outcomes, over any lists: refused by 12 where the rules do not hold, else the state that 01 gives. Assumes nothing.
-use mathlib.Core.Path.{_≡_, refl, sym, ap, _∙_}
-use mathlib.Core.Bool.{Bool, true, false, not}
+use mathlib.Core.Path.{_≡_, refl, ap, _∙_}
+use mathlib.Core.Bool.{Bool, not}
 use mathlib.Core.List.{List, _++_}
-use Prim.Native.Nat.{ℕ, _-_, _≤_}
+use Prim.Native.Nat.{ℕ, _-_}
 use lib.ListN.{length, drop, set, replicate, length-replicate}
 use lib.Ieee.{Float}
 use Rattle.model.specs.State.{State}
 use Rattle.model.specs.Sizes.{maxMarks, tableLength}
-use Rattle.model.specs.SetUp.{SetUpFits, setUpFits, setUpState, eight}
-use Rattle.model.specs.Refusals.{firstOf, setUpRefusals}
-use Rattle.model.specs.Calls.{Outcome, NoList, NoValue, refused, done, front, setUp}
+use Rattle.model.specs.SetUp.{SetUpFits, setUpState, eight}
+use Rattle.model.specs.Refusals.{setUpRefusals}
+use Rattle.model.specs.Calls.{NoList, NoValue, refused, done, front, setUp}
 use Rattle.lent.specs.declared.Small.{Small}
 use Rattle.answers.specs.Answers.{stateFrom, outcome}
-use Rattle.sure.proofs.Says.{true-says, false-says}
 use Rattle.sure.proofs.Refusals.{first-is, setUp-exact}
 use Rattle.setup.specs.Fresh.{freshSmall}
 use Rattle.setup.proofs.Copy.{drop-blanks}

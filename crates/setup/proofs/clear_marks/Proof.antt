@@ -1,8 +1,7 @@
 -- `setup::clear_marks` meets its contract: after i turns i zeros stand in front. Assumes nothing.
-use Prim.Native.Nat.{_-_, _<_}
+use Prim.Native.Nat.{_-_}
 use mathlib.Core.Path.{sym}
-use native.Mathlib.Omega.{arith}
-use lib.ListN.{length, replicate, length-replicate, getD-replicate}
+use lib.ListN.{replicate, length-replicate, getD-replicate}
 use borrow.Author.Needs.{needs}
 use Rattle.setup.proofs.Copy.{Copied, copied-none, copied-more, copied-all}
 use Rattle.setup.proofs.clear_marks.Statement.{statement}
