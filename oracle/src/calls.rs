@@ -4,7 +4,7 @@ use crate::answer::{Answer, Cut, Given, Place};
 use crate::config::{EvictionPolicy, HbmEviction};
 use crate::form::{Op, Policy};
 use crate::kv_cache::radix::{
-    peek, NodeId, Path, Radix, RadixTier, Seg, Span, TierEvicted, TierSource,
+    peek, HbmLookup, NodeId, Path, Radix, RadixTier, Seg, Span, TierEvicted, TierSource,
 };
 use std::sync::Arc;
 
@@ -25,7 +25,7 @@ pub fn fresh(table: Vec<u64>, stores: &[(u64, Policy)]) -> Radix {
     radix
 }
 
-fn written(write: u32) -> Option<String> {
+pub fn written(write: u32) -> Option<String> {
     (write != 0).then(|| write.to_string())
 }
 
@@ -89,7 +89,7 @@ impl<N: Fn(NodeId) -> u32> Caller<'_, N> {
         }
     }
 
-    fn given(&self, out: Vec<TierEvicted>) -> Answer {
+    pub fn given(&self, out: Vec<TierEvicted>) -> Answer {
         let one = |e: TierEvicted| Given {
             place: self.place(e.span),
             write: e.write_id.unwrap_or("0".into()),
@@ -99,10 +99,13 @@ impl<N: Fn(NodeId) -> u32> Caller<'_, N> {
         Answer::Out(out.into_iter().map(one).collect())
     }
 
-    fn lookup(&mut self, tiers: &[usize], hashes: &[u64]) -> Answer {
+    pub fn look(&mut self, tiers: &[usize], hashes: &[u64]) -> HbmLookup {
         let tiers = tiers.iter().map(|&s| RadixTier::Store(s)).collect();
         self.radix.set_worker_lookup_tiers(WORKER, tiers);
-        let found = self.radix.lookup(WORKER, hashes);
+        self.radix.lookup(WORKER, hashes)
+    }
+
+    pub fn found(&self, found: HbmLookup) -> Answer {
         let spans = found.tier_spans.iter();
         Answer::Found {
             segments: self.segments(&found.path),
@@ -131,7 +134,7 @@ impl<N: Fn(NodeId) -> u32> Caller<'_, N> {
         Answer::Done
     }
 
-    fn expire(&mut self, store: usize, now: f64, seconds: f64) -> Answer {
+    pub fn expire(&mut self, store: usize, now: f64, seconds: f64) -> Answer {
         let out = self.radix.store_expire(store, now, seconds);
         self.given(out)
     }
@@ -166,7 +169,10 @@ impl<N: Fn(NodeId) -> u32> Caller<'_, N> {
             } => self.expire(*store, *now, *seconds),
             Op::Pin(store, _) => self.pin(*store, spans[0]),
             Op::Unpin(store, _) => self.unpin(*store, spans[0]),
-            Op::Lookup { tiers, hashes } => self.lookup(tiers, hashes),
+            Op::Lookup { tiers, hashes } => {
+                let found = self.look(tiers, hashes);
+                self.found(found)
+            }
             Op::Setup { .. } | Op::Insert(_) | Op::State => unreachable!("not a call on a tree"),
         }
     }

@@ -4,7 +4,6 @@ use crate::answer::{Answer, Answers, View};
 use crate::domain::listed_difference;
 use crate::driver::{Driver, Numbered};
 use crate::files;
-use crate::form::{Bytes, Op};
 use crate::state;
 
 /// How far a file agrees.
@@ -13,17 +12,6 @@ enum Verdict {
     /// Equal up to this line, where a listed difference begins.
     Upto(usize, &'static str),
     Differs(String),
-}
-
-fn leads_to(driver: &Driver, op: &Op) -> Option<&'static str> {
-    if let Op::Setup { bytes, .. } = op {
-        let first = match bytes {
-            Bytes::Each(_) => 0,
-            Bytes::Table(t) => t.first().copied().unwrap_or(0),
-        };
-        return (first != 0).then_some("bytes-at-0");
-    }
-    listed_difference(driver.oracle().ok()?, op)
 }
 
 /// Compares every answer line with the stored one; `state` lines without
@@ -41,14 +29,18 @@ fn compare(trace: &str, expect: &str) -> Result<Verdict, String> {
     }
     let mut driver = Driver::for_calls(&files::ops(&lines));
     for (line, want) in lines.iter().zip(&expected) {
-        if let Some(name) = leads_to(&driver, &line.op) {
+        if let Some(name) = listed_difference(driver.oracle().ok(), &line.op) {
             return Ok(Verdict::Upto(line.number, name));
         }
         let place = format!("{trace}:{}", line.number);
         let answer = driver.call(&line.op);
         let answer = answer.map_err(|why| format!("{place}: outside: {why}"))?;
         let want = match answer {
-            Answer::State(_) => state::from_form(want, driver.oracle()?),
+            Answer::State(_) => {
+                let oracle = driver.oracle()?;
+                let want = state::from_form(want, oracle, &oracle.table);
+                want.ok_or(format!("{place}: its stored state is unreadable"))?
+            }
             _ => want.to_string(),
         };
         let got = answer.text(View::Form);

@@ -1,10 +1,9 @@
 //! The inputs of the listed differences: what the Rust does, beside what
 //! document 01 says.
 
+use crate::absolute;
 use crate::answer::{Answer, View};
-use crate::driver::Oracle;
 use crate::files;
-use crate::kv_cache::radix::peek;
 use crate::list::Mode;
 use crate::state;
 
@@ -15,57 +14,6 @@ fn mode_of(trace: &str) -> (Mode, &'static str) {
         Some("# raw") => (Mode::Raw, " (no guards, no tests)"),
         _ => (Mode::Guarded, ""),
     }
-}
-
-fn absolute_span(oracle: &Oracle, node: &str, start: u32, end: u32) -> Option<String> {
-    let node = oracle.rust_node(node.parse().ok()?);
-    let depth = peek::depth(&oracle.radix, node);
-    let last = peek::hashes(&oracle.radix, node).get(end as usize - 1)?;
-    Some(format!("{}-{},last={last}", depth + start, depth + end))
-}
-
-/// `NODE:LEN`, `NODE:START-END` or `TIER:NODE:START-END` by positions.
-fn absolute_word(oracle: &Oracle, word: &str) -> Option<String> {
-    let ends = |text: &str| {
-        let (a, b) = text.split_once('-').unwrap_or(("0", text));
-        Some((a.parse().ok()?, b.parse().ok()?))
-    };
-    match word.split(':').collect::<Vec<_>>()[..] {
-        [node, span] => {
-            let (start, end) = ends(span)?;
-            absolute_span(oracle, node, start, end)
-        }
-        [tier, node, span] => {
-            let (start, end) = ends(span)?;
-            Some(format!(
-                "{tier}:{}",
-                absolute_span(oracle, node, start, end)?
-            ))
-        }
-        _ => None,
-    }
-}
-
-/// An answer line of the replay form by absolute positions and hashes.
-fn absolute_line(oracle: &Oracle, line: &str) -> Option<String> {
-    let (line, cut) = match line.split_once(" cut ") {
-        None => (line, String::new()),
-        Some((line, cut)) => {
-            let words: Vec<&str> = cut.split(' ').collect();
-            let head = absolute_span(oracle, words[0], 0, words[1].parse().ok()?)?;
-            (line, format!(" cut {}", head.split_once('-')?.1))
-        }
-    };
-    let mut out = Vec::new();
-    for word in line.split(' ') {
-        let (place, rest) = word.split_once(',').unwrap_or((word, ""));
-        let comma = if rest.is_empty() { "" } else { "," };
-        out.push(match place.contains(':') {
-            true => format!("{}{comma}{rest}", absolute_word(oracle, place)?),
-            false => word.to_string(),
-        });
-    }
-    Some(out.join(" ") + &cut)
 }
 
 /// One call on which the two differ, by absolute positions.
@@ -94,8 +42,8 @@ fn run_trace(base: &str, trace: &str, mode: Mode) -> Result<Shown, String> {
         let answer = answer.map_err(|e| format!("{place}: outside: {e}"))?;
         let want = wanted.next().ok_or(format!("{base}.expect: too short"))?;
         let want = match answer {
-            Answer::State(_) => Some(state::from_form(want, rust.oracle()?)),
-            _ => absolute_line(rust.oracle()?, want),
+            Answer::State(_) => state::from_form(want, rust.oracle()?, &rust.oracle()?.table),
+            _ => absolute::line(rust.oracle()?, want),
         };
         let want = want.ok_or(format!("{base}.expect: unreadable answer for {place}"))?;
         let got = answer.text(View::Absolute);

@@ -2,11 +2,13 @@
 //! fills, and a node with exactly one child gets a second one before a
 //! removal, so that no node dies and none merges.
 
+use crate::absolute::Blocks;
 use crate::answer::{Answer, Answers};
 use crate::calls::{cut_of, fresh, rest_of, Caller};
-use crate::domain;
+use crate::domain::{self, Refused};
 use crate::form::{NodeSpan, Op, Policy};
 use crate::kv_cache::radix::{peek, NodeId, Radix, Span};
+use crate::slips::Slip;
 use crate::state;
 use std::collections::{BTreeMap, BTreeSet};
 
@@ -21,10 +23,12 @@ pub struct Oracle {
     rust_of: Vec<NodeId>,
     number_of: BTreeMap<NodeId, u32>,
     next_helper: u64,
+    /// A slip that the Rust is made to have.
+    slip: Option<Slip>,
 }
 
 impl Oracle {
-    fn new(table: Vec<u64>, stores: &[(u64, Policy)]) -> Self {
+    fn new(table: Vec<u64>, stores: &[(u64, Policy)], slip: Option<Slip>) -> Self {
         let mut all = stores.to_vec();
         all.push((u32::MAX as u64, Policy::Fifo));
         Self {
@@ -35,6 +39,7 @@ impl Oracle {
             rust_of: vec![0],
             number_of: BTreeMap::from([(0, 0)]),
             next_helper: u64::MAX,
+            slip,
         }
     }
 
@@ -88,7 +93,10 @@ impl Oracle {
     fn insert(&mut self, hashes: &[u64]) -> Answer {
         let before = self.radix.resolve(hashes).blocks as usize;
         let cut = cut_of(&self.radix, hashes);
-        let path = self.radix.insert(hashes);
+        let path = match self.slip {
+            Some(slip) => slip.insert(&mut self.radix, hashes, cut),
+            None => self.radix.insert(hashes),
+        };
         if before < hashes.len() {
             let leaf = path.segs.last().expect("an inserted path has a leaf").node;
             if let Some((node, _)) = cut {
@@ -106,6 +114,16 @@ impl Oracle {
         Caller {
             radix: &mut self.radix,
             number: move |n| number_of.get(&n).copied().unwrap_or(0),
+        }
+    }
+
+    /// Every call but set-up, insert, removal and state.
+    fn other(&mut self, op: &Op) -> Answer {
+        let spans = op.spans();
+        let spans: Vec<Span> = spans.iter().map(|s| self.rust_span(*s)).collect();
+        match self.slip {
+            Some(slip) => slip.call(&mut self.caller(), op, &spans),
+            None => self.caller().call(op, &spans),
         }
     }
 
@@ -140,12 +158,21 @@ impl Oracle {
             Op::Insert(hashes) => Ok(self.insert(hashes)),
             Op::Remove(_, span) => self.remove(op, *span, avoid),
             Op::State => Ok(Answer::State(state::absolute(&self.radix, &self.stores))),
-            _ => {
-                let spans = op.spans();
-                let spans: Vec<Span> = spans.iter().map(|s| self.rust_span(*s)).collect();
-                Ok(self.caller().call(op, &spans))
-            }
+            _ => Ok(self.other(op)),
         }
+    }
+}
+
+impl Blocks for Oracle {
+    fn depth(&self, node: u32) -> Option<u32> {
+        let node = *self.rust_of.get(node as usize)?;
+        Some(peek::depth(&self.radix, node))
+    }
+
+    fn hash(&self, node: u32, at: u32) -> Option<u64> {
+        let node = *self.rust_of.get(node as usize)?;
+        let hashes = peek::hashes(&self.radix, node);
+        hashes.get(at as usize).copied()
     }
 }
 
@@ -155,6 +182,7 @@ pub struct Driver {
     /// Hashes that no added second child may have.
     avoid: BTreeSet<u64>,
     oracle: Option<Oracle>,
+    slip: Option<Slip>,
 }
 
 impl Driver {
@@ -162,12 +190,33 @@ impl Driver {
         Self {
             avoid,
             oracle: None,
+            slip: None,
         }
     }
 
     /// A driver for calls that are known beforehand.
     pub fn for_calls(ops: &[Op]) -> Self {
         Self::new(ops.iter().flat_map(|op| op.hashes().to_vec()).collect())
+    }
+
+    /// The same with a slip planted.
+    pub fn with(self, slip: Option<Slip>) -> Self {
+        Self { slip, ..self }
+    }
+
+    /// Says why a call is outside document 01's domain.
+    pub fn check(&self, op: &Op) -> Result<(), Refused> {
+        domain::check(self.oracle.as_ref(), op)
+    }
+
+    /// Answers a call that was checked.
+    pub fn checked(&mut self, op: &Op) -> Result<Answer, String> {
+        if let Op::Setup { bytes, stores } = op {
+            self.oracle = Some(Oracle::new(bytes.table(), stores, self.slip));
+            return Ok(Answer::Done);
+        }
+        let oracle = self.oracle.as_mut().expect("a set-up came before");
+        oracle.call(op, &self.avoid)
     }
 }
 
@@ -187,14 +236,7 @@ impl Answers for Driver {
     /// Answers a call of document 01's domain; the error says why a call is
     /// outside it.
     fn call(&mut self, op: &Op) -> Result<Answer, String> {
-        if let Op::Setup { bytes, stores } = op {
-            let table = bytes.table();
-            domain::check_setup(&table, stores)?;
-            self.oracle = Some(Oracle::new(table, stores));
-            return Ok(Answer::Done);
-        }
-        domain::check(self.oracle()?, op)?;
-        let oracle = self.oracle.as_mut().unwrap();
-        oracle.call(op, &self.avoid)
+        self.check(op).map_err(|refused| refused.why.to_string())?;
+        self.checked(op)
     }
 }

@@ -1,13 +1,17 @@
 //! The Rust as oracle: answers to lines of the replay form, workloads, and
 //! the comparisons with stored files. Called by `oracle/run`.
 
+mod absolute;
 mod answer;
+mod beside;
 mod calls;
 mod compare;
 mod config;
 mod differences;
 mod domain;
 mod driver;
+mod events;
+mod feed;
 mod files;
 mod form;
 mod fx;
@@ -17,8 +21,10 @@ mod list;
 mod maker;
 mod pick;
 mod plain;
+mod program;
 mod raw;
 mod rng;
+mod slips;
 mod state;
 
 // radix.rs says `use rustc_hash::FxHashMap`.
@@ -33,7 +39,9 @@ const USAGE: &str = "usage: oracle answer [--absolute | --plain | --raw] FILE
        oracle maker SEED N KIND
        oracle list PLAN FOLDER
        oracle examples EXAMPLES SAMPLES
-       oracle differences FOLDER PAGE";
+       oracle differences FOLDER PAGE
+       oracle beside [--calls N] [--seed S] [--slip NAME] -- PROGRAM ..
+       oracle slips [--calls N] [--seed S] -- PROGRAM ..";
 
 /// What a subcommand comes to: equal or not, or an error with its place.
 type Outcome = Result<bool, String>;
@@ -51,6 +59,8 @@ fn run(args: &[&str]) -> Option<Outcome> {
         ["list", plan, folder] => list::make(plan, folder),
         ["examples", examples, samples] => compare::examples(examples, samples),
         ["differences", folder, page] => differences::run(folder, page),
+        ["beside", options @ ..] => beside::run(&beside::Options::read(options)?),
+        ["slips", options @ ..] => beside::slips(&beside::Options::read(options)?),
         _ => return None,
     })
 }

@@ -2,23 +2,28 @@
 //! differences. The oracle runs along, so that spans, ages and pins are
 //! chosen from what is held.
 
-use crate::answer::Answers;
 use crate::domain;
 use crate::driver::{Driver, Numbered, Oracle};
+use crate::events::{Before, Seen};
 use crate::form::{Bytes, Op, Policy};
 use crate::limits;
 use crate::rng::Rng;
+use crate::slips::Slip;
+use std::collections::BTreeMap;
 
 /// A tree is filled for this many calls, then a set-up begins another.
 const CALLS_PER_SETUP: usize = 140;
 
 /// A set-up is followed by this many inserts.
-const FIRST_INSERTS: usize = 4;
+pub const FIRST_INSERTS: usize = 4;
 
 const TRIES: usize = 30;
 
+/// The name under which refused calls are counted.
+pub const REFUSED: &str = "refused";
+
 #[derive(Debug, Clone, Copy)]
-enum Call {
+pub enum Call {
     Insert,
     Resolve,
     Bring,
@@ -33,7 +38,7 @@ enum Call {
 use Call::*;
 
 /// The calls of a kind, each as often as its number says.
-fn mix(kind: &str) -> Option<&'static [(Call, u32)]> {
+pub fn mix(kind: &str) -> Option<&'static [(Call, u32)]> {
     Some(match kind {
         "tree" | "unchained" => &[(Insert, 1), (Resolve, 1)],
         "trim" => &[(Insert, 2), (Bring, 12), (Touch, 1), (Lookup, 1)],
@@ -74,10 +79,11 @@ fn mix(kind: &str) -> Option<&'static [(Call, u32)]> {
 
 /// The capacities that a kind's stores get: tight ones where trimming is the
 /// matter, roomy ones where it would only get in the way.
-fn capacities(kind: &str) -> &'static [u64] {
+pub fn capacities(kind: &str) -> &'static [u64] {
     match kind {
         "trim" | "pins" => &[0, 1, 2, 3, 4, 5, 7, 9, 12, 20, 33],
-        "lookup" | "remove" => &[0, 7, 15, 33, 60, 100, 333, 1_000_000],
+        "full" => &[333, 1_000_000],
+        "lookup" | "tiers" | "remove" => &[0, 7, 15, 33, 60, 100, 333, 1_000_000],
         _ => &[0, 1, 3, 5, 7, 12, 20, 20, 33, 40, 100, 1_000_000],
     }
 }
@@ -89,6 +95,13 @@ pub struct Maker {
     pub next_hash: u64,
     /// Hashes of all 64 bits rather than small ones.
     pub wide: bool,
+    /// The calls as the oracle answered them, where that is asked for.
+    pub seen: Option<Vec<Seen>>,
+    /// How many calls were not made because of each listed difference, and
+    /// because document 01 refuses them.
+    pub skipped: BTreeMap<&'static str, u64>,
+    /// The last call that was not made because document 01 refuses it.
+    pub refused: Option<Op>,
     driver: Driver,
 }
 
@@ -100,8 +113,22 @@ impl Maker {
             clock: 1.0,
             next_hash: 10,
             wide: false,
+            seen: None,
+            skipped: BTreeMap::new(),
+            refused: None,
             // The one hash near the top that workloads use.
             driver: Driver::new([u64::MAX].into()),
+        }
+    }
+
+    /// A maker that keeps what the oracle answered, with a slip if one is
+    /// wanted.
+    pub fn watched(seed: u64, slip: Option<Slip>) -> Self {
+        let maker = Self::new(seed);
+        Self {
+            seen: Some(Vec::new()),
+            driver: maker.driver.with(slip),
+            ..maker
         }
     }
 
@@ -111,19 +138,37 @@ impl Maker {
             .expect("a workload begins with a set-up")
     }
 
+    /// Why document 01 refuses a call now.
+    pub fn check(&self, op: &Op) -> Result<(), domain::Refused> {
+        self.driver.check(op)
+    }
+
     /// Adds a call, unless document 01 refuses it or it leads to a listed
     /// difference.
     pub fn push(&mut self, op: Op) -> bool {
-        if let Ok(oracle) = self.driver.oracle() {
-            if domain::listed_difference(oracle, &op).is_some() {
-                return false;
-            }
+        if let Some(name) = domain::listed_difference(self.driver.oracle().ok(), &op) {
+            *self.skipped.entry(name).or_default() += 1;
+            return false;
         }
-        let answered = self.driver.call(&op).is_ok();
-        if answered {
-            self.ops.push(op);
+        if self.check(&op).is_err() {
+            *self.skipped.entry(REFUSED).or_default() += 1;
+            self.refused = Some(op);
+            return false;
         }
-        answered
+        self.make(op);
+        true
+    }
+
+    fn make(&mut self, op: Op) {
+        let watched = self.seen.is_some();
+        let before = watched.then(|| Before::of(self.driver.oracle().ok(), &op));
+        let answer = self.driver.checked(&op);
+        let answer = answer.expect("the Rust keeps every node");
+        if let Some(before) = before {
+            let seen = before.seen(self.oracle(), &op, answer);
+            self.seen.as_mut().unwrap().push(seen);
+        }
+        self.ops.push(op);
     }
 
     /// Adds a call that has to be in the domain.
@@ -133,7 +178,7 @@ impl Maker {
     }
 
     /// Adds a call or, where that fails, a resolve.
-    fn push_or_resolve(&mut self, op: Op) {
+    pub fn push_or_resolve(&mut self, op: Op) {
         if !self.push(op) {
             let list = self.known_list();
             self.must(Op::Resolve(list));
@@ -152,7 +197,7 @@ impl Maker {
         Bytes::Table(table)
     }
 
-    fn setup(&mut self, capacities: &[u64]) {
+    pub fn setup(&mut self, capacities: &[u64]) -> Op {
         self.clock = 1.0;
         self.next_hash = 10;
         self.wide = self.rng.one_in(6);
@@ -166,7 +211,7 @@ impl Maker {
                 .pick(&[Policy::Fifo, Policy::Refresh, Policy::Refresh]);
             stores.push((capacity, policy));
         }
-        self.must(Op::Setup { bytes, stores });
+        Op::Setup { bytes, stores }
     }
 
     fn propose(&mut self, call: Call, chained: bool) -> Op {
@@ -186,7 +231,7 @@ impl Maker {
     }
 
     /// Adds one call of the mix; where many tries fail, a resolve.
-    fn step(&mut self, mix: &[(Call, u32)], chained: bool) {
+    pub fn step(&mut self, mix: &[(Call, u32)], chained: bool) {
         let all: u32 = mix.iter().map(|m| m.1).sum();
         for _ in 0..TRIES {
             let mut at = self.rng.below(all);
@@ -216,7 +261,10 @@ pub fn workload(seed: u64, n: usize, kind: &str) -> Result<Vec<Op>, String> {
     let mix = mix(kind).ok_or(format!("no such kind: {kind}"))?;
     for i in 0..n {
         match i % CALLS_PER_SETUP {
-            0 => maker.setup(capacities(kind)),
+            0 => {
+                let setup = maker.setup(capacities(kind));
+                maker.must(setup);
+            }
             1..=FIRST_INSERTS if kind != "unchained" => {
                 let list = maker.insert_list();
                 maker.push_or_resolve(Op::Insert(list));

@@ -77,6 +77,11 @@ pub fn stamp(radix: &Radix, store: StoreId) -> u64 {
     radix.stores[store].seq
 }
 
+/// The id that the next new range gets.
+pub fn next_id(radix: &Radix) -> u64 {
+    radix.next_tier_range_id
+}
+
 pub fn hashes(radix: &Radix, node: NodeId) -> &[u64] {
     &radix.nodes[node as usize].hashes
 }

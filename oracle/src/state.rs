@@ -1,6 +1,7 @@
 //! The whole state by absolute positions and hashes, without node numbers and
 //! ids: from the Rust, and from a `state` line of the replay form.
 
+use crate::absolute::{self, Blocks};
 use crate::form::{time_in_state, Policy};
 use crate::kv_cache::radix::{peek, NodeId, Radix, Span, TierSource};
 use std::collections::BTreeMap;
@@ -97,26 +98,42 @@ pub fn absolute(radix: &Radix, stores: &[(u64, Policy)]) -> String {
 /// The words of a part as `name=value`, and the bare ones in order.
 struct Words<'a> {
     bare: Vec<&'a str>,
-    named: BTreeMap<&'a str, &'a str>,
+    named: Vec<(&'a str, &'a str)>,
 }
 
 impl<'a> Words<'a> {
     fn of(part: &'a str) -> Self {
-        let (named, bare): (Vec<&str>, Vec<&str>) = part.split(' ').partition(|w| w.contains('='));
-        Self {
-            bare,
-            named: named.iter().filter_map(|w| w.split_once('=')).collect(),
+        let (mut bare, mut named) = (Vec::new(), Vec::new());
+        for word in part.split(' ') {
+            match word.split_once('=') {
+                Some(pair) => named.push(pair),
+                None => bare.push(word),
+            }
         }
+        Self { bare, named }
     }
 
-    fn number(&self, name: &str) -> u64 {
-        self.named[name].parse().expect("a number of a state line")
+    fn text(&self, name: &str) -> Option<&'a str> {
+        let found = self.named.iter().find(|w| w.0 == name);
+        found.map(|w| w.1)
     }
-}
 
-fn two(text: &str, between: char) -> (u32, u32) {
-    let (a, b) = text.split_once(between).expect("two numbers");
-    (a.parse().unwrap(), b.parse().unwrap())
+    fn number(&self, name: &str) -> Option<u64> {
+        self.text(name)?.parse().ok()
+    }
+
+    /// The bare word at a place, as a number.
+    fn bare(&self, at: usize) -> Option<u32> {
+        self.bare.get(at)?.parse().ok()
+    }
+
+    /// The node, the absolute ends and the last hash of a record or pin.
+    fn key(&self) -> Option<(u32, (u32, u32, u64))> {
+        let node = self.bare.get(2)?.split_once(':')?.0.parse().ok()?;
+        let (from, upto) = self.text("abs")?.split_once('-')?;
+        let ends = (from.parse().ok()?, upto.parse().ok()?);
+        Some((node, (ends.0, ends.1, self.number("last")?)))
+    }
 }
 
 /// What a `state` line says of one store, gathered before it is printed.
@@ -128,83 +145,78 @@ struct StoreLines<'a> {
     marks: BTreeMap<u32, u32>,
 }
 
-/// The node, the absolute ends and the last hash of a record or pin.
-fn form_key(words: &Words) -> (u32, (u32, u32, u64)) {
-    let node = words.bare[2].split_once(':').unwrap().0.parse().unwrap();
-    let (from, upto) = two(words.named["abs"], '-');
-    (node, (from, upto, words.number("last")))
-}
-
-impl StoreLines<'_> {
-    fn record_parts(&self, table: &[u64], depth: &BTreeMap<u32, u32>) -> Vec<Part> {
-        let mut order: Vec<&Words> = self.records.iter().collect();
-        order.sort_by_key(|w| (w.number("st"), w.number("id")));
-        let one = |(rank, w): (usize, &&Words)| {
-            let (node, key) = form_key(w);
-            let mark = depth[&node] + self.marks.get(&node).copied().unwrap_or(0);
-            let from = key.0.max(mark).min(key.1);
-            let dead = table[key.1 as usize] - table[from as usize];
-            let (store, span) = (w.bare[1], span_text(key));
-            let (stamp, time, write) = (w.named["st"], w.named["t"], w.named["w"]);
-            let text = format!(
-                " | r {store} {span} #{} st={stamp} t={time} w={write} dead={dead}",
-                rank + 1
-            );
-            (key, text)
-        };
-        order.iter().enumerate().map(one).collect()
+impl<'a> StoreLines<'a> {
+    fn add(&mut self, words: Words<'a>) -> Option<()> {
+        match words.bare[0] {
+            "r" => self.records.push(words),
+            "p" => self.pins.push(words),
+            "m" => drop(self.marks.insert(words.bare(2)?, words.bare(3)?)),
+            _ => return None,
+        }
+        Some(())
     }
 
-    fn pin_parts(&self) -> Vec<Part> {
+    fn record(&self, rank: usize, w: &Words, tree: &impl Blocks, table: &[u64]) -> Option<Part> {
+        let (node, key) = w.key()?;
+        let mark = tree.depth(node)? + self.marks.get(&node).copied().unwrap_or(0);
+        let from = key.0.max(mark).min(key.1);
+        let dead = table.get(key.1 as usize)? - table.get(from as usize)?;
+        let (store, span) = (w.bare[1], span_text(key));
+        let (stamp, time, write) = (w.text("st")?, w.text("t")?, w.text("w")?);
+        let text = format!(" | r {store} {span} #{rank} st={stamp} t={time} w={write} dead={dead}");
+        Some((key, text))
+    }
+
+    fn record_parts(&self, tree: &impl Blocks, table: &[u64]) -> Option<Vec<Part>> {
+        let mut order: Vec<&Words> = self.records.iter().collect();
+        order.sort_by_cached_key(|w| (w.number("st"), w.number("id")));
+        let ranked = order.iter().enumerate();
+        ranked
+            .map(|(i, w)| self.record(i + 1, w, tree, table))
+            .collect()
+    }
+
+    fn pin_parts(&self) -> Option<Vec<Part>> {
         let one = |w: &Words| {
-            let (store, key) = (w.bare[1], form_key(w).1);
-            (
-                key,
-                format!(" | p {store} {} c={}", span_text(key), w.named["c"]),
-            )
+            let (store, key, count) = (w.bare[1], w.key()?.1, w.text("c")?);
+            let span = span_text(key);
+            Some((key, format!(" | p {store} {span} c={count}")))
         };
         self.pins.iter().map(one).collect()
     }
 
-    fn mark_parts(&self, oracle: &crate::driver::Oracle, store: usize) -> Vec<Part> {
+    fn mark_parts(&self, tree: &impl Blocks, store: usize) -> Option<Vec<Part>> {
         let one = |(&node, &mark): (&u32, &u32)| {
-            let key = key(&oracle.radix, oracle.rust_node(node), 0, mark);
-            (key, format!(" | m {store} {}", span_text(key)))
+            let key = absolute::key(tree, node, 0, mark)?;
+            Some((key, format!(" | m {store} {}", span_text(key))))
         };
         self.marks.iter().map(one).collect()
     }
 }
 
-/// A `state` line of the replay form, as `absolute` would print it. The
-/// oracle tells the hashes that marks end at.
-pub fn from_form(line: &str, oracle: &crate::driver::Oracle) -> String {
-    let mut stalls = "";
-    let mut depth = BTreeMap::new();
+/// A `state` line of the replay form, as `absolute` would print it; none
+/// where it is no such line. The tree tells depths and hashes by number.
+pub fn from_form(line: &str, tree: &impl Blocks, table: &[u64]) -> Option<String> {
+    let mut parts = line.split(" | ");
+    let head = Words::of(parts.next()?);
     let mut stores: Vec<StoreLines> = Vec::new();
-    for part in line.split(" | ") {
-        let words = Words::of(part);
-        let node = |i: usize| words.bare[i].parse::<u32>().unwrap();
-        match words.bare[0] {
-            "state" => stalls = words.named["stalls"],
-            "n" => drop(depth.insert(node(1), words.number("d") as u32)),
-            "s" => stores.push(StoreLines {
-                head: part,
+    for part in parts.filter(|p| !p.starts_with("n ")) {
+        if part.starts_with("s ") {
+            let head = part;
+            stores.push(StoreLines {
+                head,
                 ..Default::default()
-            }),
-            "m" => {
-                let marks = &mut stores.last_mut().unwrap().marks;
-                marks.insert(node(2), node(3));
-            }
-            "r" => stores.last_mut().unwrap().records.push(words),
-            _ => stores.last_mut().unwrap().pins.push(words),
+            });
+        } else {
+            stores.last_mut()?.add(Words::of(part))?;
         }
     }
-    let mut out = format!("absolute stalls={stalls}");
+    let mut out = format!("absolute stalls={}", head.text("stalls")?);
     for (s, store) in stores.iter().enumerate() {
         out += &format!(" | {}", store.head);
-        out += &sorted(store.record_parts(&oracle.table, &depth));
-        out += &sorted(store.pin_parts());
-        out += &sorted(store.mark_parts(oracle, s));
+        out += &sorted(store.record_parts(tree, table)?);
+        out += &sorted(store.pin_parts()?);
+        out += &sorted(store.mark_parts(tree, s)?);
     }
-    out
+    Some(out)
 }
