@@ -1,0 +1,805 @@
+// The calls that Rust makes: the columns in their order, the answer lists, the books with the small numbers, a list for the answer's values, then the
+// arguments. The result is 0, or the refusal's number. What is asked of the state, one owner guarantees who sets up once and changes it by these calls only.
+mod books;
+mod told;
+
+use model::Span;
+ghost use mathlib.Core.Path.{_≡_};
+ghost use Prim.Native.Nat.{_≤_};
+ghost use lib.ListN.{length};
+ghost use Rattle.model.specs.Words.{Says};
+ghost use Rattle.model.specs.Sizes.{outPlaces};
+ghost use Rattle.model.specs.Sound.{Sound};
+ghost use Rattle.model.specs.Refusals.{PathFits, OutFits, TierFits};
+ghost use Rattle.model.specs.Calls.{setUp, resolveCall, insert as insertCall, storeInsert, storeRemove, storeExpire, pinSource, unpinSource};
+ghost use Rattle.tree.specs.Walk.{pathListOf};
+ghost use Rattle.evicted.specs.Evicted.{outList};
+ghost use Rattle.answers.specs.Answers.{stateFrom, outcome};
+ghost use Rattle.exports.specs.Books.{smallFrom};
+ghost use Rattle.exports.specs.Told.{toldPlain, toldCount, toldPath, toldInserted};
+
+// Sets up the tree and the stores, one for each capacity.
+#[no_mangle]
+pub extern "C" fn scorebeetle_set_up(
+    parent: &mut [usize],
+    depth: &mut [usize],
+    len: &mut [usize],
+    run: &mut [usize],
+    words: &[u64],
+    node: &[usize],
+    start: &[usize],
+    end: &[usize],
+    id: &[u64],
+    stamp: &[u64],
+    touched: &[f64],
+    write: &[u32],
+    pin_node: &[usize],
+    pin_start: &[usize],
+    pin_end: &[usize],
+    pin_count: &[u64],
+    marks: &mut [usize],
+    bytes: &mut [u64],
+    books: &mut [u64; 69],
+    table: &[u64],
+    capacity: &[u64],
+    refreshes: &[bool],
+) -> u8
+    requires { ⌜ length (now books) ≡ 69 ⌝ }
+    ensures { λ r. ⌜ outcome (stateFrom (now (parent .exit)) (now (depth .exit)) (now (len .exit)) (now (run .exit)) (now (words .entry)) (now (node .entry)) (now (start .entry)) (now (end .entry)) (now (id .entry)) (now (stamp .entry)) (now (touched .entry)) (now (write .entry)) (now («pin_node» .entry)) (now («pin_start» .entry)) (now («pin_end» .entry)) (now («pin_count» .entry)) (now (marks .exit)) (now (bytes .exit)) (smallFrom (now (books .exit)))) tt (toldPlain r) ≡ setUp (stateFrom (now (parent .entry)) (now (depth .entry)) (now (len .entry)) (now (run .entry)) (now (words .entry)) (now (node .entry)) (now (start .entry)) (now (end .entry)) (now (id .entry)) (now (stamp .entry)) (now (touched .entry)) (now (write .entry)) (now («pin_node» .entry)) (now («pin_start» .entry)) (now («pin_end» .entry)) (now («pin_count» .entry)) (now (marks .entry)) (now (bytes .entry)) (smallFrom (now (books .entry)))) (now (table .entry)) (now (capacity .entry)) (now (refreshes .entry)) ⌝ }
+{
+    let x = books::small_from(books);
+    let r = setup::set_up(
+        parent,
+        depth,
+        len,
+        run,
+        words,
+        node,
+        start,
+        end,
+        id,
+        stamp,
+        touched,
+        write,
+        pin_node,
+        pin_start,
+        pin_end,
+        pin_count,
+        marks,
+        bytes,
+        x,
+        table,
+        capacity,
+        refreshes,
+    );
+    let small = r.small;
+    let a = r.answer;
+    books::keep_small(books, small);
+    told::plain(a)
+}
+
+// How far the tree has a list.
+#[no_mangle]
+pub extern "C" fn scorebeetle_resolve(
+    parent: &[usize],
+    depth: &[usize],
+    len: &[usize],
+    run: &[usize],
+    words: &[u64],
+    node: &[usize],
+    start: &[usize],
+    end: &[usize],
+    id: &[u64],
+    stamp: &[u64],
+    touched: &[f64],
+    write: &[u32],
+    pin_node: &[usize],
+    pin_start: &[usize],
+    pin_end: &[usize],
+    pin_count: &[u64],
+    marks: &[usize],
+    bytes: &[u64],
+    path_node: &mut [usize],
+    path_len: &mut [usize],
+    books: &[u64; 69],
+    answer: &mut [u64; 19],
+    hashes: &[u64],
+) -> u8
+    requires { ⌜ Sound (stateFrom (now parent) (now depth) (now len) (now run) (now words) (now node) (now start) (now end) (now id) (now stamp) (now touched) (now write) (now «pin_node») (now «pin_start») (now «pin_end») (now «pin_count») (now marks) (now bytes) (smallFrom (now books))) × PathFits (pathListOf (now «path_node») (now «path_len»)) × (length (now answer) ≡ 19) ⌝ }
+    ensures { λ r. ⌜ outcome (stateFrom (now (parent .entry)) (now (depth .entry)) (now (len .entry)) (now (run .entry)) (now (words .entry)) (now (node .entry)) (now (start .entry)) (now (end .entry)) (now (id .entry)) (now (stamp .entry)) (now (touched .entry)) (now (write .entry)) (now («pin_node» .entry)) (now («pin_start» .entry)) (now («pin_end» .entry)) (now («pin_count» .entry)) (now (marks .entry)) (now (bytes .entry)) (smallFrom (now (books .entry)))) (pathListOf (now («path_node» .exit)) (now («path_len» .exit))) (toldPath r (now (answer .exit))) ≡ resolveCall (stateFrom (now (parent .entry)) (now (depth .entry)) (now (len .entry)) (now (run .entry)) (now (words .entry)) (now (node .entry)) (now (start .entry)) (now (end .entry)) (now (id .entry)) (now (stamp .entry)) (now (touched .entry)) (now (write .entry)) (now («pin_node» .entry)) (now («pin_start» .entry)) (now («pin_end» .entry)) (now («pin_count» .entry)) (now (marks .entry)) (now (bytes .entry)) (smallFrom (now (books .entry)))) (pathListOf (now («path_node» .entry)) (now («path_len» .entry))) (now (hashes .entry)) ⌝ }
+{
+    let x = books::small_from(books);
+    let r = resolving::resolve(
+        parent,
+        depth,
+        len,
+        run,
+        words,
+        node,
+        start,
+        end,
+        id,
+        stamp,
+        touched,
+        write,
+        pin_node,
+        pin_start,
+        pin_end,
+        pin_count,
+        marks,
+        bytes,
+        path_node,
+        path_len,
+        x,
+        hashes,
+    );
+    told::path(answer, r)
+}
+
+// A span into store s.
+#[no_mangle]
+pub extern "C" fn scorebeetle_store_insert(
+    parent: &[usize],
+    depth: &[usize],
+    len: &[usize],
+    run: &[usize],
+    words: &[u64],
+    node: &mut [usize],
+    start: &mut [usize],
+    end: &mut [usize],
+    id: &mut [u64],
+    stamp: &mut [u64],
+    touched: &mut [f64],
+    write: &mut [u32],
+    pin_node: &[usize],
+    pin_start: &[usize],
+    pin_end: &[usize],
+    pin_count: &[u64],
+    marks: &mut [usize],
+    bytes: &[u64],
+    out_node: &mut [usize],
+    out_start: &mut [usize],
+    out_end: &mut [usize],
+    out_write: &mut [u32],
+    out_bytes: &mut [u64],
+    out_dead: &mut [u64],
+    books: &mut [u64; 69],
+    answer: &mut [u64; 19],
+    s: usize,
+    on: usize,
+    from: usize,
+    upto: usize,
+    time: f64,
+    w: u32,
+) -> u8
+    requires { ⌜ Sound (stateFrom (now parent) (now depth) (now len) (now run) (now words) (now node) (now start) (now end) (now id) (now stamp) (now touched) (now write) (now «pin_node») (now «pin_start») (now «pin_end») (now «pin_count») (now marks) (now bytes) (smallFrom (now books))) × OutFits (outList (now «out_node») (now «out_start») (now «out_end») (now «out_write») (now «out_bytes») (now «out_dead»)) × (length (now books) ≡ 69) × (length (now answer) ≡ 19) ⌝ }
+    ensures { λ r. ⌜ outcome (stateFrom (now (parent .entry)) (now (depth .entry)) (now (len .entry)) (now (run .entry)) (now (words .entry)) (now (node .exit)) (now (start .exit)) (now (end .exit)) (now (id .exit)) (now (stamp .exit)) (now (touched .exit)) (now (write .exit)) (now («pin_node» .entry)) (now («pin_start» .entry)) (now («pin_end» .entry)) (now («pin_count» .entry)) (now (marks .exit)) (now (bytes .entry)) (smallFrom (now (books .exit)))) (outList (now («out_node» .exit)) (now («out_start» .exit)) (now («out_end» .exit)) (now («out_write» .exit)) (now («out_bytes» .exit)) (now («out_dead» .exit))) (toldCount r (now (answer .exit))) ≡ storeInsert (stateFrom (now (parent .entry)) (now (depth .entry)) (now (len .entry)) (now (run .entry)) (now (words .entry)) (now (node .entry)) (now (start .entry)) (now (end .entry)) (now (id .entry)) (now (stamp .entry)) (now (touched .entry)) (now (write .entry)) (now («pin_node» .entry)) (now («pin_start» .entry)) (now («pin_end» .entry)) (now («pin_count» .entry)) (now (marks .entry)) (now (bytes .entry)) (smallFrom (now (books .entry)))) (outList (now («out_node» .entry)) (now («out_start» .entry)) (now («out_end» .entry)) (now («out_write» .entry)) (now («out_bytes» .entry)) (now («out_dead» .entry))) s (record { node = on; start = from; end = upto }) time w ⌝ }
+{
+    let x = books::small_from(books);
+    let sp = Span {
+        node: on,
+        start: from,
+        end: upto,
+    };
+    let r = storeinsert::store_insert(
+        parent,
+        depth,
+        len,
+        run,
+        words,
+        node,
+        start,
+        end,
+        id,
+        stamp,
+        touched,
+        write,
+        pin_node,
+        pin_start,
+        pin_end,
+        pin_count,
+        marks,
+        bytes,
+        out_node,
+        out_start,
+        out_end,
+        out_write,
+        out_bytes,
+        out_dead,
+        x,
+        s,
+        sp,
+        time,
+        w,
+    );
+    let small = r.small;
+    let a = r.answer;
+    books::keep_small(books, small);
+    told::count(answer, a)
+}
+
+// A span out of store s.
+#[no_mangle]
+pub extern "C" fn scorebeetle_store_remove(
+    parent: &[usize],
+    depth: &[usize],
+    len: &[usize],
+    run: &[usize],
+    words: &[u64],
+    node: &mut [usize],
+    start: &mut [usize],
+    end: &mut [usize],
+    id: &mut [u64],
+    stamp: &mut [u64],
+    touched: &mut [f64],
+    write: &mut [u32],
+    pin_node: &[usize],
+    pin_start: &[usize],
+    pin_end: &[usize],
+    pin_count: &[u64],
+    marks: &mut [usize],
+    bytes: &[u64],
+    list: &mut [u32],
+    books: &mut [u64; 69],
+    answer: &mut [u64; 19],
+    s: usize,
+    on: usize,
+    from: usize,
+    upto: usize,
+) -> u8
+    requires { ⌜ Sound (stateFrom (now parent) (now depth) (now len) (now run) (now words) (now node) (now start) (now end) (now id) (now stamp) (now touched) (now write) (now «pin_node») (now «pin_start») (now «pin_end») (now «pin_count») (now marks) (now bytes) (smallFrom (now books))) × (outPlaces ≤ length (now list)) × (length (now books) ≡ 69) × (length (now answer) ≡ 19) ⌝ }
+    ensures { λ r. ⌜ outcome (stateFrom (now (parent .entry)) (now (depth .entry)) (now (len .entry)) (now (run .entry)) (now (words .entry)) (now (node .exit)) (now (start .exit)) (now (end .exit)) (now (id .exit)) (now (stamp .exit)) (now (touched .exit)) (now (write .exit)) (now («pin_node» .entry)) (now («pin_start» .entry)) (now («pin_end» .entry)) (now («pin_count» .entry)) (now (marks .exit)) (now (bytes .entry)) (smallFrom (now (books .exit)))) (now (list .exit)) (toldCount r (now (answer .exit))) ≡ storeRemove (stateFrom (now (parent .entry)) (now (depth .entry)) (now (len .entry)) (now (run .entry)) (now (words .entry)) (now (node .entry)) (now (start .entry)) (now (end .entry)) (now (id .entry)) (now (stamp .entry)) (now (touched .entry)) (now (write .entry)) (now («pin_node» .entry)) (now («pin_start» .entry)) (now («pin_end» .entry)) (now («pin_count» .entry)) (now (marks .entry)) (now (bytes .entry)) (smallFrom (now (books .entry)))) (now (list .entry)) s (record { node = on; start = from; end = upto }) ⌝ }
+{
+    let x = books::small_from(books);
+    let sp = Span {
+        node: on,
+        start: from,
+        end: upto,
+    };
+    let r = storeremove::store_remove(
+        parent,
+        depth,
+        len,
+        run,
+        words,
+        node,
+        start,
+        end,
+        id,
+        stamp,
+        touched,
+        write,
+        pin_node,
+        pin_start,
+        pin_end,
+        pin_count,
+        marks,
+        bytes,
+        list,
+        x,
+        s,
+        sp,
+    );
+    let small = r.small;
+    let a = r.answer;
+    books::keep_small(books, small);
+    told::count(answer, a)
+}
+
+// What is older than the seconds leaves store s.
+#[no_mangle]
+pub extern "C" fn scorebeetle_store_expire(
+    parent: &[usize],
+    depth: &[usize],
+    len: &[usize],
+    run: &[usize],
+    words: &[u64],
+    node: &mut [usize],
+    start: &mut [usize],
+    end: &mut [usize],
+    id: &mut [u64],
+    stamp: &mut [u64],
+    touched: &mut [f64],
+    write: &mut [u32],
+    pin_node: &[usize],
+    pin_start: &[usize],
+    pin_end: &[usize],
+    pin_count: &[u64],
+    marks: &mut [usize],
+    bytes: &[u64],
+    out_node: &mut [usize],
+    out_start: &mut [usize],
+    out_end: &mut [usize],
+    out_write: &mut [u32],
+    out_bytes: &mut [u64],
+    out_dead: &mut [u64],
+    books: &mut [u64; 69],
+    answer: &mut [u64; 19],
+    s: usize,
+    time: f64,
+    seconds: f64,
+) -> u8
+    requires { ⌜ Sound (stateFrom (now parent) (now depth) (now len) (now run) (now words) (now node) (now start) (now end) (now id) (now stamp) (now touched) (now write) (now «pin_node») (now «pin_start») (now «pin_end») (now «pin_count») (now marks) (now bytes) (smallFrom (now books))) × OutFits (outList (now «out_node») (now «out_start») (now «out_end») (now «out_write») (now «out_bytes») (now «out_dead»)) × (length (now books) ≡ 69) × (length (now answer) ≡ 19) ⌝ }
+    ensures { λ r. ⌜ outcome (stateFrom (now (parent .entry)) (now (depth .entry)) (now (len .entry)) (now (run .entry)) (now (words .entry)) (now (node .exit)) (now (start .exit)) (now (end .exit)) (now (id .exit)) (now (stamp .exit)) (now (touched .exit)) (now (write .exit)) (now («pin_node» .entry)) (now («pin_start» .entry)) (now («pin_end» .entry)) (now («pin_count» .entry)) (now (marks .exit)) (now (bytes .entry)) (smallFrom (now (books .exit)))) (outList (now («out_node» .exit)) (now («out_start» .exit)) (now («out_end» .exit)) (now («out_write» .exit)) (now («out_bytes» .exit)) (now («out_dead» .exit))) (toldCount r (now (answer .exit))) ≡ storeExpire (stateFrom (now (parent .entry)) (now (depth .entry)) (now (len .entry)) (now (run .entry)) (now (words .entry)) (now (node .entry)) (now (start .entry)) (now (end .entry)) (now (id .entry)) (now (stamp .entry)) (now (touched .entry)) (now (write .entry)) (now («pin_node» .entry)) (now («pin_start» .entry)) (now («pin_end» .entry)) (now («pin_count» .entry)) (now (marks .entry)) (now (bytes .entry)) (smallFrom (now (books .entry)))) (outList (now («out_node» .entry)) (now («out_start» .entry)) (now («out_end» .entry)) (now («out_write» .entry)) (now («out_bytes» .entry)) (now («out_dead» .entry))) s time seconds ⌝ }
+{
+    let x = books::small_from(books);
+    let r = storeexpire::store_expire(
+        parent,
+        depth,
+        len,
+        run,
+        words,
+        node,
+        start,
+        end,
+        id,
+        stamp,
+        touched,
+        write,
+        pin_node,
+        pin_start,
+        pin_end,
+        pin_count,
+        marks,
+        bytes,
+        out_node,
+        out_start,
+        out_end,
+        out_write,
+        out_bytes,
+        out_dead,
+        x,
+        s,
+        time,
+        seconds,
+    );
+    let small = r.small;
+    let a = r.answer;
+    books::keep_small(books, small);
+    told::count(answer, a)
+}
+
+// A pin on a span of store s.
+#[no_mangle]
+pub extern "C" fn scorebeetle_pin_source(
+    parent: &[usize],
+    depth: &[usize],
+    len: &[usize],
+    run: &[usize],
+    words: &[u64],
+    node: &[usize],
+    start: &[usize],
+    end: &[usize],
+    id: &[u64],
+    stamp: &[u64],
+    touched: &[f64],
+    write: &[u32],
+    pin_node: &mut [usize],
+    pin_start: &mut [usize],
+    pin_end: &mut [usize],
+    pin_count: &mut [u64],
+    marks: &[usize],
+    bytes: &[u64],
+    books: &mut [u64; 69],
+    s: usize,
+    on: usize,
+    from: usize,
+    upto: usize,
+) -> u8
+    requires { ⌜ Sound (stateFrom (now parent) (now depth) (now len) (now run) (now words) (now node) (now start) (now end) (now id) (now stamp) (now touched) (now write) (now «pin_node») (now «pin_start») (now «pin_end») (now «pin_count») (now marks) (now bytes) (smallFrom (now books))) × (length (now books) ≡ 69) ⌝ }
+    ensures { λ r. ⌜ outcome (stateFrom (now (parent .entry)) (now (depth .entry)) (now (len .entry)) (now (run .entry)) (now (words .entry)) (now (node .entry)) (now (start .entry)) (now (end .entry)) (now (id .entry)) (now (stamp .entry)) (now (touched .entry)) (now (write .entry)) (now («pin_node» .exit)) (now («pin_start» .exit)) (now («pin_end» .exit)) (now («pin_count» .exit)) (now (marks .entry)) (now (bytes .entry)) (smallFrom (now (books .exit)))) tt (toldPlain r) ≡ pinSource (stateFrom (now (parent .entry)) (now (depth .entry)) (now (len .entry)) (now (run .entry)) (now (words .entry)) (now (node .entry)) (now (start .entry)) (now (end .entry)) (now (id .entry)) (now (stamp .entry)) (now (touched .entry)) (now (write .entry)) (now («pin_node» .entry)) (now («pin_start» .entry)) (now («pin_end» .entry)) (now («pin_count» .entry)) (now (marks .entry)) (now (bytes .entry)) (smallFrom (now (books .entry)))) s (record { node = on; start = from; end = upto }) ⌝ }
+{
+    let x = books::small_from(books);
+    let sp = Span {
+        node: on,
+        start: from,
+        end: upto,
+    };
+    let r = pinning::pin_source(
+        parent,
+        depth,
+        len,
+        run,
+        words,
+        node,
+        start,
+        end,
+        id,
+        stamp,
+        touched,
+        write,
+        pin_node,
+        pin_start,
+        pin_end,
+        pin_count,
+        marks,
+        bytes,
+        x,
+        s,
+        sp,
+    );
+    let small = r.small;
+    let a = r.answer;
+    books::keep_small(books, small);
+    told::plain(a)
+}
+
+// A pin off a span of store s.
+#[no_mangle]
+pub extern "C" fn scorebeetle_unpin_source(
+    parent: &[usize],
+    depth: &[usize],
+    len: &[usize],
+    run: &[usize],
+    words: &[u64],
+    node: &[usize],
+    start: &[usize],
+    end: &[usize],
+    id: &[u64],
+    stamp: &[u64],
+    touched: &[f64],
+    write: &[u32],
+    pin_node: &mut [usize],
+    pin_start: &mut [usize],
+    pin_end: &mut [usize],
+    pin_count: &mut [u64],
+    marks: &[usize],
+    bytes: &[u64],
+    books: &mut [u64; 69],
+    s: usize,
+    on: usize,
+    from: usize,
+    upto: usize,
+) -> u8
+    requires { ⌜ Sound (stateFrom (now parent) (now depth) (now len) (now run) (now words) (now node) (now start) (now end) (now id) (now stamp) (now touched) (now write) (now «pin_node») (now «pin_start») (now «pin_end») (now «pin_count») (now marks) (now bytes) (smallFrom (now books))) × (length (now books) ≡ 69) ⌝ }
+    ensures { λ r. ⌜ outcome (stateFrom (now (parent .entry)) (now (depth .entry)) (now (len .entry)) (now (run .entry)) (now (words .entry)) (now (node .entry)) (now (start .entry)) (now (end .entry)) (now (id .entry)) (now (stamp .entry)) (now (touched .entry)) (now (write .entry)) (now («pin_node» .exit)) (now («pin_start» .exit)) (now («pin_end» .exit)) (now («pin_count» .exit)) (now (marks .entry)) (now (bytes .entry)) (smallFrom (now (books .exit)))) tt (toldPlain r) ≡ unpinSource (stateFrom (now (parent .entry)) (now (depth .entry)) (now (len .entry)) (now (run .entry)) (now (words .entry)) (now (node .entry)) (now (start .entry)) (now (end .entry)) (now (id .entry)) (now (stamp .entry)) (now (touched .entry)) (now (write .entry)) (now («pin_node» .entry)) (now («pin_start» .entry)) (now («pin_end» .entry)) (now («pin_count» .entry)) (now (marks .entry)) (now (bytes .entry)) (smallFrom (now (books .entry)))) s (record { node = on; start = from; end = upto }) ⌝ }
+{
+    let x = books::small_from(books);
+    let sp = Span {
+        node: on,
+        start: from,
+        end: upto,
+    };
+    let r = pinning::unpin_source(
+        parent,
+        depth,
+        len,
+        run,
+        words,
+        node,
+        start,
+        end,
+        id,
+        stamp,
+        touched,
+        write,
+        pin_node,
+        pin_start,
+        pin_end,
+        pin_count,
+        marks,
+        bytes,
+        x,
+        s,
+        sp,
+    );
+    let small = r.small;
+    let a = r.answer;
+    books::keep_small(books, small);
+    told::plain(a)
+}
+
+// A list into the tree.
+#[no_mangle]
+pub extern "C" fn scorebeetle_insert(
+    parent: &mut [usize],
+    depth: &mut [usize],
+    len: &mut [usize],
+    run: &mut [usize],
+    words: &mut [u64],
+    node: &mut [usize],
+    start: &mut [usize],
+    end: &mut [usize],
+    id: &mut [u64],
+    stamp: &mut [u64],
+    touched: &mut [f64],
+    write: &mut [u32],
+    pin_node: &mut [usize],
+    pin_start: &mut [usize],
+    pin_end: &mut [usize],
+    pin_count: &mut [u64],
+    marks: &mut [usize],
+    bytes: &[u64],
+    path_node: &mut [usize],
+    path_len: &mut [usize],
+    books: &mut [u64; 69],
+    answer: &mut [u64; 19],
+    hashes: &[u64],
+) -> u8
+    requires { ⌜ Sound (stateFrom (now parent) (now depth) (now len) (now run) (now words) (now node) (now start) (now end) (now id) (now stamp) (now touched) (now write) (now «pin_node») (now «pin_start») (now «pin_end») (now «pin_count») (now marks) (now bytes) (smallFrom (now books))) × PathFits (pathListOf (now «path_node») (now «path_len»)) × (length (now books) ≡ 69) × (length (now answer) ≡ 19) ⌝ }
+    ensures { λ r. ⌜ outcome (stateFrom (now (parent .exit)) (now (depth .exit)) (now (len .exit)) (now (run .exit)) (now (words .exit)) (now (node .exit)) (now (start .exit)) (now (end .exit)) (now (id .exit)) (now (stamp .exit)) (now (touched .exit)) (now (write .exit)) (now («pin_node» .exit)) (now («pin_start» .exit)) (now («pin_end» .exit)) (now («pin_count» .exit)) (now (marks .exit)) (now (bytes .entry)) (smallFrom (now (books .exit)))) (pathListOf (now («path_node» .exit)) (now («path_len» .exit))) (toldInserted r (now (answer .exit))) ≡ insertCall (stateFrom (now (parent .entry)) (now (depth .entry)) (now (len .entry)) (now (run .entry)) (now (words .entry)) (now (node .entry)) (now (start .entry)) (now (end .entry)) (now (id .entry)) (now (stamp .entry)) (now (touched .entry)) (now (write .entry)) (now («pin_node» .entry)) (now («pin_start» .entry)) (now («pin_end» .entry)) (now («pin_count» .entry)) (now (marks .entry)) (now (bytes .entry)) (smallFrom (now (books .entry)))) (pathListOf (now («path_node» .entry)) (now («path_len» .entry))) (now (hashes .entry)) ⌝ }
+{
+    let x = books::small_from(books);
+    let r = inserting::insert(
+        parent,
+        depth,
+        len,
+        run,
+        words,
+        node,
+        start,
+        end,
+        id,
+        stamp,
+        touched,
+        write,
+        pin_node,
+        pin_start,
+        pin_end,
+        pin_count,
+        marks,
+        bytes,
+        path_node,
+        path_len,
+        x,
+        hashes,
+    );
+    let small = r.small;
+    let a = r.answer;
+    books::keep_small(books, small);
+    told::inserted(answer, a)
+}
+
+// How far the tree has a list, on any state.
+#[no_mangle]
+pub extern "C" fn scorebeetle_checked_resolve(
+    parent: &[usize],
+    depth: &[usize],
+    len: &[usize],
+    run: &[usize],
+    words: &[u64],
+    node: &[usize],
+    start: &[usize],
+    end: &[usize],
+    id: &[u64],
+    stamp: &[u64],
+    touched: &[f64],
+    write: &[u32],
+    pin_node: &[usize],
+    pin_start: &[usize],
+    pin_end: &[usize],
+    pin_count: &[u64],
+    marks: &[usize],
+    bytes: &[u64],
+    path_node: &mut [usize],
+    path_len: &mut [usize],
+    books: &[u64; 69],
+    answer: &mut [u64; 19],
+    hashes: &[u64],
+) -> u8
+    requires { ⌜ (length (now answer) ≡ 19) ⌝ }
+    ensures { λ r. ⌜ outcome (stateFrom (now (parent .entry)) (now (depth .entry)) (now (len .entry)) (now (run .entry)) (now (words .entry)) (now (node .entry)) (now (start .entry)) (now (end .entry)) (now (id .entry)) (now (stamp .entry)) (now (touched .entry)) (now (write .entry)) (now («pin_node» .entry)) (now («pin_start» .entry)) (now («pin_end» .entry)) (now («pin_count» .entry)) (now (marks .entry)) (now (bytes .entry)) (smallFrom (now (books .entry)))) (pathListOf (now («path_node» .exit)) (now («path_len» .exit))) (toldPath r (now (answer .exit))) ≡ resolveCall (stateFrom (now (parent .entry)) (now (depth .entry)) (now (len .entry)) (now (run .entry)) (now (words .entry)) (now (node .entry)) (now (start .entry)) (now (end .entry)) (now (id .entry)) (now (stamp .entry)) (now (touched .entry)) (now (write .entry)) (now («pin_node» .entry)) (now («pin_start» .entry)) (now («pin_end» .entry)) (now («pin_count» .entry)) (now (marks .entry)) (now (bytes .entry)) (smallFrom (now (books .entry)))) (pathListOf (now («path_node» .entry)) (now («path_len» .entry))) (now (hashes .entry)) ⌝ }
+{
+    let x = books::small_from(books);
+    let r = publictree::resolve(
+        parent,
+        depth,
+        len,
+        run,
+        words,
+        node,
+        start,
+        end,
+        id,
+        stamp,
+        touched,
+        write,
+        pin_node,
+        pin_start,
+        pin_end,
+        pin_count,
+        marks,
+        bytes,
+        path_node,
+        path_len,
+        x,
+        hashes,
+    );
+    told::path(answer, r)
+}
+
+// A span into store s, on any state.
+#[no_mangle]
+pub extern "C" fn scorebeetle_checked_store_insert(
+    parent: &[usize],
+    depth: &[usize],
+    len: &[usize],
+    run: &[usize],
+    words: &[u64],
+    node: &mut [usize],
+    start: &mut [usize],
+    end: &mut [usize],
+    id: &mut [u64],
+    stamp: &mut [u64],
+    touched: &mut [f64],
+    write: &mut [u32],
+    pin_node: &[usize],
+    pin_start: &[usize],
+    pin_end: &[usize],
+    pin_count: &[u64],
+    marks: &mut [usize],
+    bytes: &[u64],
+    out_node: &mut [usize],
+    out_start: &mut [usize],
+    out_end: &mut [usize],
+    out_write: &mut [u32],
+    out_bytes: &mut [u64],
+    out_dead: &mut [u64],
+    books: &mut [u64; 69],
+    answer: &mut [u64; 19],
+    s: usize,
+    on: usize,
+    from: usize,
+    upto: usize,
+    time: f64,
+    w: u32,
+) -> u8
+    requires { ⌜ (length (now books) ≡ 69) × (length (now answer) ≡ 19) ⌝ }
+    ensures { λ r. ⌜ outcome (stateFrom (now (parent .entry)) (now (depth .entry)) (now (len .entry)) (now (run .entry)) (now (words .entry)) (now (node .exit)) (now (start .exit)) (now (end .exit)) (now (id .exit)) (now (stamp .exit)) (now (touched .exit)) (now (write .exit)) (now («pin_node» .entry)) (now («pin_start» .entry)) (now («pin_end» .entry)) (now («pin_count» .entry)) (now (marks .exit)) (now (bytes .entry)) (smallFrom (now (books .exit)))) (outList (now («out_node» .exit)) (now («out_start» .exit)) (now («out_end» .exit)) (now («out_write» .exit)) (now («out_bytes» .exit)) (now («out_dead» .exit))) (toldCount r (now (answer .exit))) ≡ storeInsert (stateFrom (now (parent .entry)) (now (depth .entry)) (now (len .entry)) (now (run .entry)) (now (words .entry)) (now (node .entry)) (now (start .entry)) (now (end .entry)) (now (id .entry)) (now (stamp .entry)) (now (touched .entry)) (now (write .entry)) (now («pin_node» .entry)) (now («pin_start» .entry)) (now («pin_end» .entry)) (now («pin_count» .entry)) (now (marks .entry)) (now (bytes .entry)) (smallFrom (now (books .entry)))) (outList (now («out_node» .entry)) (now («out_start» .entry)) (now («out_end» .entry)) (now («out_write» .entry)) (now («out_bytes» .entry)) (now («out_dead» .entry))) s (record { node = on; start = from; end = upto }) time w ⌝ }
+{
+    let x = books::small_from(books);
+    let sp = Span {
+        node: on,
+        start: from,
+        end: upto,
+    };
+    let r = publicstore::store_insert(
+        parent,
+        depth,
+        len,
+        run,
+        words,
+        node,
+        start,
+        end,
+        id,
+        stamp,
+        touched,
+        write,
+        pin_node,
+        pin_start,
+        pin_end,
+        pin_count,
+        marks,
+        bytes,
+        out_node,
+        out_start,
+        out_end,
+        out_write,
+        out_bytes,
+        out_dead,
+        x,
+        s,
+        sp,
+        time,
+        w,
+    );
+    let small = r.small;
+    let a = r.answer;
+    books::keep_small(books, small);
+    told::count(answer, a)
+}
+
+// A pin on a span of store s, on any state.
+#[no_mangle]
+pub extern "C" fn scorebeetle_checked_pin_source(
+    parent: &[usize],
+    depth: &[usize],
+    len: &[usize],
+    run: &[usize],
+    words: &[u64],
+    node: &[usize],
+    start: &[usize],
+    end: &[usize],
+    id: &[u64],
+    stamp: &[u64],
+    touched: &[f64],
+    write: &[u32],
+    pin_node: &mut [usize],
+    pin_start: &mut [usize],
+    pin_end: &mut [usize],
+    pin_count: &mut [u64],
+    marks: &[usize],
+    bytes: &[u64],
+    books: &mut [u64; 69],
+    s: usize,
+    on: usize,
+    from: usize,
+    upto: usize,
+) -> u8
+    requires { ⌜ (length (now books) ≡ 69) ⌝ }
+    ensures { λ r. ⌜ outcome (stateFrom (now (parent .entry)) (now (depth .entry)) (now (len .entry)) (now (run .entry)) (now (words .entry)) (now (node .entry)) (now (start .entry)) (now (end .entry)) (now (id .entry)) (now (stamp .entry)) (now (touched .entry)) (now (write .entry)) (now («pin_node» .exit)) (now («pin_start» .exit)) (now («pin_end» .exit)) (now («pin_count» .exit)) (now (marks .entry)) (now (bytes .entry)) (smallFrom (now (books .exit)))) tt (toldPlain r) ≡ pinSource (stateFrom (now (parent .entry)) (now (depth .entry)) (now (len .entry)) (now (run .entry)) (now (words .entry)) (now (node .entry)) (now (start .entry)) (now (end .entry)) (now (id .entry)) (now (stamp .entry)) (now (touched .entry)) (now (write .entry)) (now («pin_node» .entry)) (now («pin_start» .entry)) (now («pin_end» .entry)) (now («pin_count» .entry)) (now (marks .entry)) (now (bytes .entry)) (smallFrom (now (books .entry)))) s (record { node = on; start = from; end = upto }) ⌝ }
+{
+    let x = books::small_from(books);
+    let sp = Span {
+        node: on,
+        start: from,
+        end: upto,
+    };
+    let r = publicpins::pin_source(
+        parent,
+        depth,
+        len,
+        run,
+        words,
+        node,
+        start,
+        end,
+        id,
+        stamp,
+        touched,
+        write,
+        pin_node,
+        pin_start,
+        pin_end,
+        pin_count,
+        marks,
+        bytes,
+        x,
+        s,
+        sp,
+    );
+    let small = r.small;
+    let a = r.answer;
+    books::keep_small(books, small);
+    told::plain(a)
+}
+
+// Whether the state is sound, the whole test.
+#[no_mangle]
+pub extern "C" fn scorebeetle_sound_state(
+    parent: &[usize],
+    depth: &[usize],
+    len: &[usize],
+    run: &[usize],
+    words: &[u64],
+    node: &[usize],
+    start: &[usize],
+    end: &[usize],
+    id: &[u64],
+    stamp: &[u64],
+    touched: &[f64],
+    write: &[u32],
+    pin_node: &[usize],
+    pin_start: &[usize],
+    pin_end: &[usize],
+    pin_count: &[u64],
+    marks: &[usize],
+    bytes: &[u64],
+    books: &[u64; 69],
+) -> bool
+    ensures { λ r. ⌜ Says r (Sound (stateFrom (now (parent .entry)) (now (depth .entry)) (now (len .entry)) (now (run .entry)) (now (words .entry)) (now (node .entry)) (now (start .entry)) (now (end .entry)) (now (id .entry)) (now (stamp .entry)) (now (touched .entry)) (now (write .entry)) (now («pin_node» .entry)) (now («pin_start» .entry)) (now («pin_end» .entry)) (now («pin_count» .entry)) (now (marks .entry)) (now (bytes .entry)) (smallFrom (now (books .entry))))) ⌝ }
+{
+    let x = books::small_from(books);
+    sound::sound_state(
+        parent,
+        depth,
+        len,
+        run,
+        words,
+        node,
+        start,
+        end,
+        id,
+        stamp,
+        touched,
+        write,
+        pin_node,
+        pin_start,
+        pin_end,
+        pin_count,
+        marks,
+        bytes,
+        x,
+    )
+}

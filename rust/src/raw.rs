@@ -1,0 +1,140 @@
+//! The exported functions as they are. A slice is a pointer and a length; the
+//! eighteen columns always come first, in the order of `Pools`.
+
+/// Declares functions whose parameters begin with the columns.
+macro_rules! exported {
+    ($($name:ident ( $($arg:ident : $type:ty),* $(,)? ) -> $result:ty;)*) => {
+        extern "C" {
+            $(pub fn $name(
+                parent: *mut usize, parents: usize,
+                depth: *mut usize, depths: usize,
+                len: *mut usize, lens: usize,
+                run: *mut usize, runs: usize,
+                words: *mut u64, word_count: usize,
+                node: *mut usize, nodes: usize,
+                start: *mut usize, starts: usize,
+                end: *mut usize, ends: usize,
+                id: *mut u64, ids: usize,
+                stamp: *mut u64, stamps: usize,
+                touched: *mut f64, times: usize,
+                write: *mut u32, writes: usize,
+                pin_node: *mut usize, pin_nodes: usize,
+                pin_start: *mut usize, pin_starts: usize,
+                pin_end: *mut usize, pin_ends: usize,
+                pin_count: *mut u64, pin_counts: usize,
+                marks: *mut usize, mark_count: usize,
+                bytes: *mut u64, byte_count: usize,
+                $($arg: $type),*
+            ) -> $result;)*
+        }
+    };
+}
+
+/// Calls one of them on the pools.
+macro_rules! call {
+    ($pools:expr, $name:ident $(, $arg:expr)* $(,)?) => {{
+        let p: &mut crate::pools::Pools = $pools;
+        // SAFETY: every pool is owned by `p`, as long as its array, and lent
+        // to this call alone; the state in them was set up by the library and
+        // changed by its functions only, so it is as their contracts ask.
+        unsafe {
+            crate::raw::$name(
+                p.parent.as_mut_ptr(), p.parent.len(),
+                p.depth.as_mut_ptr(), p.depth.len(),
+                p.len.as_mut_ptr(), p.len.len(),
+                p.run.as_mut_ptr(), p.run.len(),
+                p.words.as_mut_ptr(), p.words.len(),
+                p.node.as_mut_ptr(), p.node.len(),
+                p.start.as_mut_ptr(), p.start.len(),
+                p.end.as_mut_ptr(), p.end.len(),
+                p.id.as_mut_ptr(), p.id.len(),
+                p.stamp.as_mut_ptr(), p.stamp.len(),
+                p.touched.as_mut_ptr(), p.touched.len(),
+                p.write.as_mut_ptr(), p.write.len(),
+                p.pin_node.as_mut_ptr(), p.pin_node.len(),
+                p.pin_start.as_mut_ptr(), p.pin_start.len(),
+                p.pin_end.as_mut_ptr(), p.pin_end.len(),
+                p.pin_count.as_mut_ptr(), p.pin_count.len(),
+                p.marks.as_mut_ptr(), p.marks.len(),
+                p.bytes.as_mut_ptr(), p.bytes.len(),
+                $($arg),*
+            )
+        }
+    }};
+}
+pub(crate) use call;
+
+exported! {
+    scorebeetle_set_up(
+        books: *mut u64,
+        table: *const u64, tables: usize,
+        capacity: *const u64, capacities: usize,
+        refreshes: *const bool, policies: usize,
+    ) -> u8;
+    scorebeetle_resolve(
+        path_node: *mut usize, path_nodes: usize,
+        path_len: *mut usize, path_lens: usize,
+        books: *const u64, answer: *mut u64,
+        hashes: *const u64, count: usize,
+    ) -> u8;
+    scorebeetle_checked_resolve(
+        path_node: *mut usize, path_nodes: usize,
+        path_len: *mut usize, path_lens: usize,
+        books: *const u64, answer: *mut u64,
+        hashes: *const u64, count: usize,
+    ) -> u8;
+    scorebeetle_insert(
+        path_node: *mut usize, path_nodes: usize,
+        path_len: *mut usize, path_lens: usize,
+        books: *mut u64, answer: *mut u64,
+        hashes: *const u64, count: usize,
+    ) -> u8;
+    scorebeetle_store_insert(
+        out_node: *mut usize, out_nodes: usize,
+        out_start: *mut usize, out_starts: usize,
+        out_end: *mut usize, out_ends: usize,
+        out_write: *mut u32, out_writes: usize,
+        out_bytes: *mut u64, out_byte_count: usize,
+        out_dead: *mut u64, out_dead_count: usize,
+        books: *mut u64, answer: *mut u64,
+        s: usize, on: usize, from: usize, upto: usize, time: f64, w: u32,
+    ) -> u8;
+    scorebeetle_store_remove(
+        list: *mut u32, places: usize,
+        books: *mut u64, answer: *mut u64,
+        s: usize, on: usize, from: usize, upto: usize,
+    ) -> u8;
+    scorebeetle_store_expire(
+        out_node: *mut usize, out_nodes: usize,
+        out_start: *mut usize, out_starts: usize,
+        out_end: *mut usize, out_ends: usize,
+        out_write: *mut u32, out_writes: usize,
+        out_bytes: *mut u64, out_byte_count: usize,
+        out_dead: *mut u64, out_dead_count: usize,
+        books: *mut u64, answer: *mut u64,
+        s: usize, now: f64, seconds: f64,
+    ) -> u8;
+    scorebeetle_pin_source(
+        books: *mut u64,
+        s: usize, on: usize, from: usize, upto: usize,
+    ) -> u8;
+    scorebeetle_unpin_source(
+        books: *mut u64,
+        s: usize, on: usize, from: usize, upto: usize,
+    ) -> u8;
+    scorebeetle_checked_store_insert(
+        out_node: *mut usize, out_nodes: usize,
+        out_start: *mut usize, out_starts: usize,
+        out_end: *mut usize, out_ends: usize,
+        out_write: *mut u32, out_writes: usize,
+        out_bytes: *mut u64, out_byte_count: usize,
+        out_dead: *mut u64, out_dead_count: usize,
+        books: *mut u64, answer: *mut u64,
+        s: usize, on: usize, from: usize, upto: usize, time: f64, w: u32,
+    ) -> u8;
+    scorebeetle_checked_pin_source(
+        books: *mut u64,
+        s: usize, on: usize, from: usize, upto: usize,
+    ) -> u8;
+    scorebeetle_sound_state(books: *const u64) -> bool;
+}
