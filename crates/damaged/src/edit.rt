@@ -1,0 +1,312 @@
+// The state with one number changed. A place past the end of its column changes nothing.
+use radix::Small;
+use trials::world::World;
+
+pub fn with_parent(w: World, i: usize, n: usize) -> World {
+    if 256 <= i {
+        return w;
+    }
+    let mut v = w;
+    v.parent[i] = n;
+    v
+}
+
+pub fn with_depth(w: World, i: usize, n: usize) -> World {
+    if 256 <= i {
+        return w;
+    }
+    let mut v = w;
+    v.depth[i] = n;
+    v
+}
+
+pub fn with_len(w: World, i: usize, n: usize) -> World {
+    if 256 <= i {
+        return w;
+    }
+    let mut v = w;
+    v.len[i] = n;
+    v
+}
+
+pub fn with_run(w: World, i: usize, n: usize) -> World {
+    if 256 <= i {
+        return w;
+    }
+    let mut v = w;
+    v.run[i] = n;
+    v
+}
+
+pub fn with_words(w: World, i: usize, n: u64) -> World {
+    if 4096 <= i {
+        return w;
+    }
+    let mut v = w;
+    v.words[i] = n;
+    v
+}
+
+pub fn with_node(w: World, i: usize, n: usize) -> World {
+    if 1024 <= i {
+        return w;
+    }
+    let mut v = w;
+    v.node[i] = n;
+    v
+}
+
+pub fn with_start(w: World, i: usize, n: usize) -> World {
+    if 1024 <= i {
+        return w;
+    }
+    let mut v = w;
+    v.start[i] = n;
+    v
+}
+
+pub fn with_end(w: World, i: usize, n: usize) -> World {
+    if 1024 <= i {
+        return w;
+    }
+    let mut v = w;
+    v.end[i] = n;
+    v
+}
+
+pub fn with_id(w: World, i: usize, n: u64) -> World {
+    if 1024 <= i {
+        return w;
+    }
+    let mut v = w;
+    v.id[i] = n;
+    v
+}
+
+pub fn with_stamp(w: World, i: usize, n: u64) -> World {
+    if 1024 <= i {
+        return w;
+    }
+    let mut v = w;
+    v.stamp[i] = n;
+    v
+}
+
+pub fn with_touched(w: World, i: usize, n: f64) -> World {
+    if 1024 <= i {
+        return w;
+    }
+    let mut v = w;
+    v.touched[i] = n;
+    v
+}
+
+pub fn with_write(w: World, i: usize, n: u32) -> World {
+    if 1024 <= i {
+        return w;
+    }
+    let mut v = w;
+    v.write[i] = n;
+    v
+}
+
+pub fn with_pin_node(w: World, i: usize, n: usize) -> World {
+    if 256 <= i {
+        return w;
+    }
+    let mut v = w;
+    v.pin_node[i] = n;
+    v
+}
+
+pub fn with_pin_start(w: World, i: usize, n: usize) -> World {
+    if 256 <= i {
+        return w;
+    }
+    let mut v = w;
+    v.pin_start[i] = n;
+    v
+}
+
+pub fn with_pin_end(w: World, i: usize, n: usize) -> World {
+    if 256 <= i {
+        return w;
+    }
+    let mut v = w;
+    v.pin_end[i] = n;
+    v
+}
+
+pub fn with_pin_count(w: World, i: usize, n: u64) -> World {
+    if 256 <= i {
+        return w;
+    }
+    let mut v = w;
+    v.pin_count[i] = n;
+    v
+}
+
+pub fn with_marks(w: World, i: usize, n: usize) -> World {
+    if 2048 <= i {
+        return w;
+    }
+    let mut v = w;
+    v.marks[i] = n;
+    v
+}
+
+pub fn with_bytes(w: World, i: usize, n: u64) -> World {
+    if 1025 <= i {
+        return w;
+    }
+    let mut v = w;
+    v.bytes[i] = n;
+    v
+}
+
+fn with_small(w: World, x: Small) -> World {
+    let mut v = w;
+    v.small = x;
+    v
+}
+
+pub fn with_nodes(w: World, n: usize) -> World {
+    let mut x = w.small;
+    x.nodes = n;
+    with_small(w, x)
+}
+
+pub fn with_used(w: World, n: usize) -> World {
+    let mut x = w.small;
+    x.used = n;
+    with_small(w, x)
+}
+
+pub fn with_stores(w: World, n: usize) -> World {
+    let mut x = w.small;
+    x.stores = n;
+    with_small(w, x)
+}
+
+pub fn with_next(w: World, n: u64) -> World {
+    let mut x = w.small;
+    x.next = n;
+    with_small(w, x)
+}
+
+pub fn with_stalls(w: World, n: u64) -> World {
+    let mut x = w.small;
+    x.stalls = n;
+    with_small(w, x)
+}
+
+fn put_capacity(x: Small, s: usize, n: u64) -> Small {
+    if 8 <= s {
+        return x;
+    }
+    let mut y = x;
+    y.capacity[s] = n;
+    y
+}
+
+pub fn with_capacity(w: World, s: usize, n: u64) -> World {
+    let x = w.small;
+    with_small(w, put_capacity(x, s, n))
+}
+
+fn put_records(x: Small, s: usize, n: usize) -> Small {
+    if 8 <= s {
+        return x;
+    }
+    let mut y = x;
+    y.records[s] = n;
+    y
+}
+
+pub fn with_records(w: World, s: usize, n: usize) -> World {
+    let x = w.small;
+    with_small(w, put_records(x, s, n))
+}
+
+fn put_held(x: Small, s: usize, n: u64) -> Small {
+    if 8 <= s {
+        return x;
+    }
+    let mut y = x;
+    y.held[s] = n;
+    y
+}
+
+pub fn with_held(w: World, s: usize, n: u64) -> World {
+    let x = w.small;
+    with_small(w, put_held(x, s, n))
+}
+
+fn put_last_stamp(x: Small, s: usize, n: u64) -> Small {
+    if 8 <= s {
+        return x;
+    }
+    let mut y = x;
+    y.stamp[s] = n;
+    y
+}
+
+pub fn with_last_stamp(w: World, s: usize, n: u64) -> World {
+    let x = w.small;
+    with_small(w, put_last_stamp(x, s, n))
+}
+
+fn put_entries(x: Small, s: usize, n: usize) -> Small {
+    if 8 <= s {
+        return x;
+    }
+    let mut y = x;
+    y.entries[s] = n;
+    y
+}
+
+pub fn with_entries(w: World, s: usize, n: usize) -> World {
+    let x = w.small;
+    with_small(w, put_entries(x, s, n))
+}
+
+fn put_pinned(x: Small, s: usize, n: u64) -> Small {
+    if 8 <= s {
+        return x;
+    }
+    let mut y = x;
+    y.pinned[s] = n;
+    y
+}
+
+pub fn with_pinned(w: World, s: usize, n: u64) -> World {
+    let x = w.small;
+    with_small(w, put_pinned(x, s, n))
+}
+
+pub fn with_node_at(
+    w: World,
+    k: usize,
+    parent: usize,
+    depth: usize,
+    len: usize,
+    run: usize,
+) -> World {
+    let a = with_parent(w, k, parent);
+    let b = with_depth(a, k, depth);
+    let c = with_len(b, k, len);
+    with_run(c, k, run)
+}
+
+pub fn with_span_at(w: World, i: usize, node: usize, start: usize, end: usize) -> World {
+    let a = with_node(w, i, node);
+    let b = with_start(a, i, start);
+    with_end(b, i, end)
+}
+
+pub fn with_pin_at(w: World, i: usize, node: usize, start: usize, end: usize, count: u64) -> World {
+    let a = with_pin_node(w, i, node);
+    let b = with_pin_start(a, i, start);
+    let c = with_pin_end(b, i, end);
+    with_pin_count(c, i, count)
+}

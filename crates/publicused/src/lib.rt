@@ -1,0 +1,79 @@
+// The public call that touches the spans of a lent list: the test for 1 and the tests that need no span, a pass that looks at the spans, a pass of turns, and the answer.
+use answers::Counted;
+use lent::Small;
+use model::Span;
+ghost use mathlib.Core.Path.{_≡_};
+ghost use Rattle.model.specs.Calls.{storeUsed};
+ghost use Rattle.answers.specs.Answers.{stateFrom, outcome, countOf};
+
+// Touches the spans in store s, in turn, and answers the bytes read; or refuses all of them.
+pub fn store_used(
+    parent: &[usize],
+    depth: &[usize],
+    len: &[usize],
+    run: &[usize],
+    words: &[u64],
+    node: &mut [usize],
+    start: &mut [usize],
+    end: &mut [usize],
+    id: &mut [u64],
+    stamp: &mut [u64],
+    touched: &mut [f64],
+    write: &mut [u32],
+    pin_node: &[usize],
+    pin_start: &[usize],
+    pin_end: &[usize],
+    pin_count: &[u64],
+    marks: &mut [usize],
+    bytes: &[u64],
+    x: Small,
+    s: usize,
+    spans: &[Span],
+    time: f64,
+    counted: bool,
+) -> Counted
+    ensures { λ r. ⌜ outcome (stateFrom (now (parent .entry)) (now (depth .entry)) (now (len .entry)) (now (run .entry)) (now (words .entry)) (now (node .exit)) (now (start .exit)) (now (end .exit)) (now (id .exit)) (now (stamp .exit)) (now (touched .exit)) (now (write .exit)) (now («pin_node» .entry)) (now («pin_start» .entry)) (now («pin_end» .entry)) (now («pin_count» .entry)) (now (marks .exit)) (now (bytes .entry)) (r .small)) tt (countOf (r .answer)) ≡ storeUsed (stateFrom (now (parent .entry)) (now (depth .entry)) (now (len .entry)) (now (run .entry)) (now (words .entry)) (now (node .entry)) (now (start .entry)) (now (end .entry)) (now (id .entry)) (now (stamp .entry)) (now (touched .entry)) (now (write .entry)) (now («pin_node» .entry)) (now («pin_start» .entry)) (now («pin_end» .entry)) (now («pin_count» .entry)) (now (marks .entry)) (now (bytes .entry)) x) s (now (spans .entry)) time counted ⌝ }
+{
+    let n = spans.len();
+    let y = usedlist::start_touch(
+        parent,
+        depth,
+        len,
+        run,
+        words,
+        node,
+        start,
+        end,
+        id,
+        stamp,
+        touched,
+        write,
+        pin_node,
+        pin_start,
+        pin_end,
+        pin_count,
+        marks,
+        bytes,
+        x,
+        s,
+        n,
+        time,
+        counted,
+    );
+    let z = storeused::look_spans(spans, len, y);
+    let w = storeused::touch_spans(
+        spans,
+        node,
+        start,
+        end,
+        id,
+        stamp,
+        touched,
+        write,
+        marks,
+        depth,
+        bytes,
+        z,
+    );
+    usedspan::finish(x, w)
+}

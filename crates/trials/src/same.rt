@@ -1,0 +1,402 @@
+// Whether two states, and two sets of answer lists, are the same in every place.
+use crate::world::Lists;
+use crate::world::World;
+use radix::Small;
+
+// The same float: where the two are equal their reciprocals tell 0 from -0; else both are no number.
+fn same_time(x: f64, y: f64) -> bool {
+    if x == y {
+        return 1.0 / x == 1.0 / y;
+    }
+    if x == x {
+        return false;
+    }
+    if y == y {
+        return false;
+    }
+    true
+}
+
+fn all_usize(a: &[usize], b: &[usize]) -> bool {
+    if a.len() != b.len() {
+        return false;
+    }
+    let mut i = 0;
+    while i < a.len() {
+        if a[i] != b[i] {
+            return false;
+        }
+        i += 1;
+    }
+    true
+}
+
+fn all_u64(a: &[u64], b: &[u64]) -> bool {
+    if a.len() != b.len() {
+        return false;
+    }
+    let mut i = 0;
+    while i < a.len() {
+        if a[i] != b[i] {
+            return false;
+        }
+        i += 1;
+    }
+    true
+}
+
+fn all_u32(a: &[u32], b: &[u32]) -> bool {
+    if a.len() != b.len() {
+        return false;
+    }
+    let mut i = 0;
+    while i < a.len() {
+        if a[i] != b[i] {
+            return false;
+        }
+        i += 1;
+    }
+    true
+}
+
+fn all_bool(a: &[bool], b: &[bool]) -> bool {
+    if a.len() != b.len() {
+        return false;
+    }
+    let mut i = 0;
+    while i < a.len() {
+        if a[i] != b[i] {
+            return false;
+        }
+        i += 1;
+    }
+    true
+}
+
+fn all_f64(a: &[f64], b: &[f64]) -> bool {
+    if a.len() != b.len() {
+        return false;
+    }
+    let mut i = 0;
+    while i < a.len() {
+        if !same_time(a[i], b[i]) {
+            return false;
+        }
+        i += 1;
+    }
+    true
+}
+
+fn same_usize_256(a: [usize; 256], b: [usize; 256]) -> bool {
+    all_usize(&a, &b)
+}
+
+fn same_u64_4096(a: [u64; 4096], b: [u64; 4096]) -> bool {
+    all_u64(&a, &b)
+}
+
+fn same_usize_1024(a: [usize; 1024], b: [usize; 1024]) -> bool {
+    all_usize(&a, &b)
+}
+
+fn same_u64_1024(a: [u64; 1024], b: [u64; 1024]) -> bool {
+    all_u64(&a, &b)
+}
+
+fn same_f64_1024(a: [f64; 1024], b: [f64; 1024]) -> bool {
+    all_f64(&a, &b)
+}
+
+fn same_u32_1024(a: [u32; 1024], b: [u32; 1024]) -> bool {
+    all_u32(&a, &b)
+}
+
+fn same_u64_256(a: [u64; 256], b: [u64; 256]) -> bool {
+    all_u64(&a, &b)
+}
+
+fn same_usize_2048(a: [usize; 2048], b: [usize; 2048]) -> bool {
+    all_usize(&a, &b)
+}
+
+fn same_u64_1025(a: [u64; 1025], b: [u64; 1025]) -> bool {
+    all_u64(&a, &b)
+}
+
+fn same_usize_255(a: [usize; 255], b: [usize; 255]) -> bool {
+    all_usize(&a, &b)
+}
+
+fn same_usize_128(a: [usize; 128], b: [usize; 128]) -> bool {
+    all_usize(&a, &b)
+}
+
+fn same_u32_128(a: [u32; 128], b: [u32; 128]) -> bool {
+    all_u32(&a, &b)
+}
+
+fn same_u64_128(a: [u64; 128], b: [u64; 128]) -> bool {
+    all_u64(&a, &b)
+}
+
+fn same_usize_8(a: [usize; 8], b: [usize; 8]) -> bool {
+    all_usize(&a, &b)
+}
+
+fn same_u64_8(a: [u64; 8], b: [u64; 8]) -> bool {
+    all_u64(&a, &b)
+}
+
+fn same_bool_8(a: [bool; 8], b: [bool; 8]) -> bool {
+    all_bool(&a, &b)
+}
+
+// The tree and the byte table.
+fn same_tree(a: World, b: World) -> bool {
+    let parent = a.parent;
+    let parent_then = b.parent;
+    let depth = a.depth;
+    let depth_then = b.depth;
+    let len = a.len;
+    let len_then = b.len;
+    let run = a.run;
+    let run_then = b.run;
+    let words = a.words;
+    let words_then = b.words;
+    let bytes = a.bytes;
+    let bytes_then = b.bytes;
+    if !same_usize_256(parent, parent_then) {
+        return false;
+    }
+    if !same_usize_256(depth, depth_then) {
+        return false;
+    }
+    if !same_usize_256(len, len_then) {
+        return false;
+    }
+    if !same_usize_256(run, run_then) {
+        return false;
+    }
+    if !same_u64_4096(words, words_then) {
+        return false;
+    }
+    same_u64_1025(bytes, bytes_then)
+}
+
+// The ranges.
+fn same_ranges(a: World, b: World) -> bool {
+    let node = a.node;
+    let node_then = b.node;
+    let start = a.start;
+    let start_then = b.start;
+    let end = a.end;
+    let end_then = b.end;
+    let id = a.id;
+    let id_then = b.id;
+    let stamp = a.stamp;
+    let stamp_then = b.stamp;
+    let touched = a.touched;
+    let touched_then = b.touched;
+    let write = a.write;
+    let write_then = b.write;
+    if !same_usize_1024(node, node_then) {
+        return false;
+    }
+    if !same_usize_1024(start, start_then) {
+        return false;
+    }
+    if !same_usize_1024(end, end_then) {
+        return false;
+    }
+    if !same_u64_1024(id, id_then) {
+        return false;
+    }
+    if !same_u64_1024(stamp, stamp_then) {
+        return false;
+    }
+    if !same_f64_1024(touched, touched_then) {
+        return false;
+    }
+    same_u32_1024(write, write_then)
+}
+
+// Pins and marks.
+fn same_pins(a: World, b: World) -> bool {
+    let pin_node = a.pin_node;
+    let pin_node_then = b.pin_node;
+    let pin_start = a.pin_start;
+    let pin_start_then = b.pin_start;
+    let pin_end = a.pin_end;
+    let pin_end_then = b.pin_end;
+    let pin_count = a.pin_count;
+    let pin_count_then = b.pin_count;
+    let marks = a.marks;
+    let marks_then = b.marks;
+    if !same_usize_256(pin_node, pin_node_then) {
+        return false;
+    }
+    if !same_usize_256(pin_start, pin_start_then) {
+        return false;
+    }
+    if !same_usize_256(pin_end, pin_end_then) {
+        return false;
+    }
+    if !same_u64_256(pin_count, pin_count_then) {
+        return false;
+    }
+    same_usize_2048(marks, marks_then)
+}
+
+// The counts of the whole.
+fn same_counts(a: Small, b: Small) -> bool {
+    if a.nodes != b.nodes {
+        return false;
+    }
+    if a.used != b.used {
+        return false;
+    }
+    if a.stores != b.stores {
+        return false;
+    }
+    if a.next != b.next {
+        return false;
+    }
+    if a.stalls != b.stalls {
+        return false;
+    }
+    true
+}
+
+// The stores' small numbers.
+fn same_books(a: Small, b: Small) -> bool {
+    let capacity = a.capacity;
+    let capacity_then = b.capacity;
+    let refreshes = a.refreshes;
+    let refreshes_then = b.refreshes;
+    let records = a.records;
+    let records_then = b.records;
+    let held = a.held;
+    let held_then = b.held;
+    let stamp = a.stamp;
+    let stamp_then = b.stamp;
+    let version = a.version;
+    let version_then = b.version;
+    let entries = a.entries;
+    let entries_then = b.entries;
+    let pinned = a.pinned;
+    let pinned_then = b.pinned;
+    if !same_u64_8(capacity, capacity_then) {
+        return false;
+    }
+    if !same_bool_8(refreshes, refreshes_then) {
+        return false;
+    }
+    if !same_usize_8(records, records_then) {
+        return false;
+    }
+    if !same_u64_8(held, held_then) {
+        return false;
+    }
+    if !same_u64_8(stamp, stamp_then) {
+        return false;
+    }
+    if !same_u64_8(version, version_then) {
+        return false;
+    }
+    if !same_usize_8(entries, entries_then) {
+        return false;
+    }
+    same_u64_8(pinned, pinned_then)
+}
+
+pub fn same_world(a: World, b: World) -> bool {
+    if !same_tree(a, b) {
+        return false;
+    }
+    if !same_ranges(a, b) {
+        return false;
+    }
+    if !same_pins(a, b) {
+        return false;
+    }
+    if !same_counts(a.small, b.small) {
+        return false;
+    }
+    same_books(a.small, b.small)
+}
+
+// The path and the tier spans.
+fn same_reading(a: Lists, b: Lists) -> bool {
+    let path_node = a.path_node;
+    let path_node_then = b.path_node;
+    let path_len = a.path_len;
+    let path_len_then = b.path_len;
+    let span_tier = a.span_tier;
+    let span_tier_then = b.span_tier;
+    let span_node = a.span_node;
+    let span_node_then = b.span_node;
+    let span_start = a.span_start;
+    let span_start_then = b.span_start;
+    let span_end = a.span_end;
+    let span_end_then = b.span_end;
+    if !same_usize_255(path_node, path_node_then) {
+        return false;
+    }
+    if !same_usize_255(path_len, path_len_then) {
+        return false;
+    }
+    if !same_usize_1024(span_tier, span_tier_then) {
+        return false;
+    }
+    if !same_usize_1024(span_node, span_node_then) {
+        return false;
+    }
+    if !same_usize_1024(span_start, span_start_then) {
+        return false;
+    }
+    same_usize_1024(span_end, span_end_then)
+}
+
+// What was given out, and the writes.
+fn same_given(a: Lists, b: Lists) -> bool {
+    let out_node = a.out_node;
+    let out_node_then = b.out_node;
+    let out_start = a.out_start;
+    let out_start_then = b.out_start;
+    let out_end = a.out_end;
+    let out_end_then = b.out_end;
+    let out_write = a.out_write;
+    let out_write_then = b.out_write;
+    let out_bytes = a.out_bytes;
+    let out_bytes_then = b.out_bytes;
+    let out_dead = a.out_dead;
+    let out_dead_then = b.out_dead;
+    let writes = a.writes;
+    let writes_then = b.writes;
+    if !same_usize_128(out_node, out_node_then) {
+        return false;
+    }
+    if !same_usize_128(out_start, out_start_then) {
+        return false;
+    }
+    if !same_usize_128(out_end, out_end_then) {
+        return false;
+    }
+    if !same_u32_128(out_write, out_write_then) {
+        return false;
+    }
+    if !same_u64_128(out_bytes, out_bytes_then) {
+        return false;
+    }
+    if !same_u64_128(out_dead, out_dead_then) {
+        return false;
+    }
+    same_u32_128(writes, writes_then)
+}
+
+pub fn same_lists(a: Lists, b: Lists) -> bool {
+    if !same_reading(a, b) {
+        return false;
+    }
+    same_given(a, b)
+}
