@@ -31,7 +31,7 @@ use Rattle.history.specs.History.{Call, setUp, resolve, insert, storeInsert, st
 use Rattle.history.proofs.History.{history}
 use Rattle.room.specs.Room.{ButCapacity, Alike, blocksIn, MoreRoom}
 use Rattle.room.proofs.Room.{more-room}
-use Rattle.demands.specs.Calls.{Leaves, May, Ran, rest, call, RoomForReading}
+use Rattle.demands.specs.Calls.{Leaves, May, Ran, rest, call, RoomForReading, covered}
 
 -- ---- history (demand 2)
 
@@ -80,7 +80,7 @@ pub longest-prefix : (w : World PathList) (hs : List ℕ) (x : Left PathList Res
     → (p : Path)
     → resolvedOf (x .answer) ≡ done p
     → Chained (stateIn w .tree) hs
-    → LongestStored (stateIn w .tree) hs (p .blocks)
+    → LongestStored (stateIn w .tree) hs (covered p)
 unfolding Calls.resolveCall
 longest-prefix w hs x k p e c =
     let a = unless-done _ _ _ (resolve-kept (stateIn w) (w .lists) hs) p (sym (ap (λ z. z .answer) k) ∙ e) in

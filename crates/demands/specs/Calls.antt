@@ -7,7 +7,7 @@ use Rattle.model.specs.State.{State}
 use Rattle.model.specs.Calls as Calls
 use Rattle.model.specs.Store.{storeOf}
 use Rattle.model.specs.Refusals.{OutList}
-use Rattle.model.specs.Calls.{Outcome, Answer, done, LookupLists}
+use Rattle.model.specs.Calls.{Outcome, Answer, done, Path, LookupLists}
 use Rattle.kepttouch.proofs.Holds.{Holds}
 use Rattle.room.specs.Room.{Alike, blocksIn}
 use Rattle.answers.specs.declared.Count.{Count}
@@ -56,3 +56,7 @@ pub record RoomForReading (s : ℕ) (x y : Left OutList Count) : Type 0 where
       → Allows (lookedOf (length ts)) (Calls.lookup (stateIn (y .world)) l ts hs) v
       → Alike (lookedOf (length ts) (u .answer)) (lookedOf (length ts) (v .answer))
       × (blocksIn (lookedOf (length ts) (u .answer)) ≤ blocksIn (lookedOf (length ts) (v .answer)))
+
+-- how many blocks of the list a path covers
+abbrev pub covered : Path → ℕ
+covered p = p .blocks

@@ -65,6 +65,13 @@ underC st l s sp time write = storeInsert st l s sp time write
 abbrev pub underD : State → OutList → ℕ → Span → Float → ℕ → Outcome OutList ℕ
 underD st l s sp time write = storeInsert st l s sp time write
 
+-- "afterwards any hash list looked up through any one tier list", under C and under D
+abbrev pub readC : State → LookupLists → List ℕ → List ℕ → Outcome LookupLists LookupAnswer
+readC st l ts hs = lookup st l ts hs
+
+abbrev pub readD : State → LookupLists → List ℕ → List ℕ → Outcome LookupLists LookupAnswer
+readD st l ts hs = lookup st l ts hs
+
 -- "Both accept or both refuse alike; if accepted, every block kept under C is kept under D, and afterwards any hash list looked up through any one tier
 -- list gives at least as many blocks in all under D". `Holds` says that a range has the block
 pub record MoreRoom (a b : State) (l : OutList) (s : ℕ) (sp : Span) (time : Float) (write : ℕ) : Type 0 where
@@ -76,8 +83,8 @@ pub record MoreRoom (a b : State) (l : OutList) (s : ℕ) (sp : Span) (time : Fl
   pub readsAlike :
       (v : ℕ) → underC a l s sp time write .answer ≡ done v
       → (k : LookupLists) (ts hs : List ℕ)
-      → Alike (lookup (underC a l s sp time write .state) k ts hs .answer) (lookup (underD b l s sp time write .state) k ts hs .answer)
+      → Alike (readC (underC a l s sp time write .state) k ts hs .answer) (readD (underD b l s sp time write .state) k ts hs .answer)
   pub reads :
       (v : ℕ) → underC a l s sp time write .answer ≡ done v
       → (k : LookupLists) (ts hs : List ℕ)
-      → blocksIn (lookup (underC a l s sp time write .state) k ts hs .answer) ≤ blocksIn (lookup (underD b l s sp time write .state) k ts hs .answer)
+      → blocksIn (readC (underC a l s sp time write .state) k ts hs .answer) ≤ blocksIn (readD (underD b l s sp time write .state) k ts hs .answer)
