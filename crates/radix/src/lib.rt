@@ -27,4 +27,5 @@ pub use publicstore::store_expire;
 pub use publicstore::store_insert;
 pub use publicstore::store_remove;
 pub use publictree::resolve;
+pub use publicused::store_used;
 pub use setup::set_up;
