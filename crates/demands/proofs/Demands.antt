@@ -75,17 +75,20 @@ history-of-calls pools table capacity refreshes x k e cs st h =
 
 -- ---- the longest prefix (demand 2)
 
+pub resolved-longest : (st after : State) (l k : PathList) (hs : List ℕ) (a : Answer Path) → outcome after k a ≡ Calls.resolveCall st l hs → (p : Path)
+    → a ≡ done p → Chained (st .tree) hs → LongestStored (st .tree) hs (covered p)
+unfolding Calls.resolveCall
+resolved-longest st after l k hs a o p e c =
+    let u = unless-done _ _ _ (resolve-kept st l hs) p (sym (ap (λ z. z .answer) o) ∙ e) in
+    subst (λ (z : Path). LongestStored (st .tree) hs (z .blocks)) (u .answer) (resolve-longest st (is-sound st (u .none .0)) hs c)
+
 -- "For a list chained with the tree, resolve's answer is the longest prefix that any stored path has"
 pub longest-prefix : (w : World PathList) (hs : List ℕ) (x : Left PathList Resolved) → Allows resolvedOf (Calls.resolveCall (stateIn w) (w .lists) hs) x
     → (p : Path)
     → resolvedOf (x .answer) ≡ done p
     → Chained (stateIn w .tree) hs
     → LongestStored (stateIn w .tree) hs (covered p)
-unfolding Calls.resolveCall
-longest-prefix w hs x k p e c =
-    let a = unless-done _ _ _ (resolve-kept (stateIn w) (w .lists) hs) p (sym (ap (λ z. z .answer) k) ∙ e) in
-    subst (λ (z : Path). LongestStored (stateIn w .tree) hs (z .blocks)) (a .answer)
-    (resolve-longest (stateIn w) (is-sound (stateIn w) (a .none .0)) hs c)
+longest-prefix w hs x k p e c = resolved-longest (stateIn w) (stateIn (x .world)) (w .lists) (x .world .lists) hs (resolvedOf (x .answer)) k p e c
 
 -- ---- more room (demand 3)
 

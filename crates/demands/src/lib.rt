@@ -1,1 +1,62 @@
-// The three demands, of the public calls by their contracts. See proofs/Demands.antt.
+// The demands of the public calls by their contracts: see proofs/Demands.antt. The one that is of a single call stands as a contract here.
+use answers::Resolved;
+use lent::Small;
+ghost use mathlib.Core.Path.{_≡_};
+ghost use Rattle.model.specs.Calls.{done, Path};
+ghost use Rattle.model.specs.Chained.{Chained, LongestStored};
+ghost use Rattle.lent.specs.Lent.{treeOf};
+ghost use Rattle.answers.specs.Answers.{resolvedOf};
+ghost use Rattle.demands.specs.Calls.{covered};
+
+// What resolve answers for a list that is chained with the tree is the longest prefix that any stored path has.
+pub fn resolve_longest(
+    parent: &[usize],
+    depth: &[usize],
+    len: &[usize],
+    run: &[usize],
+    words: &[u64],
+    node: &[usize],
+    start: &[usize],
+    end: &[usize],
+    id: &[u64],
+    stamp: &[u64],
+    touched: &[f64],
+    write: &[u32],
+    pin_node: &[usize],
+    pin_start: &[usize],
+    pin_end: &[usize],
+    pin_count: &[u64],
+    marks: &[usize],
+    bytes: &[u64],
+    path_node: &mut [usize],
+    path_len: &mut [usize],
+    x: Small,
+    hashes: &[u64],
+) -> Resolved
+    ensures { λ r. ⌜ ((p : Path) → resolvedOf r ≡ done p → Chained (treeOf (now (parent .entry)) (now (depth .entry)) (now (len .entry)) (now (run .entry)) (now (words .entry)) (x .nodes) (x .used)) (now (hashes .entry)) → LongestStored (treeOf (now (parent .entry)) (now (depth .entry)) (now (len .entry)) (now (run .entry)) (now (words .entry)) (x .nodes) (x .used)) (now (hashes .entry)) (covered p)) ⌝ }
+{
+    radix::resolve(
+        parent,
+        depth,
+        len,
+        run,
+        words,
+        node,
+        start,
+        end,
+        id,
+        stamp,
+        touched,
+        write,
+        pin_node,
+        pin_start,
+        pin_end,
+        pin_count,
+        marks,
+        bytes,
+        path_node,
+        path_len,
+        x,
+        hashes,
+    )
+}
