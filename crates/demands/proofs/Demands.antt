@@ -27,7 +27,7 @@ use Rattle.answers.specs.declared.Resolved.{Resolved}
 use Rattle.answers.specs.declared.Looked.{Looked}
 use Rattle.answers.specs.Answers.{outcome, plainOf, countOf, resolvedOf, lookedOf}
 use Rattle.outcomes.specs.Settled.{World, Left, stateIn, Allows}
-use Rattle.history.specs.History.{Call, setUp, resolve, insert, storeInsert, storeUsed, storeRemove, storeExpire, pinSource, unpinSource, lookup, count, after, since, run, nothing, Exactly}
+use Rattle.history.specs.History.{Call, setUp, resolve, insert, storeInsert, storeUsed, storeRemove, storeExpire, pinSource, unpinSource, lookup, storeHeld, storeCapacity, storePinned, storeAvailable, sourceVersion, pinStalls, after, since, run, nothing, Exactly}
 use Rattle.history.proofs.History.{history}
 use Rattle.room.specs.Room.{ButCapacity, Alike, blocksIn, MoreRoom}
 use Rattle.room.proofs.Room.{more-room}
@@ -50,7 +50,12 @@ may-is (storeExpire l s now seconds) st st′ k = leaves-is k
 may-is (pinSource s sp) st st′ k = leaves-is k
 may-is (unpinSource s sp) st st′ k = leaves-is k
 may-is (lookup l ts hs) st st′ k = leaves-is k
-may-is (count s) st st′ k = leaves-is k
+may-is (storeHeld s) st st′ k = leaves-is k
+may-is (storeCapacity s) st st′ k = leaves-is k
+may-is (storePinned s) st st′ k = leaves-is k
+may-is (storeAvailable s) st st′ k = leaves-is k
+may-is (sourceVersion s) st st′ k = leaves-is k
+may-is pinStalls st st′ k = leaves-is k
 
 ran-is : {st st′ : State} {cs : List Call} → Ran st cs st′ → run st cs ≡ st′
 unfolding run

@@ -14,7 +14,7 @@ use Rattle.answers.specs.declared.Count.{Count}
 use Rattle.answers.specs.declared.Looked.{Looked}
 use Rattle.answers.specs.Answers.{plainOf, countOf, resolvedOf, insertedOf, lookedOf}
 use Rattle.outcomes.specs.Settled.{Left, stateIn, Allows}
-use Rattle.history.specs.History.{Call, setUp, resolve, insert, storeInsert, storeUsed, storeRemove, storeExpire, pinSource, unpinSource, lookup, count}
+use Rattle.history.specs.History.{Call, setUp, resolve, insert, storeInsert, storeUsed, storeRemove, storeExpire, pinSource, unpinSource, lookup, storeHeld, storeCapacity, storePinned, storeAvailable, sourceVersion, pinStalls}
 
 -- a call whose outcome by the definitions is o may leave the state st
 pub record Leaves {L A B : Type 0} (f : B → Answer A) (o : Outcome L A) (st : State) : Type 0 where
@@ -34,7 +34,12 @@ May (storeExpire l s now seconds) st = Leaves countOf (Calls.storeExpire st l s 
 May (pinSource s sp) st = Leaves plainOf (Calls.pinSource st s sp)
 May (unpinSource s sp) st = Leaves plainOf (Calls.unpinSource st s sp)
 May (lookup l ts hs) st = Leaves (lookedOf (length ts)) (Calls.lookup st l ts hs)
-May (count s) st = Leaves countOf (Calls.heldCall st s)
+May (storeHeld s) st = Leaves countOf (Calls.heldCall st s)
+May (storeCapacity s) st = Leaves countOf (Calls.capacityCall st s)
+May (storePinned s) st = Leaves countOf (Calls.pinnedCall st s)
+May (storeAvailable s) st = Leaves countOf (Calls.availableCall st s)
+May (sourceVersion s) st = Leaves countOf (Calls.versionCall st s)
+May pinStalls st = Leaves countOf (Calls.stallsCall st)
 
 -- any calls, from one state to another
 pub data Ran : State → List Call → State → Type 0 where

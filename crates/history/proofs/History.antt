@@ -22,8 +22,8 @@ use Rattle.keptcalls.proofs.Calls as Kept
 use Rattle.laid.proofs.SetUp as Set
 use Rattle.kepttouch.proofs.Holds.{Holds}
 use Rattle.history.specs.Names.{Named, Stored}
-use Rattle.history.specs.History.{Call, setUp, resolve, insert, storeInsert, storeUsed, storeRemove, storeExpire, pinSource, unpinSource, lookup, count, after, IfDone, BroughtIn, Gone, History, next, since, run, nothing, Exactly}
-use Rattle.history.proofs.Exact.{Exact}
+use Rattle.history.specs.History.{Call, setUp, resolve, insert, storeInsert, storeUsed, storeRemove, storeExpire, pinSource, unpinSource, lookup, storeHeld, storeCapacity, storePinned, storeAvailable, sourceVersion, pinStalls, after, IfDone, BroughtIn, Gone, History, next, since, run, nothing, Exactly}
+use Rattle.history.proofs.Exact.{real-held, same-block, Exact}
 use Rattle.history.proofs.Steps.{still, unless-at, none-where, storeInsert-exact, storeRemove-exact, storeExpire-exact, storeUsed-exact, pin-exact, unpin-exact}
 use Rattle.history.proofs.Insert.{insert-exact}
 
@@ -123,7 +123,12 @@ call-sound (storeExpire l k now seconds) a s = Kept.storeExpire-sound a l k now 
 call-sound (pinSource k sp) a s = Kept.pin-sound a k sp s
 call-sound (unpinSource k sp) a s = Kept.unpin-sound a k sp s
 call-sound (lookup l ts hs) a s = Kept.lookup-sound a l ts hs s
-call-sound (count k) a s = Kept.held-sound a k s
+call-sound (storeHeld k) a s = Kept.held-sound a k s
+call-sound (storeCapacity k) a s = Kept.capacity-sound a k s
+call-sound (storePinned k) a s = Kept.pinned-sound a k s
+call-sound (storeAvailable k) a s = Kept.available-sound a k s
+call-sound (sourceVersion k) a s = Kept.version-sound a k s
+call-sound pinStalls a s = Kept.stalls-sound a s
 
 call-exact : (c : Call) (a : State) (h : History) → Sound a → Exact a h → Exact (after c a) (next c a h)
 unfolding after BroughtIn Gone
@@ -138,7 +143,12 @@ call-exact (pinSource k sp) a h s e = pin-exact a k sp h e
 call-exact (unpinSource k sp) a h s e = unpin-exact a k sp h e
 call-exact (lookup l ts hs) a h s e =
     still (lookup l ts hs) a (Calls.lookup a l ts hs .state) h (Kept.lookup-same a l ts hs) (λ q n o x. x) (λ q n o x. x) e
-call-exact (count k) a h s e = still (count k) a (Calls.heldCall a k .state) h (Kept.held-same a k) (λ q n o x. x) (λ q n o x. x) e
+call-exact (storeHeld k) a h s e = still (storeHeld k) a (Calls.heldCall a k .state) h (Kept.held-same a k) (λ q n o x. x) (λ q n o x. x) e
+call-exact (storeCapacity k) a h s e = still (storeCapacity k) a (Calls.capacityCall a k .state) h (Kept.capacity-same a k) (λ q n o x. x) (λ q n o x. x) e
+call-exact (storePinned k) a h s e = still (storePinned k) a (Calls.pinnedCall a k .state) h (Kept.pinned-same a k) (λ q n o x. x) (λ q n o x. x) e
+call-exact (storeAvailable k) a h s e = still (storeAvailable k) a (Calls.availableCall a k .state) h (Kept.available-same a k) (λ q n o x. x) (λ q n o x. x) e
+call-exact (sourceVersion k) a h s e = still (sourceVersion k) a (Calls.versionCall a k .state) h (Kept.version-same a k) (λ q n o x. x) (λ q n o x. x) e
+call-exact pinStalls a h s e = still pinStalls a (Calls.stallsCall a .state) h (Kept.stalls-same a) (λ q n o x. x) (λ q n o x. x) e
 
 -- ---- any calls
 
@@ -176,6 +186,10 @@ history pools table capacity refreshes e cs q l =
     record {
       sorted = own .ranges .sorted;
       held = held-is (run st cs) q ∙ own .held;
+      named =
+          λ n o m p a b.
+          same-block (run st cs) (run-sound st cs s) n o m p (real-held (run st cs) q (run-sound st cs s) l n o a)
+          (real-held (run st cs) q (run-sound st cs s) l m p b);
       only = λ w. x .only q w l;
       all = λ w y. x .all q w y .1;
     }

@@ -37,7 +37,7 @@ use Rattle.keptcalls.proofs.Calls.{storeInsert-sound, storeUsed-sound, storeRem
 use Rattle.room.proofs.After.{Taken, own, others, tree-stays, stores-stay}
 use Rattle.room.proofs.Room.{taken}
 use Rattle.history.specs.Names.{nameOf, Named, Stored}
-use Rattle.history.specs.History.{Call, setUp, resolve, insert, storeInsert, storeUsed, storeRemove, storeExpire, pinSource, unpinSource, lookup, count, after, IfDone, Listed, BroughtIn, Gone, History, next}
+use Rattle.history.specs.History.{Call, setUp, resolve, insert, storeInsert, storeUsed, storeRemove, storeExpire, pinSource, unpinSource, lookup, after, IfDone, Listed, BroughtIn, Gone, History, next}
 use Rattle.history.proofs.Blocks.{InOuts, Split}
 use Rattle.history.proofs.Exact.{Real, real-held, real-span, Exact, Changes, changes-exact, Moves, moves-exact}
 use Rattle.history.proofs.Stores.{Filled, bring-filled, expire-filled, listed-out, out-listed}

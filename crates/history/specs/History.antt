@@ -13,9 +13,9 @@ use Rattle.model.specs.Calls as Calls
 use Rattle.model.specs.Calls.{Answer, refused, done, LookupLists}
 use Rattle.kept.specs.Facts.{Sorted}
 use Rattle.kepttouch.proofs.Holds.{Holds, InSpan}
-use Rattle.history.specs.Names.{Named, Stored}
+use Rattle.history.specs.Names.{nameOf, Named, Stored}
 
--- a public call with its arguments, answer lists among them; `count` is any counter
+-- a public call with its arguments, answer lists among them
 pub data Call : Type 0 where
   setUp : List ℕ → List ℕ → List Bool → Call
   resolve : PathList → List ℕ → Call
@@ -27,7 +27,12 @@ pub data Call : Type 0 where
   pinSource : ℕ → Span → Call
   unpinSource : ℕ → Span → Call
   lookup : LookupLists → List ℕ → List ℕ → Call
-  count : ℕ → Call
+  storeHeld : ℕ → Call
+  storeCapacity : ℕ → Call
+  storePinned : ℕ → Call
+  storeAvailable : ℕ → Call
+  sourceVersion : ℕ → Call
+  pinStalls : Call
 
 -- the state that a call leaves
 unfoldable pub after : Call → State → State
@@ -41,7 +46,12 @@ after (storeExpire l s now seconds) st = Calls.storeExpire st l s now seconds .s
 after (pinSource s sp) st = Calls.pinSource st s sp .state
 after (unpinSource s sp) st = Calls.unpinSource st s sp .state
 after (lookup l ts hs) st = Calls.lookup st l ts hs .state
-after (count s) st = Calls.heldCall st s .state
+after (storeHeld s) st = Calls.heldCall st s .state
+after (storeCapacity s) st = Calls.capacityCall st s .state
+after (storePinned s) st = Calls.pinnedCall st s .state
+after (storeAvailable s) st = Calls.availableCall st s .state
+after (sourceVersion s) st = Calls.versionCall st s .state
+after pinStalls st = Calls.stallsCall st .state
 
 -- what is said of an accepted call's answer; a refused one says nothing
 abbrev pub IfDone : {A : Type 0} → Answer A → (A → Type 0) → Type 0
@@ -68,7 +78,12 @@ BroughtIn (storeExpire l s now seconds) st q n o = ⊥
 BroughtIn (pinSource s sp) st q n o = ⊥
 BroughtIn (unpinSource s sp) st q n o = ⊥
 BroughtIn (lookup l ts hs) st q n o = ⊥
-BroughtIn (count s) st q n o = ⊥
+BroughtIn (storeHeld s) st q n o = ⊥
+BroughtIn (storeCapacity s) st q n o = ⊥
+BroughtIn (storePinned s) st q n o = ⊥
+BroughtIn (storeAvailable s) st q n o = ⊥
+BroughtIn (sourceVersion s) st q n o = ⊥
+BroughtIn pinStalls st q n o = ⊥
 
 -- "given out": the spans that an accepted bring-in or expiry answers with; "removed": the span of an accepted removal. Set-up begins anew
 unfoldable pub Gone : Call → State → ℕ → ℕ → ℕ → Type 0
@@ -86,7 +101,12 @@ Gone (storeExpire l s now seconds) st q n o =
 Gone (pinSource s sp) st q n o = ⊥
 Gone (unpinSource s sp) st q n o = ⊥
 Gone (lookup l ts hs) st q n o = ⊥
-Gone (count s) st q n o = ⊥
+Gone (storeHeld s) st q n o = ⊥
+Gone (storeCapacity s) st q n o = ⊥
+Gone (storePinned s) st q n o = ⊥
+Gone (storeAvailable s) st q n o = ⊥
+Gone (sourceVersion s) st q n o = ⊥
+Gone pinStalls st q n o = ⊥
 
 -- for each store the names of "the blocks brought in and not since given out or removed"
 abbrev pub History : Type 1
@@ -113,9 +133,13 @@ nothing q w = ⊥
 abbrev pub number : List Range → ℕ
 number rs = total rs
 
--- store q as demand 2 has it: "each store's ranges are sorted and disjoint and hold exactly the blocks .. ; held is their number"
+-- store q as demand 2 has it: "each store's ranges are sorted and disjoint and hold exactly the blocks .. ; held is their number"; two blocks that it holds
+-- have two names, so that the named blocks are as many
 pub record Exactly (st : State) (h : History) (q : ℕ) : Type 0 where
   pub sorted : Sorted (storeOf st q .ranges)
   pub held : at (st .books .held) q ≡ number (storeOf st q .ranges)
+  pub named :
+      (n o m p : ℕ) → Holds (storeOf st q .ranges) n o → Holds (storeOf st q .ranges) m p → nameOf (st .tree) n o ≡ nameOf (st .tree) m p
+      → (n ≡ m) × (o ≡ p)
   pub only : (w : List ℕ) → Stored st q w → h q w
   pub all : (w : List ℕ) → h q w → Stored st q w
