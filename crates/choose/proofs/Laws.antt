@@ -1,6 +1,6 @@
 -- The pins are looked at from the first on: what is to come says what all say. The records are looked at from the last on: the best so far is the first
 -- of those from there.
-use mathlib.Core.Path.{_≡_, refl, sym, ap, _∙_}
+use mathlib.Core.Path.{_≡_, refl, sym, ap, subst, _∙_}
 use mathlib.Core.Bool.{Bool, true, false, not, _||_}
 use mathlib.Core.List.{List}
 use mathlib.Core.Option.{none, some}
@@ -118,6 +118,14 @@ module _ (may : Range → Bool) (c : Ranges) (n : ℕ) where
           let d : 0 ≡ next - j = omega arith in
           found (omega arith) (omega arith)
           (first-step i j e h ∙ rw (f, z) (better-now (rangeAt c j) (rangeAt c best) (ranges c i (n - i)) (best - i) (behind i best m l) s ∙ ap some d))
+
+  -- the record behind is the better one, whether the record at j may go or not
+  pub best-stay : (i j best next : ℕ) → i ≡ suc j → i ≤ n → next ≡ betterOf (c .id) (c .stamp) n j best → next ≡ best → Best i best → Best j best
+  best-stay i j best next e h q k b = go (may (rangeAt c j)) refl
+    where
+      go : (m : Bool) → may (rangeAt c j) ≡ m → Best j best
+      go true f = subst (λ (x : ℕ). Best j x) k (best-take i j best next e h f q b)
+      go false f = best-skip i j best e h f b
 
   pub best-end : (i best : ℕ) → i ≤ 0 → Best i best → within n best ≡ first may (ranges c 0 n)
   best-end i best h (nothing l z) =

@@ -88,7 +88,7 @@ fn as_place(n: usize, best: usize) -> Place
     Place::Nothing
 }
 
-// The first range by stamp, then id, that no pin overlaps.
+// The first range by stamp, then id, that no pin overlaps. Only a record that would be the best so far is asked for its pins.
 pub fn first_free(
     node: &[usize],
     start: &[usize],
@@ -109,8 +109,11 @@ pub fn first_free(
     let mut i = n;
     while 0 < i {
         i -= 1;
-        if !is_pinned(node[i], start[i], end[i], pin_node, pin_start, pin_end, m) {
-            best = better(id, stamp, n, i, best);
+        let next = better(id, stamp, n, i, best);
+        if next != best {
+            if !is_pinned(node[i], start[i], end[i], pin_node, pin_start, pin_end, m) {
+                best = next;
+            }
         }
     }
     as_place(n, best)

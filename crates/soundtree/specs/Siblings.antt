@@ -1,5 +1,5 @@
 -- Siblings differ in their first hash. Assumes nothing.
-use Prim.Native.Nat.{ℕ, _≤_, _%_}
+use Prim.Native.Nat.{ℕ, _+_, _*_, _/_, _%_, _≤_}
 use mathlib.Core.Path.{_≡_}
 use mathlib.Core.List.{List}
 use Rattle.model.specs.State.{at}
@@ -24,5 +24,9 @@ Unlike parent run words n = Apart NotRoot (Twins parent run words) n
 unfoldable pub Alone : List ℕ → List ℕ → List ℕ → ℕ → ℕ → Type 0
 Alone parent run words m i = New NotRoot (Twins parent run words) m i
 
-abbrev pub hashBucket : List ℕ → List ℕ → ℕ → ℕ
-hashBucket run words k = firstAt run words k % 256
+-- a bucket below 256 that twins share; any other function of hash and parent would do
+unfoldable pub bucketOf : ℕ → ℕ → ℕ
+bucketOf h p = ((h / 4294967296 * 1906780815 + h % 4294967296 * 1425409027) / 16777216 % 256 + p % 256) % 256
+
+abbrev pub hashBucket : List ℕ → List ℕ → List ℕ → ℕ → ℕ
+hashBucket parent run words k = bucketOf (firstAt run words k) (at parent k)

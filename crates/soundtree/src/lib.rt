@@ -8,7 +8,7 @@ ghost use Rattle.lent.specs.Lent.{treeOf};
 ghost use Rattle.soundtree.specs.Nodes.{Table, NodeFits};
 ghost use Rattle.soundtree.specs.Runs.{OneOwner, Filled, Free};
 ghost use Rattle.soundtree.specs.Chain.{Chain};
-ghost use Rattle.soundtree.specs.Siblings.{NotRoot, Twins, Unlike, Alone, hashBucket};
+ghost use Rattle.soundtree.specs.Siblings.{NotRoot, Twins, Unlike, Alone, bucketOf, hashBucket};
 ghost use Rattle.soundtree.specs.Tree.{TreeSized, TreeSound};
 
 const MOST_BYTES: u64 = 281474976710656;
@@ -179,6 +179,14 @@ fn runs_apart(run: &[usize], len: &[usize], nodes: usize) -> bool
     true
 }
 
+// A bucket for a first hash under a parent. Each half of the hash has a factor, so that hashes spread over the buckets whichever of their bits differ.
+fn bucket(h: u64, p: usize) -> usize
+    ensures { λ r. ⌜ r ≡ bucketOf h p ⌝ }
+{
+    let spread = h / 4294967296 * 1906780815 + h % 4294967296 * 1425409027;
+    ((spread / 16777216 % 256) as usize + p % 256) % 256
+}
+
 fn twins(parent: &[usize], run: &[usize], words: &[u64], j: usize, k: usize) -> bool
     requires { ⌜ (j < length (now parent)) × (k < length (now parent)) × (j < length (now run)) × (k < length (now run)) × (at (now run) j < length (now words)) × (at (now run) k < length (now words)) ⌝ }
     ensures { λ r. ⌜ Says r (Twins (now (parent .entry)) (now (run .entry)) (now (words .entry)) j k) ⌝ }
@@ -203,7 +211,7 @@ fn alone(
     from: usize,
     i: usize,
 ) -> bool
-    requires { ⌜ (from ≤ i) × (i < length (now parent)) × (i < length (now run)) × (i < length (now prev)) × ((k : ℕ) → k ≤ i → NotRoot k → at (now run) k < length (now words)) × NotRoot i × Chain (hashBucket (now run) (now words)) NotRoot (now prev) from × ((j : ℕ) → from ≡ j + 1 → NotRoot j × (hashBucket (now run) (now words) j ≡ hashBucket (now run) (now words) i)) ⌝ }
+    requires { ⌜ (from ≤ i) × (i < length (now parent)) × (i < length (now run)) × (i < length (now prev)) × ((k : ℕ) → k ≤ i → NotRoot k → at (now run) k < length (now words)) × NotRoot i × Chain (hashBucket (now parent) (now run) (now words)) NotRoot (now prev) from × ((j : ℕ) → from ≡ j + 1 → NotRoot j × (hashBucket (now parent) (now run) (now words) j ≡ hashBucket (now parent) (now run) (now words) i)) ⌝ }
     ensures { λ r. ⌜ Says r (Alone (now (parent .entry)) (now (run .entry)) (now (words .entry)) from i) ⌝ }
 {
     let mut link = from;
@@ -226,7 +234,7 @@ fn siblings_differ(parent: &[usize], run: &[usize], words: &[u64], nodes: usize)
     let mut i = 1;
     while i < nodes {
         let f = run[i];
-        let b = (words[f] % 256) as usize;
+        let b = bucket(words[f], parent[i]);
         let from = last[b];
         if !alone(parent, run, words, &prev, from, i) {
             return false;

@@ -1,18 +1,20 @@
--- Laws over variables that the proofs cite: the byte table rises; a scan for a child, and a halving, have left to do what the definition has.
+-- Laws over variables that the proofs cite: the byte table rises; a scan for a child, which passes the children of others, and a halving
+-- have left to do what the definition has.
 use Prim.Native.Nat.{ℕ, zero, suc, _+_, _-_, _/_, _≤_, _<_, min}
 use mathlib.Core.Bool.{Bool, true, false}
 use mathlib.Core.List.{List}
 use mathlib.Core.Logic.{⊎-elim}
 use mathlib.Core.Option.{Option, none, some}
-use mathlib.Core.Path.{_≡_, refl, sym, ap, _∙_}
+use mathlib.Core.Path.{_≡_, refl, sym, ap, subst, _∙_}
 use native.Mathlib.Numerals.{add-one}
 use native.Mathlib.Omega.{arith}
 use native.Mathlib.Nat.{eq-or-lt-of-le}
 use lib.ListN.{length}
-use borrow.Author.Tests.{lt-ltb, le-ltb}
+use borrow.Author.Tests.{lt-ltb, le-ltb, ne-eqb}
 use Rattle.model.specs.State.{Tree, at}
 use Rattle.model.specs.Sound.{Rising}
 use Rattle.model.specs.Tree.{isChild, childFrom, child, halve, matching, agrees, matched}
+use Rattle.tree.specs.Walk.{Others}
 
 -- ---- bytes
 
@@ -51,6 +53,45 @@ scan-more s l e = rw add-one (record { past = omega arith; same = scan-turn fals
 pub scan-end : {t : Tree} {p h k : ℕ} → Scanning t p h k → t .nodes ≤ k → none ≡ child t p h
 unfolding childFrom
 scan-end {t} {p} {h} {k} s l = let done : t .nodes - k ≡ 0 = omega arith in sym (ap (childFrom t p h k) done) ∙ s .same
+
+-- ---- nodes that are no children of p
+
+pub others-none : (ps : List ℕ) (p a : ℕ) → Others ps p a a
+others-none ps p a = record { differ = λ k h l. absurd (omega arith) }
+
+others-more : {ps : List ℕ} {p a k m : ℕ} → Others ps p a k → (at ps k ≡ p → ⊥) → m ≡ k + 1 → Others ps p a m
+others-more {k = k} all here e =
+    record {
+      differ = λ j h l. ⊎-elim (λ (f : j ≡ k). rw f here) (λ (g : j < k). all .differ j h g) (let g : j ≤ k = omega arith in eq-or-lt-of-le g);
+    }
+
+module _ {ps : List ℕ} {p a k : ℕ} (all : Others ps p a k) (f : at ps k ≡ p → ⊥) where
+  pub others-one : Others ps p a (k + 1)
+  others-one = others-more all f refl
+
+  pub others-two : (at ps (k + 1) ≡ p → ⊥) → Others ps p a (k + 2)
+  others-two g = others-more others-one g (omega arith)
+
+  pub others-three : (at ps (k + 1) ≡ p → ⊥) → (at ps (k + 2) ≡ p → ⊥) → Others ps p a (k + 3)
+  others-three g h = others-more (others-two g) h (omega arith)
+
+  pub others-four : (at ps (k + 1) ≡ p → ⊥) → (at ps (k + 2) ≡ p → ⊥) → (at ps (k + 3) ≡ p → ⊥) → Others ps p a (k + 4)
+  others-four g h i = others-more (others-three g h) i (omega arith)
+
+others-less : {ps : List ℕ} {p a b m : ℕ} → Others ps p a b → m ≤ b → Others ps p a m
+others-less all l = record { differ = λ k c d. all .differ k c (omega arith) }
+
+pass-by : {t : Tree} {p h k : ℕ} (n : ℕ) → Scanning t p h k → Others (t .parent) p k (k + n) → k + n ≤ t .nodes → Scanning t p h (k + n)
+pass-by {t} {p} {h} {k} zero s o l = let e : k ≡ k + 0 = omega arith in subst (λ (m : ℕ). Scanning t p h m) e s
+pass-by {t} {p} {h} {k} (suc n) s o l =
+    let e : k + n + 1 ≡ k + suc n = omega arith in
+    subst (λ (m : ℕ). Scanning t p h m) e
+    (scan-more (pass-by n s (others-less o (omega arith)) (omega arith)) (omega arith) (simp (ne-eqb _ _ (o .differ (k + n) (omega arith) (omega arith)))))
+
+pub scan-past : {t : Tree} {p h k j : ℕ} → Scanning t p h k → Others (t .parent) p k j → k ≤ j → j ≤ t .nodes → Scanning t p h j
+scan-past {t} {p} {h} {k} {j} s o a b =
+    let e : k + (j - k) ≡ j = omega arith in
+    subst (λ (m : ℕ). Scanning t p h m) e (pass-by (j - k) s (others-less o (omega arith)) (omega arith))
 
 -- ---- the halving
 

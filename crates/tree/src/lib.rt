@@ -8,7 +8,7 @@ ghost use Rattle.model.specs.Refusals.{PathFits};
 ghost use Rattle.model.specs.Trim.{bytesOf, deadFrom};
 ghost use Rattle.lent.specs.Lent.{treeOf};
 ghost use Rattle.tree.specs.Span.{Priced, onlyDepth};
-ghost use Rattle.tree.specs.Walk.{Scanned, Stored, Walkable, foundOf, pathListOf, Resolved};
+ghost use Rattle.tree.specs.Walk.{Scanned, Others, Stored, Walkable, foundOf, pathListOf, Resolved};
 use model::Span;
 
 pub fn span_bytes(depth: &[usize], bytes: &[u64], sp: Span) -> u64
@@ -69,6 +69,30 @@ fn is_child(parent: &[usize], run: &[usize], words: &[u64], p: usize, h: u64, k:
     words[first] == h
 }
 
+// Passes nodes whose parent is another than p, four at each turn, up to one of p's or to where fewer than four are left.
+fn pass_others(parent: &[usize], from: usize, nodes: usize, p: usize) -> usize
+    requires { ⌜ (from ≤ nodes) × (nodes ≤ length (now parent)) ⌝ }
+    ensures { λ r. ⌜ (from ≤ r) × (r ≤ nodes) × Others (now (parent .entry)) p from r ⌝ }
+{
+    let mut k = from;
+    while k + 4 <= nodes {
+        if parent[k] == p {
+            return k;
+        }
+        if parent[k + 1] == p {
+            return k + 1;
+        }
+        if parent[k + 2] == p {
+            return k + 2;
+        }
+        if parent[k + 3] == p {
+            return k + 3;
+        }
+        k += 4;
+    }
+    k
+}
+
 pub fn child(
     parent: &[usize],
     run: &[usize],
@@ -82,6 +106,10 @@ pub fn child(
 {
     let mut k = 1;
     while k < nodes {
+        if parent[k] != p {
+            k = pass_others(parent, k + 1, nodes, p);
+            continue;
+        }
         if is_child(parent, run, words, p, h, k) {
             return Found::At(k);
         }

@@ -8,7 +8,7 @@ use native.Mathlib.Omega.{arith}
 use Rattle.lent.specs.Lent.{rangesOf, pinsOf}
 use Rattle.model.specs.Store.{pins}
 use Rattle.model.specs.Trim.{isPinned}
-use Rattle.choose.proofs.Laws.{Best, best-start, best-skip, best-take, best-end}
+use Rattle.choose.proofs.Laws.{Best, best-start, best-skip, best-take, best-stay, best-end}
 use borrow.Author.Needs.{needs}
 use Rattle.choose.proofs.first_free.Statement.{statement}
 use Rattle.choose.proofs.first_free.Tie as tie
@@ -27,6 +27,9 @@ loop-holds c = (omega arith, λ count write touched. best-start _ _ _)
 
 sub-i : tie.Need-sub-i Inv-loop μ-loop
 sub-i c = search needs
+
+better-requires : tie.Need-better-requires Inv-loop μ-loop
+better-requires c κs = search needs
 
 mul-is-pinned : tie.Need-mul-is-pinned Inv-loop μ-loop
 mul-is-pinned c = search needs
@@ -49,17 +52,14 @@ shared-slice-read-is-pinned-3 c = search needs
 is-pinned-requires : tie.Need-is-pinned-requires Inv-loop μ-loop
 is-pinned-requires c κs = search needs
 
-better-requires : tie.Need-better-requires Inv-loop μ-loop
-better-requires c κs = search needs
-
 loop-less : tie.Need-loop-less Inv-loop μ-loop
 loop-less c = search needs
 
 loop-again : tie.Need-loop-again Inv-loop μ-loop
 loop-again c = (
-  omega (arith, c .before .before .before .before .before .before .before .loop .inv .0),
+  omega (arith, c .before .before .before .before .before .before .before .before .loop .inv .0),
   λ count write touched.
-      best-take _ _ _ _ _ _ _ (omega arith) (c .before .before .before .before .before .before .before .loop .inv .0) (ap not (sym (c .before .before .is-pinned .ensures count _ refl refl refl)) ∙ c .before .if1 .taken) (c .better .ensures) (c .before .before .before .before .before .before .before .loop .inv .1 count write touched),
+      best-take _ _ _ _ _ _ _ (omega arith) (c .before .before .before .before .before .before .before .before .loop .inv .0) (ap not (sym (c .before .is-pinned .ensures count _ refl refl refl)) ∙ c .if2 .taken) (c .before .before .before .before .before .before .better .ensures) (c .before .before .before .before .before .before .before .before .loop .inv .1 count write touched),
 )
 
 loop-less-2 : tie.Need-loop-less-2 Inv-loop μ-loop
@@ -67,9 +67,18 @@ loop-less-2 c = search needs
 
 loop-again-2 : tie.Need-loop-again-2 Inv-loop μ-loop
 loop-again-2 c = (
-  omega (arith, c .before .before .before .before .before .before .loop .inv .0),
+  omega (arith, c .before .before .before .before .before .before .before .before .loop .inv .0),
   λ count write touched.
-      best-skip _ _ _ _ _ _ (omega arith) (c .before .before .before .before .before .before .loop .inv .0) (ap not (sym (c .before .is-pinned .ensures count _ refl refl refl)) ∙ c .if1 .left) (c .before .before .before .before .before .before .loop .inv .1 count write touched),
+      best-skip _ _ _ _ _ _ (omega arith) (c .before .before .before .before .before .before .before .before .loop .inv .0) (ap not (sym (c .before .is-pinned .ensures count _ refl refl refl)) ∙ c .if2 .left) (c .before .before .before .before .before .before .before .before .loop .inv .1 count write touched),
+)
+
+loop-less-3 : tie.Need-loop-less-3 Inv-loop μ-loop
+loop-less-3 c = search needs
+
+loop-again-3 : tie.Need-loop-again-3 Inv-loop μ-loop
+loop-again-3 c = (
+  omega (arith, c .before .before .before .loop .inv .0),
+  λ count write touched. best-stay _ _ _ _ _ _ _ (omega arith) (c .before .before .before .loop .inv .0) (c .before .better .ensures) (c .if1 .left) (c .before .before .before .loop .inv .1 count write touched),
 )
 
 as-place-requires : tie.Need-as-place-requires Inv-loop μ-loop
@@ -86,6 +95,7 @@ first-free-spec =
     μ-loop
     loop-holds
     sub-i
+    better-requires
     mul-is-pinned
     shared-slice-read-is-pinned
     mul-is-pinned-2
@@ -93,10 +103,11 @@ first-free-spec =
     mul-is-pinned-3
     shared-slice-read-is-pinned-3
     is-pinned-requires
-    better-requires
     loop-less
     loop-again
     loop-less-2
     loop-again-2
+    loop-less-3
+    loop-again-3
     as-place-requires
     returns)

@@ -9,7 +9,7 @@ use Rattle.soundtree.proofs.alone.Statement.{statement}
 use Rattle.soundtree.proofs.alone.Tie as tie
 
 abbrev Inv-loop : tie.InvT-loop
-Inv-loop parent run words prev from i link₀ link = Walk (hashBucket run words) NotRoot (λ (k : ℕ). Twins parent run words k i) (hashBucket run words i) from link
+Inv-loop parent run words prev from i link₀ link = Walk (hashBucket parent run words) NotRoot (λ (k : ℕ). Twins parent run words k i) (hashBucket parent run words i) from link
 
 abbrev μ-loop : tie.MeasureT-loop
 μ-loop parent run words prev from i link₀ link = link
@@ -37,7 +37,7 @@ loop-less : tie.Need-loop-less Inv-loop μ-loop
 loop-less c = let w = c .before .before .before .before .loop in omega (arith, c .before .before .before .before .before .before .before .before .before .pre .6 .down (w .link - 1) (omega (arith, w .inv .hi)) (w .inv .here (w .link - 1) (omega arith) .0))
 
 loop-again : tie.Need-loop-again Inv-loop μ-loop
-loop-again c = walk-step (c .before .before .before .before .before .before .before .before .before .pre .6) (c .before .before .before .before .loop .inv) (λ k h. rw (h .oneHash)) (c .before .before .before .loop-test .taken) (says-false (c .before .if1 .left) (c .before .before .twins .ensures))
+loop-again c = walk-step (c .before .before .before .before .before .before .before .before .before .pre .6) (c .before .before .before .before .loop .inv) (λ k h. rw (h .oneParent, h .oneHash)) (c .before .before .before .loop-test .taken) (says-false (c .before .if1 .left) (c .before .before .twins .ensures))
 
 returns-2 : tie.Need-returns-2 Inv-loop μ-loop
 unfolding Alone

@@ -1,7 +1,7 @@
 -- `soundtree::siblings_differ` meets its contract: the nodes so far stand in chains by bucket, and no two of them are twins. Assumes nothing.
-use Prim.Native.Nat.{_-_, _≤_}
-use mathlib.Core.Path.{sym}
-use Rattle.soundtree.specs.Siblings.{Twins, Alone, Unlike, NotRoot, hashBucket}
+use Prim.Native.Nat.{ℕ, _-_, _≤_, _<_}
+use mathlib.Core.Path.{sym, _∙_}
+use Rattle.soundtree.specs.Siblings.{Twins, Alone, Unlike, NotRoot, bucketOf, hashBucket}
 use Rattle.sure.proofs.Says.{says-yes, says-no}
 use Rattle.soundtree.proofs.Chain.{chain-less}
 use Rattle.soundtree.proofs.Apart.{Met, met-none, met-skip, met-add, met-miss, met-all}
@@ -10,8 +10,12 @@ use native.Mathlib.Omega.{arith}
 use Rattle.soundtree.proofs.siblings_differ.Statement.{statement}
 use Rattle.soundtree.proofs.siblings_differ.Tie as tie
 
+bucket-below : (h p : ℕ) → bucketOf h p < 256
+unfolding bucketOf
+bucket-below h p = omega arith
+
 abbrev Inv-loop : tie.InvT-loop
-Inv-loop parent run words nodes last₀ prev₀ i₀ last prev i = (1 ≤ i) × Met 256 (hashBucket run words) NotRoot (Twins parent run words) last prev i
+Inv-loop parent run words nodes last₀ prev₀ i₀ last prev i = (1 ≤ i) × Met 256 (hashBucket parent run words) NotRoot (Twins parent run words) last prev i
 
 abbrev μ-loop : tie.MeasureT-loop
 μ-loop parent run words nodes last₀ prev₀ i₀ last prev i = nodes - i
@@ -25,27 +29,40 @@ mul-f c = search needs
 shared-slice-read-f : tie.Need-shared-slice-read-f Inv-loop μ-loop
 shared-slice-read-f c = search needs
 
-mul-b : tie.Need-mul-b Inv-loop μ-loop
-mul-b c = let h = c .before .before .before .before .before .before .pre .3 (c .before .before .loop .i) (c .before .loop-test .taken) (c .before .before .loop .inv .0) in search needs
+mul-bucket : tie.Need-mul-bucket Inv-loop μ-loop
+mul-bucket c = let h = c .before .before .before .before .before .before .pre .3 (c .before .before .loop .i) (c .before .loop-test .taken) (c .before .before .loop .inv .0) in search needs
 
-shared-slice-read-b : tie.Need-shared-slice-read-b Inv-loop μ-loop
-shared-slice-read-b c = c .before .before .before .before .before .before .before .pre .3 (c .before .before .before .loop .i) (c .before .before .loop-test .taken) (c .before .before .before .loop .inv .0)
+shared-slice-read-bucket : tie.Need-shared-slice-read-bucket Inv-loop μ-loop
+shared-slice-read-bucket c = c .before .before .before .before .before .before .before .pre .3 (c .before .before .before .loop .i) (c .before .before .loop-test .taken) (c .before .before .before .loop .inv .0)
+
+mul-bucket-2 : tie.Need-mul-bucket-2 Inv-loop μ-loop
+mul-bucket-2 c = search needs
+
+shared-slice-read-bucket-2 : tie.Need-shared-slice-read-bucket-2 Inv-loop μ-loop
+shared-slice-read-bucket-2 c = search needs
+
+bucket-requires : tie.Need-bucket-requires Inv-loop μ-loop
+bucket-requires c κs = search needs
+
+-- the bucket is one of the 256
+below : (c : tie.After-bucket Inv-loop μ-loop) → c .bucket .result < 256
+below c = rw (c .bucket .ensures) (bucket-below _ _)
 
 mul-from : tie.Need-mul-from Inv-loop μ-loop
-mul-from c = search needs
+mul-from c = let h = below c in search needs
 
 array-read-from : tie.Need-array-read-from Inv-loop μ-loop
-array-read-from c = omega arith
+array-read-from c = let h = below c in omega (arith, c .before .before .before .before .before .loop .inv .1 .nlast)
 
 slice-aggregate-alone : tie.Need-slice-aggregate-alone Inv-loop μ-loop
-slice-aggregate-alone c = sym (c .before .before .before .before .loop .inv .1 .nprev)
+slice-aggregate-alone c = sym (c .before .before .before .before .before .before .loop .inv .1 .nprev)
 
 alone-requires : tie.Need-alone-requires Inv-loop μ-loop
-alone-requires c κs = let l = c .before .before .before .before .loop in let m = l .inv .1 in let t = c .before .before .before .loop-test .taken in let p = c .before .before .before .before .before .before .before .before .pre in let a = c .before .before .before .before .before .before .before .before .args in let h = m .heads .top (hashBucket (a .run .now) (a .words .now) (l .i)) in (h, omega arith, omega arith, omega (arith, m .nprev), (λ k g u. p .3 k (omega arith) u), l .inv .0, chain-less (m .chain) h, m .heads .link _)
+alone-requires c κs = let l = c .before .before .before .before .before .before .loop in let m = l .inv .1 in let t = c .before .before .before .before .before .loop-test .taken in let p = c .before .before .before .before .before .before .before .before .before .before .pre in let h = m .heads .top (c .before .bucket .result) in (h, omega arith, omega arith, omega (arith, m .nprev), (λ k g u. p .3 k (omega arith) u), l .inv .0, chain-less (m .chain) h, λ j q. let g = m .heads .link _ j q in (g .0, g .1 ∙ c .before .bucket .ensures))
 
 returns : tie.Need-returns Inv-loop μ-loop
 unfolding Alone Unlike
-returns c = let l = c .before .before .before .before .before .before .loop in met-miss (l .inv .1) (c .before .before .before .before .before .loop-test .taken) (l .inv .0) (says-no (c .before .alone .result) (c .if1 .taken) (c .before .alone .ensures))
+returns c = let l = c .before .before .before .before .before .before .before .before .loop in met-miss (l .inv .1) (c .before .before .before .before .before .before .before .loop-test .taken) (l .inv .0) (rw (c .before .before .before .bucket .ensures) at (says-no (c .before .alone .result) (c .if1 .taken) (c .before .alone .ensures)))
 
 mul-prev : tie.Need-mul-prev Inv-loop μ-loop
 mul-prev c = search needs
@@ -57,17 +74,17 @@ add-i : tie.Need-add-i Inv-loop μ-loop
 add-i c = search needs
 
 mul-last : tie.Need-mul-last Inv-loop μ-loop
-mul-last c = search needs
+mul-last c = let h = below (c .before .before .before) in search needs
 
 array-write-last : tie.Need-array-write-last Inv-loop μ-loop
-array-write-last c = search needs
+array-write-last c = let h = below (c .before .before .before) in omega (arith, c .before .before .before .before .before .before .before .before .loop .inv .1 .nlast)
 
 loop-less : tie.Need-loop-less Inv-loop μ-loop
 loop-less c = search needs
 
 loop-again : tie.Need-loop-again Inv-loop μ-loop
 unfolding Alone Unlike
-loop-again c = let l = c .before .before .before .before .before .before .loop in (omega arith, met-add (l .inv .1) (λ j k h. rw (h .oneHash)) (λ j k h. record { oneParent = sym (h .oneParent); oneHash = sym (h .oneHash) }) (omega arith) (omega arith) (l .inv .0) (says-yes (c .before .alone .result) (c .if1 .left) (c .before .alone .ensures)))
+loop-again c = let l = c .before .before .before .before .before .before .before .before .loop in (omega arith, rw (c .before .before .before .bucket .ensures) (met-add (l .inv .1) (λ j k h. rw (h .oneParent, h .oneHash)) (λ j k h. record { oneParent = sym (h .oneParent); oneHash = sym (h .oneHash) }) (omega arith) (bucket-below _ _) (l .inv .0) (rw (c .before .before .before .bucket .ensures) at (says-yes (c .before .alone .result) (c .if1 .left) (c .before .alone .ensures)))))
 
 returns-2 : tie.Need-returns-2 Inv-loop μ-loop
 unfolding Unlike
@@ -82,8 +99,11 @@ siblings-differ-spec =
     loop-holds
     mul-f
     shared-slice-read-f
-    mul-b
-    shared-slice-read-b
+    mul-bucket
+    shared-slice-read-bucket
+    mul-bucket-2
+    shared-slice-read-bucket-2
+    bucket-requires
     mul-from
     array-read-from
     slice-aggregate-alone

@@ -1,10 +1,11 @@
--- `tree::child` meets its contract: the scan goes as the definition goes, and the nodes still to come decide.
-use Prim.Native.Nat.{ℕ, _-_, _≤_}
+-- `tree::child` meets its contract: the scan goes as the definition goes, past the children of others, and the nodes still to come decide.
+use Prim.Native.Nat.{ℕ, _-_}
 use mathlib.Core.List.{List, []}
 use mathlib.Core.Path.{sym, _∙_}
 use native.Mathlib.Omega.{arith}
+use borrow.Author.Tests.{ne-eqb}
 use Rattle.lent.specs.Lent.{treeOf}
-use Rattle.tree.proofs.Laws.{Scanning, scan-start, scan-here, scan-more, scan-end}
+use Rattle.tree.proofs.Laws.{Scanning, scan-start, scan-here, scan-more, scan-past, scan-end}
 use borrow.Author.Needs.{needs}
 use Rattle.tree.proofs.child.Statement.{statement}
 use Rattle.tree.proofs.child.Tie as tie
@@ -18,24 +19,51 @@ abbrev μ-loop : tie.MeasureT-loop
 loop-holds : tie.Need-loop-holds Inv-loop μ-loop
 loop-holds c = λ depth len used. scan-start _ _ _
 
+mul-if1 : tie.Need-mul-if1 Inv-loop μ-loop
+mul-if1 c = search needs
+
+shared-slice-read-if1 : tie.Need-shared-slice-read-if1 Inv-loop μ-loop
+shared-slice-read-if1 c = let p = c .before .before .before .before .before .before .pre in omega (arith, p .parent)
+
+add-pass-others : tie.Need-add-pass-others Inv-loop μ-loop
+add-pass-others c = search needs
+
+pass-others-requires : tie.Need-pass-others-requires Inv-loop μ-loop
+pass-others-requires c κs = let p = c .before .before .before .before .before .before .before .pre in (omega arith, p .parent)
+
+loop-less : tie.Need-loop-less Inv-loop μ-loop
+loop-less c = let e = c .pass-others .ensures in omega (arith, e .0, e .1)
+
+loop-again : tie.Need-loop-again Inv-loop μ-loop
+loop-again c =
+    λ depth len used.
+    let e = c .pass-others .ensures in
+    let l = c .before .before .before in
+    scan-past (scan-more (l .before .loop .inv depth len used) (l .loop-test .taken) (simp (ne-eqb _ _ (c .before .if1 .taken)))) (e .2) (e .0) (e .1)
+
 is-child-requires : tie.Need-is-child-requires Inv-loop μ-loop
 is-child-requires c κs =
-    let p = c .before .before .before .before .before .pre in
-    let k = c .before .loop .k in
-    let in-use : 1 ≤ k = c .before .loop .inv [] [] 0 .past in
-    (omega (arith, p .parent), omega (arith, p .run), p .words k in-use (c .loop-test .taken))
+    let p = c .before .before .before .before .before .before .before .pre in
+    let l = c .before .before in
+    (omega (arith, p .parent), omega (arith, p .run), p .words _ (l .before .loop .inv [] [] 0 .past) (l .loop-test .taken))
 
 returns : tie.Need-returns Inv-loop μ-loop
-returns c = λ depth len used. scan-here (c .before .before .before .loop .inv depth len used) (c .before .before .loop-test .taken) (sym (c .before .is-child .ensures) ∙ c .if1 .taken)
+returns c =
+    λ depth len used.
+    let l = c .before .before .before .before in
+    scan-here (l .before .loop .inv depth len used) (l .loop-test .taken) (sym (c .before .is-child .ensures) ∙ c .if2 .taken)
 
 add-k : tie.Need-add-k Inv-loop μ-loop
 add-k c = search needs
 
-loop-less : tie.Need-loop-less Inv-loop μ-loop
-loop-less c = search needs
+loop-less-2 : tie.Need-loop-less-2 Inv-loop μ-loop
+loop-less-2 c = search needs
 
-loop-again : tie.Need-loop-again Inv-loop μ-loop
-loop-again c = λ depth len used. scan-more (c .before .before .before .loop .inv depth len used) (c .before .before .loop-test .taken) (sym (c .before .is-child .ensures) ∙ c .if1 .left)
+loop-again-2 : tie.Need-loop-again-2 Inv-loop μ-loop
+loop-again-2 c =
+    λ depth len used.
+    let l = c .before .before .before .before in
+    scan-more (l .before .loop .inv depth len used) (l .loop-test .taken) (sym (c .before .is-child .ensures) ∙ c .if2 .left)
 
 returns-2 : tie.Need-returns-2 Inv-loop μ-loop
 returns-2 c = λ depth len used. scan-end (c .before .loop .inv depth len used) (c .loop-test .left)
@@ -47,9 +75,15 @@ child-spec =
     Inv-loop
     μ-loop
     loop-holds
+    mul-if1
+    shared-slice-read-if1
+    add-pass-others
+    pass-others-requires
+    loop-less
+    loop-again
     is-child-requires
     returns
     add-k
-    loop-less
-    loop-again
+    loop-less-2
+    loop-again-2
     returns-2)

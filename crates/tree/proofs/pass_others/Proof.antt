@@ -1,0 +1,117 @@
+-- `tree::pass_others` meets its contract: a turn passes four nodes, and each of its ways out those before the node that it hands out.
+use Prim.Native.Nat.{_-_, _≤_}
+use native.Mathlib.Omega.{arith}
+use Rattle.tree.specs.Walk.{Others}
+use Rattle.tree.proofs.Laws.{others-none, others-one, others-two, others-three, others-four}
+use borrow.Author.Needs.{needs}
+use Rattle.tree.proofs.pass_others.Statement.{statement}
+use Rattle.tree.proofs.pass_others.Tie as tie
+
+abbrev Inv-loop : tie.InvT-loop
+Inv-loop parent from nodes p k₀ k = (from ≤ k) × (k ≤ nodes) × Others parent p from k
+
+abbrev μ-loop : tie.MeasureT-loop
+μ-loop parent from nodes p k₀ k = nodes - k
+
+loop-holds : tie.Need-loop-holds Inv-loop μ-loop
+loop-holds c = (omega arith, omega arith, others-none _ _ _)
+
+add-loop : tie.Need-add-loop Inv-loop μ-loop
+add-loop c = search needs
+
+mul-if1 : tie.Need-mul-if1 Inv-loop μ-loop
+mul-if1 c = search needs
+
+shared-slice-read-if1 : tie.Need-shared-slice-read-if1 Inv-loop μ-loop
+shared-slice-read-if1 c = search needs
+
+returns : tie.Need-returns Inv-loop μ-loop
+returns c = c .before .before .before .loop .inv
+
+add-if2 : tie.Need-add-if2 Inv-loop μ-loop
+add-if2 c = search needs
+
+mul-if2 : tie.Need-mul-if2 Inv-loop μ-loop
+mul-if2 c = search needs
+
+shared-slice-read-if2 : tie.Need-shared-slice-read-if2 Inv-loop μ-loop
+shared-slice-read-if2 c = search needs
+
+add-result : tie.Need-add-result Inv-loop μ-loop
+add-result c = search needs
+
+returns-2 : tie.Need-returns-2 Inv-loop μ-loop
+returns-2 c = (omega arith, omega arith, others-one (c .before .before .before .before .before .loop .inv .2) (c .before .before .if1 .left))
+
+add-if3 : tie.Need-add-if3 Inv-loop μ-loop
+add-if3 c = search needs
+
+mul-if3 : tie.Need-mul-if3 Inv-loop μ-loop
+mul-if3 c = search needs
+
+shared-slice-read-if3 : tie.Need-shared-slice-read-if3 Inv-loop μ-loop
+shared-slice-read-if3 c = search needs
+
+add-result-2 : tie.Need-add-result-2 Inv-loop μ-loop
+add-result-2 c = search needs
+
+returns-3 : tie.Need-returns-3 Inv-loop μ-loop
+returns-3 c = (omega arith, omega arith, others-two (c .before .before .before .before .before .before .before .loop .inv .2) (c .before .before .before .before .if1 .left) (c .before .before .if2 .left))
+
+add-if4 : tie.Need-add-if4 Inv-loop μ-loop
+add-if4 c = search needs
+
+mul-if4 : tie.Need-mul-if4 Inv-loop μ-loop
+mul-if4 c = search needs
+
+shared-slice-read-if4 : tie.Need-shared-slice-read-if4 Inv-loop μ-loop
+shared-slice-read-if4 c = search needs
+
+add-result-3 : tie.Need-add-result-3 Inv-loop μ-loop
+add-result-3 c = search needs
+
+returns-4 : tie.Need-returns-4 Inv-loop μ-loop
+returns-4 c = (omega arith, omega arith, others-three (c .before .before .before .before .before .before .before .before .before .loop .inv .2) (c .before .before .before .before .before .before .if1 .left) (c .before .before .before .before .if2 .left) (c .before .before .if3 .left))
+
+add-k : tie.Need-add-k Inv-loop μ-loop
+add-k c = search needs
+
+loop-less : tie.Need-loop-less Inv-loop μ-loop
+loop-less c = search needs
+
+loop-again : tie.Need-loop-again Inv-loop μ-loop
+loop-again c = (omega arith, omega arith, others-four (c .before .before .before .before .before .before .before .before .before .loop .inv .2) (c .before .before .before .before .before .before .if1 .left) (c .before .before .before .before .if2 .left) (c .before .before .if3 .left) (c .if4 .left))
+
+returns-5 : tie.Need-returns-5 Inv-loop μ-loop
+returns-5 c = c .before .loop .inv
+
+pub pass-others-spec : {M : Type 1} → statement M
+pass-others-spec =
+    tie.close
+    (tie.spec
+    Inv-loop
+    μ-loop
+    loop-holds
+    add-loop
+    mul-if1
+    shared-slice-read-if1
+    returns
+    add-if2
+    mul-if2
+    shared-slice-read-if2
+    add-result
+    returns-2
+    add-if3
+    mul-if3
+    shared-slice-read-if3
+    add-result-2
+    returns-3
+    add-if4
+    mul-if4
+    shared-slice-read-if4
+    add-result-3
+    returns-4
+    add-k
+    loop-less
+    loop-again
+    returns-5)
