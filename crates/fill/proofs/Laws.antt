@@ -8,7 +8,7 @@ use native.Mathlib.Numerals.{add-one}
 use native.Mathlib.Omega.{arith}
 use lib.ListN.{length, drop, drop-of-length-le}
 use lib.Ieee.{Float}
-use Rattle.model.specs.State.{Ranges, Range}
+use Rattle.model.specs.State.{Ranges, Range, at}
 use Rattle.model.specs.Store.{ranges, layRanges, lengthOf, total, ahead, insert}
 use Rattle.model.specs.Bring.{Gap, fresh, fill}
 use Rattle.kept.specs.Facts.{All}
@@ -48,12 +48,12 @@ pub sum-start : (from upto : List ℕ) (k : ℕ) → Summing from upto k 0 0
 unfolding blocks gapsIn
 sum-start from upto k = record { high = omega arith; sums = refl; small = omega arith }
 
-pub sum-turn : (from upto : List ℕ) (k sum i : ℕ) → Summing from upto k sum i → i < k → Filled (gapAt from upto i)
-    → Summing from upto k (sum + (gapAt from upto i .upto - gapAt from upto i .from)) (i + 1)
-sum-turn from upto k sum i s h f =
+pub sum-turn : (from upto : List ℕ) (k sum i a b : ℕ) → Summing from upto k sum i → i < k → Filled (gapAt from upto i) → a ≡ at from i → b ≡ at upto i
+    → Summing from upto k (sum + (b - a)) (i + 1)
+sum-turn from upto k sum i a b s h f ea eb =
     record {
       high = omega arith;
-      sums = rw add-one (omega (arith, s .sums, blocks-suc from upto i));
+      sums = rw (add-one, ea, eb) (omega (arith, s .sums, blocks-suc from upto i));
       small = omega (arith, s .small, f .high);
     }
 
@@ -137,9 +137,10 @@ module _ (c₀ : Ranges) (n nd : ℕ) (from upto : List ℕ) (k top next : ℕ) 
         (fill-first nd _ (gapAt from upto i) (top + i) (next + i) (top + (i + 1)) (next + (i + 1)) time w _ (omega arith) (omega arith)
         ∙ ap (λ t. fill nd t (top + i) (next + i) time w (ranges c 0 (n + i))) (sym (gaps-from from upto k i h)))
 
-    pub fill-turn : (r : Range) (c′ : Ranges) → i < k → r ≡ fresh nd (gapAt from upto i) (top + i + 1) (next + i) time w
+    pub fill-turn : (r : Range) (c′ : Ranges) (a b : ℕ) → i < k → a ≡ at from i → b ≡ at upto i
+        → r ≡ fresh nd (record { from = a; upto = b }) (top + i + 1) (next + i) time w
         → c′ ≡ layRanges 0 (n + i + 1) (insert r (ranges c 0 (n + i))) c → Filling c₀ n nd from upto k top next time w c′ (i + 1)
-    fill-turn r c′ h er ec =
+    fill-turn r c′ a b h ea eb er ec =
         let rs = ranges c 0 (n + i) in
         let m : length (insert r rs) ≡ n + (i + 1) = omega (arith, insert-length r rs, ranges-length c 0 (n + i)) in
         let q : n + i + 1 ≡ n + (i + 1) = omega arith in
@@ -154,7 +155,7 @@ module _ (c₀ : Ranges) (n nd : ℕ) (from upto : List ℕ) (k top next : ℕ) 
               (e
               ∙ ap (λ x. layRanges 0 (n + (i + 1)) (insert r rs) x) (f .laid)
               ∙ laid-twice (n + i) (n + (i + 1)) rs (insert r rs) c₀ s₀ (omega arith) (omega (arith, ranges-length c 0 (n + i))) (omega arith));
-          todo = rw (t, er) (one-more h ∙ f .todo);
+          todo = rw (t, er, ea, eb) (one-more h ∙ f .todo);
         }
 
     pub fill-end : k ≤ i → c ≡ layRanges 0 (n + length (gapsIn from upto k)) (fill nd (gapsIn from upto k) top next time w (ranges c₀ 0 n)) c₀
@@ -167,8 +168,8 @@ module _ (c₀ : Ranges) (n nd : ℕ) (from upto : List ℕ) (k top next : ℕ) 
 
 -- ---- the room for one gap more
 
-pub room-new : {n k top next i : ℕ} → Room n k top next → i < k → (i < 129) × (top + i < 281474976710656) × (next + i < 281474976710656)
-room-new r h = (omega (arith, r .records), omega (arith, r .stamps), omega (arith, r .ids))
+pub room-new : {n k top next i : ℕ} → Room n k top next → i < k → (top + i < 281474976710656) × (next + i < 281474976710656)
+room-new r h = (omega (arith, r .stamps), omega (arith, r .ids))
 
 pub room-place : {n k top next i : ℕ} → Room n k top next → i < k → n + i < 128
 room-place r h = omega (arith, r .records)

@@ -3,13 +3,38 @@ use recs::Record;
 ghost use mathlib.Core.Path.{_≡_};
 ghost use Prim.Native.Nat.{_+_, _≤_, _<_};
 ghost use lib.ListN.{length};
+ghost use Rattle.model.specs.State.{at};
 ghost use Rattle.model.specs.Store.{ranges, insert, layRanges};
 ghost use Rattle.model.specs.Bring.{fresh, fill as fillOf};
 ghost use Rattle.kept.specs.Facts.{All};
 ghost use Rattle.lent.specs.Lent.{rangesOf};
 ghost use Rattle.recs.specs.Part.{rangeOf, Sized};
-ghost use Rattle.gaps.specs.Gaps.{gapAt, gapsOf};
+ghost use Rattle.gaps.specs.Gaps.{gapsOf};
 ghost use Rattle.fill.specs.Fill.{Filled, blocks, Room};
+
+// Where gap i begins. The list is copied only for a gap behind the first, so mostly not at all.
+fn from_at(g: Gaps, i: usize) -> usize
+    requires { ⌜ i < 129 ⌝ }
+    ensures { λ r. ⌜ r ≡ at (g .from) i ⌝ }
+{
+    if i == 0 {
+        return g.from[0];
+    }
+    let from = g.from;
+    from[i]
+}
+
+// Where it ends, in the same way.
+fn upto_at(g: Gaps, i: usize) -> usize
+    requires { ⌜ i < 129 ⌝ }
+    ensures { λ r. ⌜ r ≡ at (g .upto) i ⌝ }
+{
+    if i == 0 {
+        return g.upto[0];
+    }
+    let upto = g.upto;
+    upto[i]
+}
 
 // The blocks of the gaps together: what a store holds more, once they are filled.
 pub fn gap_blocks(g: Gaps) -> u64
@@ -17,29 +42,34 @@ pub fn gap_blocks(g: Gaps) -> u64
     ensures { λ r. ⌜ r ≡ blocks (gapsOf g) ⌝ }
 {
     let k = g.n;
-    let from = g.from;
-    let upto = g.upto;
     let mut sum: u64 = 0;
     let mut i: usize = 0;
     while i < k {
-        sum += (upto[i] - from[i]) as u64;
+        sum += (upto_at(g, i) - from_at(g, i)) as u64;
         i += 1;
     }
     sum
 }
 
-// The record that gap i gets: the next stamp, the next id, time and write.
-fn new_rec(nd: usize, g: Gaps, i: usize, top: u64, next: u64, time: f64, w: u32) -> Record
-    requires { ⌜ (i < 129) × (top + i < 281474976710656) × (next + i < 281474976710656) ⌝ }
-    ensures { λ r. ⌜ rangeOf r ≡ fresh nd (gapAt (g .from) (g .upto) i) (top + i + 1) (next + i) time w ⌝ }
+// The record that gap i gets, `from` up to `upto`: the next stamp, the next id, time and write.
+fn new_rec(
+    nd: usize,
+    from: usize,
+    upto: usize,
+    i: usize,
+    top: u64,
+    next: u64,
+    time: f64,
+    w: u32,
+) -> Record
+    requires { ⌜ (top + i < 281474976710656) × (next + i < 281474976710656) ⌝ }
+    ensures { λ r. ⌜ rangeOf r ≡ fresh nd (record { from = from; upto = upto }) (top + i + 1) (next + i) time w ⌝ }
 {
-    let from = g.from;
-    let upto = g.upto;
     let filled = i as u64;
     Record {
         node: nd,
-        start: from[i],
-        end: upto[i],
+        start: from,
+        end: upto,
         id: next + filled,
         stamp: top + filled + 1,
         touched: time,
@@ -89,7 +119,9 @@ pub fn fill(
     let k = g.n;
     let mut done: usize = 0;
     while done < k {
-        let r = new_rec(nd, g, done, top, next, time, w);
+        let from = from_at(g, done);
+        let upto = upto_at(g, done);
+        let r = new_rec(nd, from, upto, done, top, next, time, w);
         put_new(node, start, end, id, stamp, touched, write, n + done, r);
         done += 1;
     }

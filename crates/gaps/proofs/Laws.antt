@@ -1,14 +1,14 @@
 -- Scanning the records from the first on, the gaps found so far and those still to come are the gaps of the span; and a range's place is where the
 -- first record stands that it goes before.
 use mathlib.Core.Path.{_≡_, refl, sym, ap, _∙_}
-use mathlib.Core.Bool.{Bool, true, false, not, _&&_, _||_, true≢false, false≢true}
+use mathlib.Core.Bool.{Bool, true, false, _&&_, _||_}
 use mathlib.Core.List.{List, [], _∷_, _++_, append-assoc, append-nil}
-use Prim.Native.Nat.{ℕ, zero, suc, _+_, _-_, _≤_, _<_}
-use mathlib.Core.Logic.{⊎-elim}
+use Prim.Native.Nat.{ℕ, zero, suc, _+_, _-_, _≤_, _<_, min, max}
+use mathlib.Core.Logic.{_≢_, ⊎-elim}
 use native.Mathlib.Nat.{eq-or-lt-of-le}
 use native.Mathlib.Numerals.{add-one}
 use native.Mathlib.Omega.{arith}
-use lib.ListN.{length, getD, set, take, drop, length-append, drop-of-length-le, List·getD-append}
+use lib.ListN.{length, length-set, getD, set, take, drop, length-append, drop-of-length-le, List·getD-append}
 use lib.Seq.{getD-at, getD-set-same, getD-set-other, drop-cons, take-suc}
 use Rattle.laid.proofs.Rows.{ranges-length, ranges-at}
 use lib.Dec.{ltb, leb, eqb}
@@ -19,33 +19,8 @@ use Rattle.model.specs.Store.{ranges, insert, ahead}
 use Rattle.model.specs.Bring.{Gap, gaps, gapEnd, behind, piece}
 use Rattle.lent.specs.Lent.{rangesOf}
 use Rattle.cols.specs.Cols.{insertAt}
+use Rattle.gaps.specs.declared.Gaps.{Gaps}
 use Rattle.gaps.specs.Gaps.{gapAt, gapsIn, PlaceFor}
-
--- ---- where a gap ends, and where the search goes on
-
-pub end-off : (b : Bool) (p s z : ℕ) → not b ≡ true → p ≡ gapEnd b p s z
-end-off true p s z e = absurd (false≢true e)
-end-off false p s z e = refl
-
-pub end-span : (b : Bool) (p s z : ℕ) → not b ≡ false → z < s → z ≡ gapEnd b p s z
-end-span true p s z e h = omega arith
-end-span false p s z e h = absurd (true≢false e)
-
-pub end-record : (b : Bool) (p s z : ℕ) → not b ≡ false → s ≤ z → s ≡ gapEnd b p s z
-end-record true p s z e h = omega arith
-end-record false p s z e h = absurd (true≢false e)
-
-pub behind-off : (b : Bool) (p e : ℕ) → not b ≡ true → p ≡ behind b p e
-behind-off true p e h = absurd (false≢true h)
-behind-off false p e h = refl
-
-pub behind-record : (b : Bool) (p e : ℕ) → not b ≡ false → p < e → e ≡ behind b p e
-behind-record true p e h l = omega arith
-behind-record false p e h l = absurd (true≢false h)
-
-pub behind-same : (b : Bool) (p e : ℕ) → not b ≡ false → e ≤ p → p ≡ behind b p e
-behind-same true p e h l = omega arith
-behind-same false p e h l = absurd (true≢false h)
 
 -- ---- one gap more
 
@@ -60,12 +35,27 @@ gaps-suc : (from upto : List ℕ) (k x y : ℕ) → k < length from → k < leng
 unfolding gapsIn
 gaps-suc from upto k x y h g = rw (gaps-same from upto k k x y (omega arith), getD-set-same from k x 0 h, getD-set-same upto k y 0 g)
 
-pub gaps-none : (from upto : List ℕ) (k p b : ℕ) → b ≤ p → gapsIn from upto k ≡ gapsIn from upto k ++ piece (ltb p b) p b []
-gaps-none from upto k p b h = rw (le-ltb p b h) (sym (append-nil (gapsIn from upto k)))
+-- a gap counts where it has a block
+pub counts : (k p b : ℕ) → p < b → k + 1 ≡ k + length (piece (ltb p b) p b [])
+counts k p b h = rw (lt-ltb p b h)
 
-pub gaps-more : (from upto : List ℕ) (k p b : ℕ) → k < length from → k < length upto → p < b
-    → gapsIn (set from k p) (set upto k b) (k + 1) ≡ gapsIn from upto k ++ piece (ltb p b) p b []
-gaps-more from upto k p b h g l = rw (add-one, lt-ltb p b l) (gaps-suc from upto k p b h g)
+pub counts-not : (k p b : ℕ) → b ≤ p → k ≡ k + length (piece (ltb p b) p b [])
+counts-not k p b h = rw (le-ltb p b h) (omega arith)
+
+one-piece : (t : Bool) (p b : ℕ) → length (piece t p b []) ≤ 1
+one-piece true p b = omega arith
+one-piece false p b = omega arith
+
+-- it is put behind k others, and then counted or not
+put-piece : (t : Bool) (from upto : List ℕ) (k k′ p b : ℕ) → k < length from → k < length upto → k′ ≡ k + length (piece t p b [])
+    → gapsIn (set from k p) (set upto k b) k′ ≡ gapsIn from upto k ++ piece t p b []
+put-piece true from upto k k′ p b h g e = let d : k′ ≡ suc k = omega arith in rw d (gaps-suc from upto k p b h g)
+put-piece false from upto k k′ p b h g e =
+    let d : k′ ≡ k = omega arith in rw d (gaps-same from upto k k p b (omega arith) ∙ sym (append-nil (gapsIn from upto k)))
+
+-- g with p up to b at place k
+abbrev pub put : Gaps → ℕ → ℕ → ℕ → Gaps
+put g k p b = record { from = set (g .from) k p; upto = set (g .upto) k b; n = g .n }
 
 -- ---- gaps by place
 
@@ -91,20 +81,23 @@ gaps-from from upto k i h =
 
 -- ---- the scan
 
--- i records are passed, the k gaps gs found, and the search goes on at p
-pub record Scan (node start end : List ℕ) (n nd a z : ℕ) (gs : List Gap) (k p i : ℕ) : Type 0 where
+-- i records are passed, g has the k gaps found, and the search goes on at p
+pub record Scan (node start end : List ℕ) (n nd a z : ℕ) (g : Gaps) (k p i : ℕ) : Type 0 where
+  pub from : length (g .from) ≡ 129
+  pub upto : length (g .upto) ≡ 129
   pub few : k ≤ i
   pub high : i ≤ n
   pub todo :
       (id stamp write : List ℕ) (touched : List Float)
-      → gs ++ gaps nd (ranges (rangesOf node start end id stamp touched write) i (n - i)) p z
+      → gapsIn (g .from) (g .upto) k ++ gaps nd (ranges (rangesOf node start end id stamp touched write) i (n - i)) p z
       ≡ gaps nd (ranges (rangesOf node start end id stamp touched write) 0 n) a z
 
-pub scan-start : (node start end : List ℕ) (n nd a z : ℕ) (from upto : List ℕ) → Scan node start end n nd a z (gapsIn from upto 0) 0 a 0
+pub scan-start : (node start end : List ℕ) (n nd a z : ℕ) (g : Gaps) → length (g .from) ≡ 129 → length (g .upto) ≡ 129
+    → Scan node start end n nd a z g 0 a 0
 unfolding gapsIn
-scan-start node start end n nd a z from upto =
+scan-start node start end n nd a z g f u =
     let q : n - 0 ≡ n = omega arith in
-    record { few = omega arith; high = omega arith; todo = λ id stamp write touched. rw q }
+    record { from = f; upto = u; few = omega arith; high = omega arith; todo = λ id stamp write touched. rw q }
 
 -- a gap found, and those still to come
 piece-front : (t : Bool) (gs rest : List Gap) (p b : ℕ) → (gs ++ piece t p b []) ++ rest ≡ gs ++ piece t p b rest
@@ -119,38 +112,63 @@ step-suc : (c : Ranges) (nd z p i m : ℕ)
 unfolding gaps ranges
 step-suc c nd z p i m = rw add-one
 
-step : (c : Ranges) (nd z p i n b q : ℕ) → i < n → b ≡ gapEnd (eqb (at (c .node) i) nd) p (at (c .start) i) z
-    → q ≡ behind (eqb (at (c .node) i) nd) p (at (c .end) i)
+-- on the node, and on another one
+step-on : (c : Ranges) (nd z p i n b q : ℕ) → i < n → at (c .node) i ≡ nd → b ≡ min (at (c .start) i) z → q ≡ max p (at (c .end) i)
     → gaps nd (ranges c i (n - i)) p z ≡ piece (ltb p b) p b (gaps nd (ranges c (i + 1) (n - (i + 1))) q z)
-step c nd z p i n b q h eb eq = let m : n - i ≡ suc (n - (i + 1)) = omega arith in rw (m, eb, eq) (step-suc c nd z p i (n - (i + 1)))
+step-on c nd z p i n b q h e eb eq =
+    let m : n - i ≡ suc (n - (i + 1)) = omega arith in
+    rw (m, eb, eq) (step-suc c nd z p i (n - (i + 1)) ∙ rw (eq-eqb (at (c .node) i) nd e))
+
+step-off : (c : Ranges) (nd z p i n : ℕ) → i < n → at (c .node) i ≢ nd → gaps nd (ranges c i (n - i)) p z ≡ gaps nd (ranges c (i + 1) (n - (i + 1))) p z
+step-off c nd z p i n h e =
+    let m : n - i ≡ suc (n - (i + 1)) = omega arith in
+    rw m (step-suc c nd z p i (n - (i + 1)) ∙ rw (ne-eqb (at (c .node) i) nd e, le-ltb p p (omega arith)))
 
 -- behind the last record
 last-none : (c : Ranges) (nd z p i : ℕ) → gaps nd (ranges c i 0) p z ≡ piece (ltb p z) p z []
 unfolding gaps ranges
 last-none c nd z p i = refl
 
-module _ (node start end : List ℕ) (n nd a z : ℕ) (gs : List Gap) (k p i : ℕ) (s : Scan node start end n nd a z gs k p i) where
-  pub scan-turn : (gs′ : List Gap) (k′ b q : ℕ) → i < n → b ≡ gapEnd (eqb (at node i) nd) p (at start i) z
-      → q ≡ behind (eqb (at node i) nd) p (at end i) → (k′ ≤ k + 1) × (gs′ ≡ gs ++ piece (ltb p b) p b [])
-      → Scan node start end n nd a z gs′ k′ q (i + 1)
-  scan-turn gs′ k′ b q h eb eq w =
+module _ (node start end : List ℕ) (n nd a z : ℕ) (g : Gaps) (k p i : ℕ) (s : Scan node start end n nd a z g k p i) where
+  pub scan-pass : i < n → at node i ≢ nd → Scan node start end n nd a z g k p (i + 1)
+  scan-pass h e =
       record {
-        few = omega (arith, s .few, w .0);
+        from = s .from;
+        upto = s .upto;
+        few = omega (arith, s .few);
         high = omega arith;
         todo =
             λ id stamp write touched.
-            rw (w .1)
-            (piece-front (ltb p b) gs _ p b
-            ∙ ap (λ t. gs ++ t) (sym (step (rangesOf node start end id stamp touched write) nd z p i n b q h eb eq))
+            ap (λ t. gapsIn (g .from) (g .upto) k ++ t) (sym (step-off (rangesOf node start end id stamp touched write) nd z p i n h e)) ∙ s .todo id stamp write touched;
+      }
+
+  pub scan-turn : (k′ b q : ℕ) → n ≤ 128 → i < n → at node i ≡ nd → b ≡ min (at start i) z → q ≡ max p (at end i) → k′ ≡ k + length (piece (ltb p b) p b [])
+      → Scan node start end n nd a z (put g k p b) k′ q (i + 1)
+  scan-turn k′ b q l h e eb eq ek =
+      record {
+        from = length-set (g .from) k p ∙ s .from;
+        upto = length-set (g .upto) k b ∙ s .upto;
+        few = omega (arith, s .few, one-piece (ltb p b) p b);
+        high = omega arith;
+        todo =
+            λ id stamp write touched.
+            rw (put-piece (ltb p b) (g .from) (g .upto) k k′ p b (omega (arith, s .from, s .few)) (omega (arith, s .upto, s .few)) ek)
+            (piece-front (ltb p b) (gapsIn (g .from) (g .upto) k) _ p b
+            ∙ ap (λ t. gapsIn (g .from) (g .upto) k ++ t) (sym (step-on (rangesOf node start end id stamp touched write) nd z p i n b q h e eb eq))
             ∙ s .todo id stamp write touched);
       }
 
-  pub scan-end : (gs′ : List Gap) (k′ : ℕ) → n ≤ i → (k′ ≤ k + 1) × (gs′ ≡ gs ++ piece (ltb p z) p z [])
-      → (k′ ≤ n + 1) × ((id stamp write : List ℕ) (touched : List Float) → gs′ ≡ gaps nd (ranges (rangesOf node start end id stamp touched write) 0 n) a z)
-  scan-end gs′ k′ h w =
+  pub scan-end : (k′ : ℕ) → n ≤ 128 → n ≤ i → k′ ≡ k + length (piece (ltb p z) p z [])
+      → (k′ ≤ n + 1)
+      × ((id stamp write : List ℕ) (touched : List Float)
+      → gapsIn (set (g .from) k p) (set (g .upto) k z) k′ ≡ gaps nd (ranges (rangesOf node start end id stamp touched write) 0 n) a z)
+  scan-end k′ l h ek =
       let m : n - i ≡ 0 = omega arith in (
-        omega (arith, s .few, s .high, w .0),
-        λ id stamp write touched. w .1 ∙ ap (λ t. gs ++ t) (sym (rw m (last-none (rangesOf node start end id stamp touched write) nd z p i))) ∙ s .todo id stamp write touched,
+        omega (arith, s .few, s .high, one-piece (ltb p z) p z),
+        λ id stamp write touched.
+            put-piece (ltb p z) (g .from) (g .upto) k k′ p z (omega (arith, s .from, s .few, s .high)) (omega (arith, s .upto, s .few, s .high)) ek
+            ∙ ap (λ t. gapsIn (g .from) (g .upto) k ++ t) (sym (rw m (last-none (rangesOf node start end id stamp touched write) nd z p i)))
+            ∙ s .todo id stamp write touched,
       )
 
 -- ---- a range's place

@@ -1,12 +1,12 @@
 ghost use mathlib.Core.Path.{_≡_};
-ghost use mathlib.Core.List.{List, [], _++_};
-ghost use Prim.Native.Nat.{ℕ, _+_, _≤_, _<_};
+ghost use mathlib.Core.List.{List, []};
+ghost use Prim.Native.Nat.{ℕ, _+_, _≤_, min, max};
 ghost use lib.ListN.{length};
 ghost use lib.Ieee.{Float};
 ghost use lib.Dec.{ltb, leb, eqb};
 ghost use mathlib.Core.Bool.{_&&_, _||_};
 ghost use Rattle.model.specs.Store.{ranges};
-ghost use Rattle.model.specs.Bring.{gaps as gapsBetween, gapEnd, behind as behindOf, piece};
+ghost use Rattle.model.specs.Bring.{gaps as gapsBetween, piece};
 ghost use Rattle.lent.specs.Lent.{rangesOf};
 ghost use Rattle.gaps.specs.Gaps.{gapsOf, PlaceFor};
 
@@ -17,53 +17,38 @@ pub struct Gaps {
     pub n: usize,
 }
 
-// Where a gap from p ends in front of a record, at most at z; p where the record is on another node.
-fn gap_end(here: bool, p: usize, start: usize, z: usize) -> usize
-    ensures { λ r. ⌜ r ≡ gapEnd here p start z ⌝ }
+// The smaller of two numbers.
+fn smaller(a: usize, b: usize) -> usize
+    ensures { λ r. ⌜ r ≡ min a b ⌝ }
 {
-    if !here {
-        return p;
+    if a < b {
+        return a;
     }
-    if z < start {
-        return z;
-    }
-    start
+    b
 }
 
-// Where the search goes on behind a record.
-fn behind(here: bool, p: usize, end: usize) -> usize
-    ensures { λ r. ⌜ r ≡ behindOf here p end ⌝ }
+// The larger of two numbers.
+fn larger(a: usize, b: usize) -> usize
+    ensures { λ r. ⌜ r ≡ max a b ⌝ }
 {
-    if !here {
-        return p;
+    if a < b {
+        return b;
     }
-    if p < end {
-        return end;
-    }
-    p
+    a
 }
 
-// The gaps, and behind them p up to b where that has a block.
-fn with_gap(g: Gaps, p: usize, b: usize) -> Gaps
-    requires { ⌜ g .n < 129 ⌝ }
-    ensures { λ r. ⌜ (r .n ≤ g .n + 1) × (gapsOf r ≡ gapsOf g ++ piece (ltb p b) p b []) ⌝ }
+// How many gaps there are once p up to b stands behind k others: it counts where it has a block.
+fn counted(k: usize, p: usize, b: usize) -> usize
+    requires { ⌜ k ≤ 128 ⌝ }
+    ensures { λ r. ⌜ r ≡ k + length (piece (ltb p b) p b []) ⌝ }
 {
-    if b <= p {
-        return g;
+    if p < b {
+        return k + 1;
     }
-    let k = g.n;
-    let mut from = g.from;
-    let mut upto = g.upto;
-    from[k] = p;
-    upto[k] = b;
-    Gaps {
-        from,
-        upto,
-        n: k + 1,
-    }
+    k
 }
 
-// The parts of a node from a up to z that the records don't hold.
+// The parts of a node from a up to z that the records don't hold. Each is written behind the others and then counted, so that no copy is made.
 pub fn store_missing(
     node: &[usize],
     start: &[usize],
@@ -79,16 +64,25 @@ pub fn store_missing(
     let from = [0usize; 129];
     let upto = [0usize; 129];
     let mut g = Gaps { from, upto, n: 0 };
+    let mut k: usize = 0;
     let mut p = a;
     let mut i: usize = 0;
     while i < n {
-        let here = node[i] == nd;
-        let b = gap_end(here, p, start[i], z);
-        g = with_gap(g, p, b);
-        p = behind(here, p, end[i]);
+        let at = i;
         i += 1;
+        if node[at] != nd {
+            continue;
+        }
+        let b = smaller(start[at], z);
+        g.from[k] = p;
+        g.upto[k] = b;
+        k = counted(k, p, b);
+        p = larger(p, end[at]);
     }
-    with_gap(g, p, z)
+    g.from[k] = p;
+    g.upto[k] = z;
+    g.n = counted(k, p, z);
+    g
 }
 
 // Does a range of node nd that starts at s stand before a record?

@@ -19,27 +19,33 @@ loop-holds c =
     let p = c .before .before .before .before .before .before .before .pre in
     fill-start _ _ _ _ _ _ _ _ _ _ (p .0 .records) (p .1)
 
+from-at-requires : tie.Need-from-at-requires Inv-loop μ-loop
+from-at-requires c κs = omega (arith, c .before .before .before .before .before .before .before .before .before .pre .0 .records, c .loop-test .taken)
+
+upto-at-requires : tie.Need-upto-at-requires Inv-loop μ-loop
+upto-at-requires c κs = omega (arith, c .before .before .before .before .before .before .before .before .before .before .pre .0 .records, c .before .loop-test .taken)
+
 new-rec-requires : tie.Need-new-rec-requires Inv-loop μ-loop
-new-rec-requires c κs = room-new (c .before .before .before .before .before .before .before .before .before .pre .0) (c .loop-test .taken)
+new-rec-requires c κs = room-new (c .before .before .before .before .before .before .before .before .before .before .before .pre .0) (c .before .before .loop-test .taken)
 
 add-put-new : tie.Need-add-put-new Inv-loop μ-loop
-add-put-new c = omega (arith, room-place (c .before .before .before .before .before .before .before .before .before .before .before .before .before .before .before .before .before .pre .0) (c .before .before .before .before .before .before .before .before .loop-test .taken))
+add-put-new c = omega (arith, room-place (c .before .before .before .before .before .before .before .before .before .before .before .before .before .before .before .before .before .before .before .pre .0) (c .before .before .before .before .before .before .before .before .before .before .loop-test .taken))
 
 put-new-requires : tie.Need-put-new-requires Inv-loop μ-loop
-put-new-requires c κs = (room-place (c .before .before .before .before .before .before .before .before .before .before .before .before .before .before .before .before .before .pre .0) (c .before .before .before .before .before .before .before .before .loop-test .taken), c .before .before .before .before .before .before .before .before .before .loop .inv .sized)
+put-new-requires c κs = (room-place (c .before .before .before .before .before .before .before .before .before .before .before .before .before .before .before .before .before .before .before .pre .0) (c .before .before .before .before .before .before .before .before .before .before .loop-test .taken), c .before .before .before .before .before .before .before .before .before .before .before .loop .inv .sized)
 
 add-done : tie.Need-add-done Inv-loop μ-loop
-add-done c = omega (arith, c .before .before .before .before .before .before .before .before .before .before .before .before .before .before .before .before .before .before .before .before .before .before .before .before .before .before .before .before .before .before .before .before .pre .0 .records, c .before .before .before .before .before .before .before .before .before .before .before .before .before .before .before .before .before .before .before .before .before .before .before .loop-test .taken)
+add-done c = omega (arith, c .before .before .before .before .before .before .before .before .before .before .before .before .before .before .before .before .before .before .before .before .before .before .before .before .before .before .before .before .before .before .before .before .before .before .pre .0 .records, c .before .before .before .before .before .before .before .before .before .before .before .before .before .before .before .before .before .before .before .before .before .before .before .before .before .loop-test .taken)
 
 loop-less : tie.Need-loop-less Inv-loop μ-loop
-loop-less c = omega (arith, c .before .before .before .before .before .before .before .before .before .before .before .before .before .before .before .before .before .before .before .before .before .before .before .loop-test .taken)
+loop-less c = omega (arith, c .before .before .before .before .before .before .before .before .before .before .before .before .before .before .before .before .before .before .before .before .before .before .before .before .before .loop-test .taken)
 
 loop-again : tie.Need-loop-again Inv-loop μ-loop
 loop-again c =
-    let p = c .before .before .before .before .before .before .before .before .before .before .before .before .before .before .before .before .before .before .before .before .before .before .before .before .before .before .before .before .before .before .before .before .pre in
-    let l = c .before .before .before .before .before .before .before .before .before .before .before .before .before .before .before .before .before .before .before .before .before .before .before .before .loop in
+    let p = c .before .before .before .before .before .before .before .before .before .before .before .before .before .before .before .before .before .before .before .before .before .before .before .before .before .before .before .before .before .before .before .before .before .before .pre in
+    let l = c .before .before .before .before .before .before .before .before .before .before .before .before .before .before .before .before .before .before .before .before .before .before .before .before .before .before .loop in
     let k = c .before .before .before .before .before .before .before .before .before .before .before .before .before .before .put-new in
-    fill-turn _ _ _ _ _ _ _ _ _ _ (p .0 .records) (p .1) _ _ (l .inv) _ (rangesOf (k .last .0) (k .last .1 .0) (k .last .1 .1 .0) (k .last .1 .1 .1 .0) (k .last .1 .1 .1 .1 .0) (k .last .1 .1 .1 .1 .1 .0) (k .last .1 .1 .1 .1 .1 .1 .0)) (c .before .before .before .before .before .before .before .before .before .before .before .before .before .before .before .before .before .before .before .before .before .before .before .loop-test .taken) (c .before .before .before .before .before .before .before .before .before .before .before .before .before .before .before .before .before .before .before .before .before .before .new-rec .ensures) (k .ensures)
+    fill-turn _ _ _ _ _ _ _ _ _ _ (p .0 .records) (p .1) _ _ (l .inv) _ (rangesOf (k .last .0) (k .last .1 .0) (k .last .1 .1 .0) (k .last .1 .1 .1 .0) (k .last .1 .1 .1 .1 .0) (k .last .1 .1 .1 .1 .1 .0) (k .last .1 .1 .1 .1 .1 .1 .0)) _ _ (c .before .before .before .before .before .before .before .before .before .before .before .before .before .before .before .before .before .before .before .before .before .before .before .before .before .loop-test .taken) (c .before .before .before .before .before .before .before .before .before .before .before .before .before .before .before .before .before .before .before .before .before .before .before .before .from-at .ensures) (c .before .before .before .before .before .before .before .before .before .before .before .before .before .before .before .before .before .before .before .before .before .before .before .upto-at .ensures) (c .before .before .before .before .before .before .before .before .before .before .before .before .before .before .before .before .before .before .before .before .before .before .new-rec .ensures) (k .ensures)
 
 add-result : tie.Need-add-result Inv-loop μ-loop
 add-result c = omega (arith, c .before .before .before .before .before .before .before .before .before .pre .0 .records)
@@ -79,6 +85,8 @@ fill-spec =
     Inv-loop
     μ-loop
     loop-holds
+    from-at-requires
+    upto-at-requires
     new-rec-requires
     add-put-new
     put-new-requires

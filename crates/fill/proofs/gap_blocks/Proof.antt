@@ -6,37 +6,31 @@ use Rattle.fill.proofs.gap_blocks.Statement.{statement}
 use Rattle.fill.proofs.gap_blocks.Tie as tie
 
 abbrev Inv-loop : tie.InvT-loop
-Inv-loop x2 x3 x4 sum₀ i₀ sum i = Summing x3 x4 x2 sum i
+Inv-loop g k sum₀ i₀ sum i = Summing (g .from) (g .upto) k sum i
 
 abbrev μ-loop : tie.MeasureT-loop
-μ-loop x2 x3 x4 sum₀ i₀ sum i = x2 - i
+μ-loop g k sum₀ i₀ sum i = k - i
 
 loop-holds : tie.Need-loop-holds Inv-loop μ-loop
 loop-holds c = sum-start _ _ _
 
-mul-sum : tie.Need-mul-sum Inv-loop μ-loop
-mul-sum c = omega arith
+upto-at-requires : tie.Need-upto-at-requires Inv-loop μ-loop
+upto-at-requires c κs = omega (arith, c .before .before .pre .0, c .loop-test .taken)
 
-array-read-sum : tie.Need-array-read-sum Inv-loop μ-loop
-array-read-sum c = omega arith
-
-mul-sum-2 : tie.Need-mul-sum-2 Inv-loop μ-loop
-mul-sum-2 c = omega arith
-
-array-read-sum-2 : tie.Need-array-read-sum-2 Inv-loop μ-loop
-array-read-sum-2 c = omega arith
+from-at-requires : tie.Need-from-at-requires Inv-loop μ-loop
+from-at-requires c κs = omega (arith, c .before .before .before .pre .0, c .before .loop-test .taken)
 
 sub-sum : tie.Need-sub-sum Inv-loop μ-loop
 sub-sum c =
     let g = c .before .before .before .before .args .g in
-    let f = gap-filled (g .from) (g .upto) (g .n) (c .before .loop .i) (c .before .before .before .before .pre .1) (c .loop-test .taken) in
-    omega (arith, f .some)
+    let f = gap-filled (g .from) (g .upto) (g .n) (c .before .before .before .loop .i) (c .before .before .before .before .pre .1) (c .before .before .loop-test .taken) in
+    omega (arith, f .some, c .from-at .ensures, c .before .upto-at .ensures)
 
 add-sum : tie.Need-add-sum Inv-loop μ-loop
 add-sum c =
     let g = c .before .before .before .before .args .g in
-    let f = gap-filled (g .from) (g .upto) (g .n) (c .before .loop .i) (c .before .before .before .before .pre .1) (c .loop-test .taken) in
-    omega (arith, f .high, c .before .loop .inv .small)
+    let f = gap-filled (g .from) (g .upto) (g .n) (c .before .before .before .loop .i) (c .before .before .before .before .pre .1) (c .before .before .loop-test .taken) in
+    omega (arith, f .high, c .before .before .before .loop .inv .small, c .before .upto-at .ensures)
 
 add-i : tie.Need-add-i Inv-loop μ-loop
 add-i c = omega arith
@@ -47,8 +41,8 @@ loop-less c = omega arith
 loop-again : tie.Need-loop-again Inv-loop μ-loop
 loop-again c =
     let g = c .before .before .before .before .args .g in
-    let f = gap-filled (g .from) (g .upto) (g .n) (c .before .loop .i) (c .before .before .before .before .pre .1) (c .loop-test .taken) in
-    sum-turn _ _ _ _ _ (c .before .loop .inv) (c .loop-test .taken) f
+    let f = gap-filled (g .from) (g .upto) (g .n) (c .before .before .before .loop .i) (c .before .before .before .before .pre .1) (c .before .before .loop-test .taken) in
+    sum-turn _ _ _ _ _ _ _ (c .before .before .before .loop .inv) (c .before .before .loop-test .taken) f (c .from-at .ensures) (c .before .upto-at .ensures)
 
 returns : tie.Need-returns Inv-loop μ-loop
 returns c = sum-end _ _ _ _ _ (c .before .loop .inv) (c .loop-test .left)
@@ -60,10 +54,8 @@ gap-blocks-spec =
     Inv-loop
     μ-loop
     loop-holds
-    mul-sum
-    array-read-sum
-    mul-sum-2
-    array-read-sum-2
+    upto-at-requires
+    from-at-requires
     sub-sum
     add-sum
     add-i
