@@ -1,9 +1,11 @@
-//! Links the archive that `rt staticlib exports` writes. `rust/run` makes it first.
+//! Links the archives that `rt staticlib` writes. `rust/run` makes them first.
 
 fn main() {
     let root = concat!(env!("CARGO_MANIFEST_DIR"), "/..");
     let folder = format!("{root}/target/staticlib");
     println!("cargo:rustc-link-search=native={folder}");
-    println!("cargo:rustc-link-lib=static=exports");
-    println!("cargo:rerun-if-changed={folder}/libexports.a");
+    for name in ["exports", "checked"] {
+        println!("cargo:rustc-link-lib=static={name}");
+        println!("cargo:rerun-if-changed={folder}/lib{name}.a");
+    }
 }

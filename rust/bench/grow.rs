@@ -5,6 +5,7 @@ use crate::config::{EvictionPolicy as Theirs, HbmEviction};
 use crate::kv_cache::radix as source;
 use crate::ticks;
 use scorebeetle::{EvictionPolicy, Radix, Span, TierSource};
+use std::hint::black_box;
 use std::sync::Arc;
 
 const STORES: usize = 8;
@@ -59,6 +60,7 @@ fn library(nodes: u32) -> Radix {
 fn rust(nodes: u32) -> source::Radix {
     let mut radix = source::Radix::new(1, Arc::new(|k| k as u64));
     radix.register_worker(0, 0, HbmEviction::Lru {}, false);
+    radix.set_worker_lookup_tiers(0, vec![source::RadixTier::Store(0)]);
     (0..=STORES).for_each(|_| {
         radix.add_store(1_000_000, Theirs::Lru {});
     });
@@ -88,8 +90,8 @@ fn shortest(mut once: impl FnMut()) -> u64 {
 }
 
 pub fn run(tick: f64, mean: f64) {
-    println!("| Nodes, ranges a store | resolve | remove and bring | pin and unpin | expire | whole test |");
-    println!("|---|---|---|---|---|---|");
+    println!("| Nodes, ranges a store | resolve | insert | lookup | remove and bring | touch | pin and unpin | expire | whole test |");
+    println!("|---|---|---|---|---|---|---|---|---|");
     let mut full = 0.0;
     for nodes in LEVELS {
         let (mut ours, mut rust) = (library(nodes), rust(nodes));
@@ -102,8 +104,16 @@ pub fn run(tick: f64, mean: f64) {
         let their_store = source::TierSource::Store(0);
         let pairs = [
             (
-                shortest(|| drop(std::hint::black_box(rust.resolve(&last)))),
-                shortest(|| drop(std::hint::black_box(ours.resolve(&last)))),
+                shortest(|| drop(black_box(rust.resolve(&last)))),
+                shortest(|| drop(black_box(ours.resolve(&last)))),
+            ),
+            (
+                shortest(|| drop(black_box(rust.insert(&last)))),
+                shortest(|| drop(black_box(ours.insert(&last)))),
+            ),
+            (
+                shortest(|| drop(black_box(rust.lookup(0, &last)))),
+                shortest(|| drop(black_box(ours.lookup(&[0], &last)))),
             ),
             (
                 shortest(|| {
@@ -114,6 +124,10 @@ pub fn run(tick: f64, mean: f64) {
                     ours.store_remove(0, span).unwrap();
                     ours.store_insert(0, span, None, 1.0).unwrap();
                 }),
+            ),
+            (
+                shortest(|| rust.store_touched(0, &[theirs(span)], 2.0)),
+                shortest(|| ours.store_touched(0, &[span], 2.0).unwrap()),
             ),
             (
                 shortest(|| {

@@ -3,8 +3,11 @@
 //! are chosen from the tree; calls on which the source is known to differ
 //! (docs/DIFFERENCES.md) are not made.
 
+mod held;
+
 use crate::rng::Rng;
-use scorebeetle::{EvictionPolicy, Path, Radix, Span, TierSource};
+use held::Held;
+use scorebeetle::{EvictionPolicy, Path, Radix, Seg, Span, TierSource};
 use std::collections::BTreeSet;
 
 /// Calls from one set-up to the next.
@@ -12,6 +15,10 @@ pub const PER_SET_UP: usize = 800;
 
 pub const STORES: [(u32, EvictionPolicy); 2] =
     [(300, EvictionPolicy::Refresh), (700, EvictionPolicy::Fifo)];
+
+/// The lists of stores that lookups go through. The source has a worker for
+/// each.
+pub const TIERS: [&[usize]; 3] = [&[0, 1], &[1, 0], &[1]];
 
 /// The byte table.
 pub fn bytes(block: u32) -> u64 {
@@ -24,18 +31,25 @@ pub enum Call {
     /// The leaf that it adds, with its length.
     Insert(Vec<u64>, Option<(u32, u32)>),
     Resolve(Vec<u64>),
+    /// Through one of `TIERS`.
+    Lookup(usize, Vec<u64>),
     StoreInsert(usize, Span, u32, f64),
+    Promoted(usize, Vec<Span>, f64),
+    Touched(usize, Vec<Span>, f64),
     StoreRemove(usize, Span),
     StoreExpire(usize, f64, f64),
     Pin(usize, Span),
     Unpin(usize, Span),
 }
 
-pub const KINDS: [&str; 8] = [
+pub const KINDS: [&str; 11] = [
     "set-up",
     "insert",
     "resolve",
+    "lookup",
     "store_insert",
+    "store_promoted",
+    "store_touched",
     "store_remove",
     "store_expire",
     "pin_source",
@@ -48,11 +62,14 @@ impl Call {
             Call::SetUp => 0,
             Call::Insert(..) => 1,
             Call::Resolve(..) => 2,
-            Call::StoreInsert(..) => 3,
-            Call::StoreRemove(..) => 4,
-            Call::StoreExpire(..) => 5,
-            Call::Pin(..) => 6,
-            Call::Unpin(..) => 7,
+            Call::Lookup(..) => 3,
+            Call::StoreInsert(..) => 4,
+            Call::Promoted(..) => 5,
+            Call::Touched(..) => 6,
+            Call::StoreRemove(..) => 7,
+            Call::StoreExpire(..) => 8,
+            Call::Pin(..) => 9,
+            Call::Unpin(..) => 10,
         }
     }
 }
@@ -64,6 +81,7 @@ struct Maker {
     lists: Vec<Vec<u64>>,
     /// The children of each node.
     children: Vec<BTreeSet<u32>>,
+    held: Held,
     pins: Vec<(usize, Span)>,
     clock: f64,
     next_hash: u64,
@@ -76,6 +94,7 @@ pub fn calls(seed: u64, count: usize) -> Vec<Call> {
         calls: Vec::new(),
         lists: Vec::new(),
         children: Vec::new(),
+        held: Held::default(),
         pins: Vec::new(),
         clock: 0.0,
         next_hash: 1,
@@ -95,6 +114,7 @@ impl Maker {
         self.radix = Radix::new(bytes, &STORES).unwrap();
         self.lists.clear();
         self.children = vec![BTreeSet::new(); 256];
+        self.held = Held::default();
         self.pins.clear();
         self.calls.push(Call::SetUp);
     }
@@ -106,8 +126,11 @@ impl Maker {
         }
         match self.rng.below(100) {
             0..=9 => self.insert(),
-            10..=34 => self.resolve(),
-            35..=69 => self.store_insert(),
+            10..=26 => self.resolve(),
+            27..=36 => self.lookup(),
+            37..=59 => self.store_insert(),
+            60..=65 => self.promoted(),
+            66..=69 => self.touched(),
             70..=77 => self.store_remove(),
             78..=82 => self.store_expire(),
             83..=91 => self.pin(),
@@ -138,8 +161,11 @@ impl Maker {
         let list = self.fresh_list();
         let before = self.radix.resolve(&list).unwrap();
         if let Some(last) = before.segs.last() {
-            // A cut that would move pins is one on which the source differs.
-            if self.pins.iter().any(|(_, p)| p.node == last.node) {
+            // A cut that would move pins, or a mark to where nothing is held,
+            // is one on which the source differs.
+            if self.pins.iter().any(|(_, p)| p.node == last.node)
+                || self.held.marked_below(last.node, last.len)
+            {
                 return;
             }
         }
@@ -147,6 +173,7 @@ impl Maker {
             return;
         };
         if let Some(cut) = cut {
+            self.held.cut(cut);
             self.children[cut.new as usize] = std::mem::take(&mut self.children[cut.node as usize]);
             self.children[cut.node as usize].insert(cut.new);
         }
@@ -160,13 +187,24 @@ impl Maker {
             .push(Call::Insert(list, added.then_some((leaf.node, leaf.len))));
     }
 
-    fn resolve(&mut self) {
-        let list = if self.rng.one_in(3) {
+    /// A known list, or one that goes on past the tree.
+    fn asked(&mut self) -> Vec<u64> {
+        if self.rng.one_in(3) {
             self.fresh_list()
         } else {
             self.list()
-        };
+        }
+    }
+
+    fn resolve(&mut self) {
+        let list = self.asked();
         self.calls.push(Call::Resolve(list));
+    }
+
+    fn lookup(&mut self) {
+        let tiers = self.rng.below(TIERS.len() as u32) as usize;
+        let list = self.asked();
+        self.calls.push(Call::Lookup(tiers, list));
     }
 
     /// A span of a known path: a whole segment more often than a part.
@@ -196,8 +234,40 @@ impl Maker {
     fn store_insert(&mut self) {
         let (s, span, write) = (self.store(), self.span(), self.rng.below(3));
         let at = self.clock;
-        if self.radix.store_insert(s, span, Some(write), at).is_ok() {
+        if let Ok(out) = self.radix.store_insert(s, span, Some(write), at) {
+            self.held.add(s, span);
+            out.iter().for_each(|e| self.held.remove(s, e.span));
             self.calls.push(Call::StoreInsert(s, span, write, at));
+        }
+    }
+
+    /// A known path's segments, as a replay uses what it found, or one span.
+    fn used(&mut self) -> Vec<Span> {
+        if self.rng.one_in(2) {
+            return vec![self.span()];
+        }
+        let list = self.list();
+        let path = self.radix.resolve(&list).unwrap();
+        let whole = |s: &Seg| Span {
+            node: s.node,
+            start: 0,
+            end: s.len,
+        };
+        path.segs.iter().map(whole).collect()
+    }
+
+    fn promoted(&mut self) {
+        let (s, spans) = (self.store(), self.used());
+        if self.radix.store_promoted(s, &spans, self.clock).is_ok() {
+            spans.iter().for_each(|span| self.held.mark(s, *span));
+            self.calls.push(Call::Promoted(s, spans, self.clock));
+        }
+    }
+
+    fn touched(&mut self) {
+        let (s, spans) = (self.store(), self.used());
+        if self.radix.store_touched(s, &spans, self.clock).is_ok() {
+            self.calls.push(Call::Touched(s, spans, self.clock));
         }
     }
 
@@ -208,6 +278,7 @@ impl Maker {
             return;
         }
         if self.radix.store_remove(s, span).is_ok() {
+            self.held.remove(s, span);
             self.calls.push(Call::StoreRemove(s, span));
         }
     }
@@ -215,7 +286,8 @@ impl Maker {
     fn store_expire(&mut self) {
         let s = self.store();
         let seconds = self.rng.between(100, 500) as f64;
-        self.radix.store_expire(s, self.clock, seconds).unwrap();
+        let out = self.radix.store_expire(s, self.clock, seconds).unwrap();
+        out.iter().for_each(|e| self.held.remove(s, e.span));
         self.calls.push(Call::StoreExpire(s, self.clock, seconds));
     }
 

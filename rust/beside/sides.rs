@@ -3,7 +3,7 @@
 
 use crate::config::{EvictionPolicy, HbmEviction};
 use crate::kv_cache::radix as source;
-use crate::mix::{bytes, Call, STORES};
+use crate::mix::{bytes, Call, STORES, TIERS};
 use scorebeetle::{Radix, Span, TierSource};
 use std::sync::Arc;
 
@@ -21,11 +21,41 @@ fn path(blocks: u32, segs: impl Iterator<Item = (u32, u32)>) -> Vec<u64> {
     [blocks as u64].into_iter().chain(segs).collect()
 }
 
+fn found(
+    mut numbers: Vec<u64>,
+    spans: impl Iterator<Item = (usize, u32, u32, u32)>,
+    blocks: Vec<u32>,
+    bytes: Vec<u64>,
+) -> Vec<u64> {
+    let span = |(tier, node, start, end)| [tier as u64, node as u64, start as u64, end as u64];
+    numbers.extend(spans.flat_map(span));
+    numbers.extend(blocks.into_iter().map(u64::from));
+    numbers.extend(bytes);
+    numbers
+}
+
 pub struct Ours(pub Radix);
 
 impl Ours {
     pub fn new() -> Self {
         Self(Radix::new(bytes, &STORES).unwrap())
+    }
+
+    /// Every counter of every store.
+    #[allow(dead_code)]
+    pub fn counters(&self) -> Vec<u64> {
+        let r = &self.0;
+        let of_store = |s| {
+            [
+                r.store_held_blocks(s).unwrap() as u64,
+                r.store_capacity_blocks(s).unwrap() as u64,
+                r.store_pinned_blocks(s).unwrap() as u64,
+                r.store_available_for_stage(s).unwrap(),
+                r.source_version(TierSource::Store(s)).unwrap(),
+            ]
+        };
+        let stores = (0..STORES.len()).flat_map(of_store);
+        stores.chain([r.pin_stalls()]).collect()
     }
 }
 
@@ -49,6 +79,12 @@ fn ours_out(out: Vec<scorebeetle::TierEvicted>) -> Vec<u64> {
     out.into_iter().flat_map(one).collect()
 }
 
+fn ours_found(l: scorebeetle::HbmLookup) -> Vec<u64> {
+    let spans = l.tier_spans.iter();
+    let spans = spans.map(|t| (t.tier, t.span.node, t.span.start, t.span.end));
+    found(ours_path(l.path), spans, l.tier_blocks, l.tier_bytes)
+}
+
 impl Side for Ours {
     fn call(&mut self, call: &Call) -> Vec<u64> {
         let r = &mut self.0;
@@ -59,8 +95,14 @@ impl Side for Ours {
             }
             Call::Insert(list, _) => ours_path(r.insert(list).unwrap()),
             Call::Resolve(list) => ours_path(r.resolve(list).unwrap()),
+            Call::Lookup(tiers, list) => ours_found(r.lookup(TIERS[*tiers], list).unwrap()),
             Call::StoreInsert(s, span, write, at) => {
                 ours_out(r.store_insert(*s, *span, Some(*write), *at).unwrap())
+            }
+            Call::Promoted(s, spans, at) => vec![r.store_promoted(*s, spans, *at).unwrap()],
+            Call::Touched(s, spans, at) => {
+                r.store_touched(*s, spans, *at).unwrap();
+                Vec::new()
             }
             Call::StoreRemove(s, span) => {
                 let writes = r.store_remove(*s, *span).unwrap();
@@ -90,7 +132,11 @@ pub struct Source(source::Radix);
 impl Source {
     pub fn new() -> Self {
         let mut radix = source::Radix::new(1, Arc::new(bytes));
-        radix.register_worker(0, 0, HbmEviction::Lru {}, false);
+        for (worker, tiers) in TIERS.iter().enumerate() {
+            radix.register_worker(worker, 0, HbmEviction::Lru {}, false);
+            let tiers = tiers.iter().map(|s| source::RadixTier::Store(*s));
+            radix.set_worker_lookup_tiers(worker, tiers.collect());
+        }
         for (capacity, policy) in STORES {
             let policy = match policy {
                 scorebeetle::EvictionPolicy::Fifo => EvictionPolicy::Fifo {},
@@ -100,6 +146,22 @@ impl Source {
         }
         radix.add_store(u32::MAX, EvictionPolicy::Fifo {});
         Self(radix)
+    }
+
+    #[allow(dead_code)]
+    pub fn counters(&self) -> Vec<u64> {
+        let r = &self.0;
+        let of_store = |s| {
+            [
+                r.store_held_blocks(s) as u64,
+                r.store_capacity_blocks(s) as u64,
+                r.store_pinned_blocks(s) as u64,
+                r.store_available_for_stage(s),
+                r.source_version(source::TierSource::Store(s)),
+            ]
+        };
+        let stores = (0..STORES.len()).flat_map(of_store);
+        stores.chain([r.pin_stalls()]).collect()
     }
 }
 
@@ -131,6 +193,12 @@ fn source_out(out: Vec<source::TierEvicted>) -> Vec<u64> {
     out.into_iter().flat_map(one).collect()
 }
 
+fn source_found(l: source::HbmLookup) -> Vec<u64> {
+    let spans = l.tier_spans.iter();
+    let spans = spans.map(|t| (t.tier, t.span.node, t.span.start, t.span.end));
+    found(source_path(l.path), spans, l.tier_blocks, l.tier_bytes)
+}
+
 fn written(write: u32) -> Option<String> {
     (write != 0).then(|| write.to_string())
 }
@@ -145,8 +213,18 @@ impl Side for Source {
             }
             Call::Insert(list, _) => source_path(r.insert(list)),
             Call::Resolve(list) => source_path(r.resolve(list)),
+            Call::Lookup(worker, list) => source_found(r.lookup(*worker, list)),
             Call::StoreInsert(s, span, write, at) => {
                 source_out(r.store_insert(*s, theirs(span), written(*write), *at))
+            }
+            Call::Promoted(s, spans, at) => {
+                let spans: Vec<source::Span> = spans.iter().map(theirs).collect();
+                vec![r.store_promoted(*s, &spans, *at)]
+            }
+            Call::Touched(s, spans, at) => {
+                let spans: Vec<source::Span> = spans.iter().map(theirs).collect();
+                r.store_touched(*s, &spans, *at);
+                Vec::new()
             }
             Call::StoreRemove(s, span) => {
                 let writes = r.store_remove(*s, theirs(span));

@@ -30,13 +30,26 @@ macro_rules! exported {
     };
 }
 
-/// Calls one of them on the pools.
+/// Calls one of them on a `Radix`: the columns, the answer lists named in
+/// brackets, the books, the answer's values where there are some, then the
+/// arguments.
 macro_rules! call {
-    ($pools:expr, $name:ident $(, $arg:expr)* $(,)?) => {{
-        let p: &mut crate::pools::Pools = $pools;
-        // SAFETY: every pool is owned by `p`, as long as its array, and lent
-        // to this call alone; the state in them was set up by the library and
-        // changed by its functions only, so it is as their contracts ask.
+    ($radix:ident.$name:ident, $($arg:expr),* $(,)?) => {
+        crate::raw::call!(@ $radix $name [] [] $($arg),*)
+    };
+    ($radix:ident.$name:ident) => {
+        crate::raw::call!(@ $radix $name [] [])
+    };
+    ($radix:ident.$name:ident[$($list:ident),*] answer, $($arg:expr),* $(,)?) => {
+        crate::raw::call!(@ $radix $name [$($list)*] [answer] $($arg),*)
+    };
+    (@ $radix:ident $name:ident [$($list:ident)*] [$($answer:ident)?] $($arg:expr),*) => {{
+        #[allow(unused_variables)]
+        let crate::radix::Radix { pools: p, lists, books, .. } = $radix;
+        // SAFETY: the pools, lists and books are this `Radix`'s own, as long as
+        // their arrays, and lent to this call alone; the state in them was set
+        // up by the library and changed by its functions only, so it is as
+        // their contracts ask.
         unsafe {
             crate::raw::$name(
                 p.parent.as_mut_ptr(), p.parent.len(),
@@ -57,6 +70,9 @@ macro_rules! call {
                 p.pin_count.as_mut_ptr(), p.pin_count.len(),
                 p.marks.as_mut_ptr(), p.marks.len(),
                 p.bytes.as_mut_ptr(), p.bytes.len(),
+                $(lists.$list.as_mut_ptr(), lists.$list.len(),)*
+                books.as_mut_ptr(),
+                $(lists.$answer.as_mut_ptr(),)?
                 $($arg),*
             )
         }
@@ -77,12 +93,6 @@ exported! {
         books: *const u64, answer: *mut u64,
         hashes: *const u64, count: usize,
     ) -> u8;
-    scorebeetle_checked_resolve(
-        path_node: *mut usize, path_nodes: usize,
-        path_len: *mut usize, path_lens: usize,
-        books: *const u64, answer: *mut u64,
-        hashes: *const u64, count: usize,
-    ) -> u8;
     scorebeetle_insert(
         path_node: *mut usize, path_nodes: usize,
         path_len: *mut usize, path_lens: usize,
@@ -98,6 +108,14 @@ exported! {
         out_dead: *mut u64, out_dead_count: usize,
         books: *mut u64, answer: *mut u64,
         s: usize, on: usize, from: usize, upto: usize, time: f64, w: u32,
+    ) -> u8;
+    scorebeetle_store_used(
+        books: *mut u64, answer: *mut u64,
+        s: usize,
+        on: *const usize, ons: usize,
+        from: *const usize, froms: usize,
+        upto: *const usize, uptos: usize,
+        time: f64, counted: bool,
     ) -> u8;
     scorebeetle_store_remove(
         list: *mut u32, places: usize,
@@ -122,6 +140,30 @@ exported! {
         books: *mut u64,
         s: usize, on: usize, from: usize, upto: usize,
     ) -> u8;
+    scorebeetle_lookup(
+        path_node: *mut usize, path_nodes: usize,
+        path_len: *mut usize, path_lens: usize,
+        span_tier: *mut usize, span_tiers: usize,
+        span_node: *mut usize, span_nodes: usize,
+        span_start: *mut usize, span_starts: usize,
+        span_end: *mut usize, span_ends: usize,
+        books: *const u64, answer: *mut u64,
+        tiers: *const usize, tier_count: usize,
+        hashes: *const u64, count: usize,
+    ) -> u8;
+    scorebeetle_sound_state(books: *const u64) -> bool;
+    scorebeetle_checked_resolve(
+        path_node: *mut usize, path_nodes: usize,
+        path_len: *mut usize, path_lens: usize,
+        books: *const u64, answer: *mut u64,
+        hashes: *const u64, count: usize,
+    ) -> u8;
+    scorebeetle_checked_insert(
+        path_node: *mut usize, path_nodes: usize,
+        path_len: *mut usize, path_lens: usize,
+        books: *mut u64, answer: *mut u64,
+        hashes: *const u64, count: usize,
+    ) -> u8;
     scorebeetle_checked_store_insert(
         out_node: *mut usize, out_nodes: usize,
         out_start: *mut usize, out_starts: usize,
@@ -132,9 +174,42 @@ exported! {
         books: *mut u64, answer: *mut u64,
         s: usize, on: usize, from: usize, upto: usize, time: f64, w: u32,
     ) -> u8;
+    scorebeetle_checked_store_remove(
+        list: *mut u32, places: usize,
+        books: *mut u64, answer: *mut u64,
+        s: usize, on: usize, from: usize, upto: usize,
+    ) -> u8;
+    scorebeetle_checked_store_expire(
+        out_node: *mut usize, out_nodes: usize,
+        out_start: *mut usize, out_starts: usize,
+        out_end: *mut usize, out_ends: usize,
+        out_write: *mut u32, out_writes: usize,
+        out_bytes: *mut u64, out_byte_count: usize,
+        out_dead: *mut u64, out_dead_count: usize,
+        books: *mut u64, answer: *mut u64,
+        s: usize, now: f64, seconds: f64,
+    ) -> u8;
     scorebeetle_checked_pin_source(
         books: *mut u64,
         s: usize, on: usize, from: usize, upto: usize,
     ) -> u8;
-    scorebeetle_sound_state(books: *const u64) -> bool;
+    scorebeetle_checked_unpin_source(
+        books: *mut u64,
+        s: usize, on: usize, from: usize, upto: usize,
+    ) -> u8;
+    scorebeetle_checked_lookup(
+        path_node: *mut usize, path_nodes: usize,
+        path_len: *mut usize, path_lens: usize,
+        span_tier: *mut usize, span_tiers: usize,
+        span_node: *mut usize, span_nodes: usize,
+        span_start: *mut usize, span_starts: usize,
+        span_end: *mut usize, span_ends: usize,
+        books: *const u64, answer: *mut u64,
+        tiers: *const usize, tier_count: usize,
+        hashes: *const u64, count: usize,
+    ) -> u8;
+}
+
+extern "C" {
+    pub fn scorebeetle_counter(books: *const u64, answer: *mut u64, which: u8, s: usize) -> u8;
 }

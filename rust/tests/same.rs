@@ -18,7 +18,8 @@ mod sides;
 extern crate self as rustc_hash;
 pub use fx::FxHashMap;
 
-use scorebeetle::{EvictionPolicy, Radix, Refusal, Span, TierSource};
+use mix::Call;
+use scorebeetle::{EvictionPolicy, Radix, Refusal, Span, TierSource, TierSpan};
 use sides::{Ours, Side, Source};
 
 #[test]
@@ -26,11 +27,13 @@ fn every_answer_is_the_sources() {
     for seed in 1..=4 {
         let (mut ours, mut source) = (Ours::new(), Source::new());
         for (i, call) in mix::calls(seed, 8_000).iter().enumerate() {
+            let place = || format!("seed {seed}, call {i}: {call:?}");
             let theirs = source.call(call);
-            assert_eq!(ours.call(call), theirs, "seed {seed}, call {i}: {call:?}");
+            assert_eq!(ours.call(call), theirs, "{}", place());
             source.keep(call);
+            assert_eq!(ours.counters(), source.counters(), "{}", place());
             if i % 100 == 0 {
-                assert!(ours.0.sound_state(), "seed {seed}, call {i}");
+                assert!(ours.0.sound_state(), "{}", place());
             }
         }
     }
@@ -61,6 +64,21 @@ fn refusals_have_the_documents_numbers() {
     );
     assert_eq!(radix.unpin_source(store, span), Err(Refusal::NotPinned));
     assert_eq!(radix.resolve(&[0; 1025]), Err(Refusal::TooMany));
+    assert_eq!(radix.lookup(&[0, 1], &[1]), Err(Refusal::NoSuchStore));
+    assert_eq!(radix.lookup(&[0; 9], &[1]), Err(Refusal::TooMany));
+    assert_eq!(
+        radix.store_promoted(0, &[span; 65], 0.0),
+        Err(Refusal::TooMany)
+    );
+    assert_eq!(
+        radix.store_touched(1, &[span; 65], 0.0),
+        Err(Refusal::NoSuchStore)
+    );
+    assert_eq!(
+        radix.store_touched(0, &[span, past], 0.0),
+        Err(Refusal::NoSuchSpan)
+    );
+    assert_eq!(radix.store_promoted(0, &[span; 64], 0.0), Ok(0));
     assert_eq!(
         Radix::new(|k| k as u64, &[]).err(),
         Some(Refusal::OutsideTheRules)
@@ -92,4 +110,84 @@ fn counters_say_what_the_calls_did() {
     assert_eq!(radix.source_version(store), Ok(1));
     assert_eq!(radix.pin_stalls(), 0);
     assert_eq!(radix.store_held_blocks(1), Err(Refusal::NoSuchStore));
+}
+
+/// Document 01's E7, E8 and E12.
+#[test]
+fn examples_of_touch_and_lookup() {
+    let stores = [(4, EvictionPolicy::Refresh), (4, EvictionPolicy::Refresh)];
+    let mut radix = Radix::new(|k| 100 * k as u64, &stores).unwrap();
+    let list = [11, 12, 13, 14, 15];
+    radix.insert(&list).unwrap();
+    let span = |start, end| Span {
+        node: 1,
+        start,
+        end,
+    };
+    radix.store_insert(0, span(0, 5), Some(7), 10.0).unwrap();
+    assert_eq!(radix.store_promoted(0, &[span(1, 3)], 20.0), Ok(200));
+    let out = radix.store_insert(0, span(4, 5), None, 30.0).unwrap();
+    assert_eq!((out.len(), out[0].span), (1, span(0, 1)));
+    assert_eq!((out[0].bytes, out[0].dead_bytes), (100, 0));
+
+    radix.store_remove(0, span(0, 5)).unwrap();
+    radix.store_insert(0, span(2, 4), None, 40.0).unwrap();
+    radix.store_insert(1, span(0, 4), None, 40.0).unwrap();
+    let found = radix.lookup(&[0, 1], &list).unwrap();
+    let one = TierSpan {
+        tier: 1,
+        span: span(0, 4),
+        source: TierSource::Store(1),
+    };
+    assert_eq!(found.tier_spans, [one]);
+    assert_eq!((found.path.blocks, found.cached()), (5, 4));
+    assert_eq!(found.tier_blocks, [0, 4]);
+    assert_eq!(found.tier_bytes, [0, 400]);
+}
+
+/// The public calls answer as those with soundness known.
+#[test]
+fn checked_calls_answer_the_same() {
+    let mut known = Radix::new(mix::bytes, &mix::STORES).unwrap();
+    let mut checked = Radix::new(mix::bytes, &mix::STORES).unwrap();
+    for call in mix::calls(5, mix::PER_SET_UP) {
+        let (a, b) = (&mut known, &mut checked);
+        let store = |s: &usize| TierSource::Store(*s);
+        match &call {
+            Call::SetUp => {}
+            Call::Insert(list, _) => assert_eq!(a.insert(list), b.checked_insert(list)),
+            Call::Resolve(list) => assert_eq!(a.resolve(list), b.checked_resolve(list)),
+            Call::Lookup(t, list) => assert_eq!(
+                a.lookup(mix::TIERS[*t], list),
+                b.checked_lookup(mix::TIERS[*t], list)
+            ),
+            Call::StoreInsert(s, span, write, at) => assert_eq!(
+                a.store_insert(*s, *span, Some(*write), *at),
+                b.checked_store_insert(*s, *span, Some(*write), *at)
+            ),
+            Call::Promoted(s, spans, at) => assert_eq!(
+                a.store_promoted(*s, spans, *at),
+                b.store_promoted(*s, spans, *at)
+            ),
+            Call::Touched(s, spans, at) => assert_eq!(
+                a.store_touched(*s, spans, *at),
+                b.store_touched(*s, spans, *at)
+            ),
+            Call::StoreRemove(s, span) => {
+                assert_eq!(a.store_remove(*s, *span), b.checked_store_remove(*s, *span))
+            }
+            Call::StoreExpire(s, now, seconds) => assert_eq!(
+                a.store_expire(*s, *now, *seconds),
+                b.checked_store_expire(*s, *now, *seconds)
+            ),
+            Call::Pin(s, span) => assert_eq!(
+                a.pin_source(store(s), *span),
+                b.checked_pin_source(store(s), *span)
+            ),
+            Call::Unpin(s, span) => assert_eq!(
+                a.unpin_source(store(s), *span),
+                b.checked_unpin_source(store(s), *span)
+            ),
+        }
+    }
 }

@@ -1,22 +1,27 @@
 // The calls that Rust makes: the columns in their order, the answer lists, the books with the small numbers, a list for the answer's values, then the
 // arguments. The result is 0, or the refusal's number. What is asked of the state, one owner guarantees who sets up once and changes it by these calls only.
-mod books;
-mod told;
-
+use answers::Count;
+use lent::Small;
 use model::Span;
 ghost use mathlib.Core.Path.{_≡_};
 ghost use Prim.Native.Nat.{_≤_};
 ghost use lib.ListN.{length};
 ghost use Rattle.model.specs.Words.{Says};
 ghost use Rattle.model.specs.Sizes.{outPlaces};
+ghost use Rattle.model.specs.State.{State};
 ghost use Rattle.model.specs.Sound.{Sound};
 ghost use Rattle.model.specs.Refusals.{PathFits, OutFits, TierFits};
-ghost use Rattle.model.specs.Calls.{setUp, resolveCall, insert as insertCall, storeInsert, storeRemove, storeExpire, pinSource, unpinSource};
+ghost use Rattle.model.specs.Calls.{setUp, resolveCall, insert as insertCall, storeInsert, storeUsed, storeRemove, storeExpire, pinSource, unpinSource};
 ghost use Rattle.tree.specs.Walk.{pathListOf};
 ghost use Rattle.evicted.specs.Evicted.{outList};
-ghost use Rattle.answers.specs.Answers.{stateFrom, outcome};
-ghost use Rattle.exports.specs.Books.{smallFrom};
-ghost use Rattle.exports.specs.Told.{toldPlain, toldCount, toldPath, toldInserted};
+ghost use Rattle.tiers.specs.Tiers.{tierListOf};
+ghost use Rattle.looking.specs.Looking.{listsOf, LookedUp};
+ghost use Rattle.counters.specs.Counted.{Of};
+ghost use Rattle.usedcols.specs.Spans.{spansOf};
+ghost use Rattle.answers.specs.Answers.{stateFrom, outcome, countOf};
+ghost use Rattle.exported.specs.Books.{smallFrom};
+ghost use Rattle.exported.specs.Told.{toldPlain, toldCount, toldPath, toldInserted, toldLooked};
+ghost use Rattle.exports.specs.Counter.{counterCall};
 
 // Sets up the tree and the stores, one for each capacity.
 #[no_mangle]
@@ -47,7 +52,7 @@ pub extern "C" fn scorebeetle_set_up(
     requires { ⌜ length (now books) ≡ 69 ⌝ }
     ensures { λ r. ⌜ outcome (stateFrom (now (parent .exit)) (now (depth .exit)) (now (len .exit)) (now (run .exit)) (now (words .entry)) (now (node .entry)) (now (start .entry)) (now (end .entry)) (now (id .entry)) (now (stamp .entry)) (now (touched .entry)) (now (write .entry)) (now («pin_node» .entry)) (now («pin_start» .entry)) (now («pin_end» .entry)) (now («pin_count» .entry)) (now (marks .exit)) (now (bytes .exit)) (smallFrom (now (books .exit)))) tt (toldPlain r) ≡ setUp (stateFrom (now (parent .entry)) (now (depth .entry)) (now (len .entry)) (now (run .entry)) (now (words .entry)) (now (node .entry)) (now (start .entry)) (now (end .entry)) (now (id .entry)) (now (stamp .entry)) (now (touched .entry)) (now (write .entry)) (now («pin_node» .entry)) (now («pin_start» .entry)) (now («pin_end» .entry)) (now («pin_count» .entry)) (now (marks .entry)) (now (bytes .entry)) (smallFrom (now (books .entry)))) (now (table .entry)) (now (capacity .entry)) (now (refreshes .entry)) ⌝ }
 {
-    let x = books::small_from(books);
+    let x = exported::books::small_from(books);
     let r = setup::set_up(
         parent,
         depth,
@@ -74,8 +79,8 @@ pub extern "C" fn scorebeetle_set_up(
     );
     let small = r.small;
     let a = r.answer;
-    books::keep_small(books, small);
-    told::plain(a)
+    exported::books::keep_small(books, small);
+    exported::told::plain(a)
 }
 
 // How far the tree has a list.
@@ -108,7 +113,7 @@ pub extern "C" fn scorebeetle_resolve(
     requires { ⌜ Sound (stateFrom (now parent) (now depth) (now len) (now run) (now words) (now node) (now start) (now end) (now id) (now stamp) (now touched) (now write) (now «pin_node») (now «pin_start») (now «pin_end») (now «pin_count») (now marks) (now bytes) (smallFrom (now books))) × PathFits (pathListOf (now «path_node») (now «path_len»)) × (length (now answer) ≡ 19) ⌝ }
     ensures { λ r. ⌜ outcome (stateFrom (now (parent .entry)) (now (depth .entry)) (now (len .entry)) (now (run .entry)) (now (words .entry)) (now (node .entry)) (now (start .entry)) (now (end .entry)) (now (id .entry)) (now (stamp .entry)) (now (touched .entry)) (now (write .entry)) (now («pin_node» .entry)) (now («pin_start» .entry)) (now («pin_end» .entry)) (now («pin_count» .entry)) (now (marks .entry)) (now (bytes .entry)) (smallFrom (now (books .entry)))) (pathListOf (now («path_node» .exit)) (now («path_len» .exit))) (toldPath r (now (answer .exit))) ≡ resolveCall (stateFrom (now (parent .entry)) (now (depth .entry)) (now (len .entry)) (now (run .entry)) (now (words .entry)) (now (node .entry)) (now (start .entry)) (now (end .entry)) (now (id .entry)) (now (stamp .entry)) (now (touched .entry)) (now (write .entry)) (now («pin_node» .entry)) (now («pin_start» .entry)) (now («pin_end» .entry)) (now («pin_count» .entry)) (now (marks .entry)) (now (bytes .entry)) (smallFrom (now (books .entry)))) (pathListOf (now («path_node» .entry)) (now («path_len» .entry))) (now (hashes .entry)) ⌝ }
 {
-    let x = books::small_from(books);
+    let x = exported::books::small_from(books);
     let r = resolving::resolve(
         parent,
         depth,
@@ -133,7 +138,68 @@ pub extern "C" fn scorebeetle_resolve(
         x,
         hashes,
     );
-    told::path(answer, r)
+    exported::told::path(answer, r)
+}
+
+// A list into the tree.
+#[no_mangle]
+pub extern "C" fn scorebeetle_insert(
+    parent: &mut [usize],
+    depth: &mut [usize],
+    len: &mut [usize],
+    run: &mut [usize],
+    words: &mut [u64],
+    node: &mut [usize],
+    start: &mut [usize],
+    end: &mut [usize],
+    id: &mut [u64],
+    stamp: &mut [u64],
+    touched: &mut [f64],
+    write: &mut [u32],
+    pin_node: &mut [usize],
+    pin_start: &mut [usize],
+    pin_end: &mut [usize],
+    pin_count: &mut [u64],
+    marks: &mut [usize],
+    bytes: &[u64],
+    path_node: &mut [usize],
+    path_len: &mut [usize],
+    books: &mut [u64; 69],
+    answer: &mut [u64; 19],
+    hashes: &[u64],
+) -> u8
+    requires { ⌜ Sound (stateFrom (now parent) (now depth) (now len) (now run) (now words) (now node) (now start) (now end) (now id) (now stamp) (now touched) (now write) (now «pin_node») (now «pin_start») (now «pin_end») (now «pin_count») (now marks) (now bytes) (smallFrom (now books))) × PathFits (pathListOf (now «path_node») (now «path_len»)) × (length (now books) ≡ 69) × (length (now answer) ≡ 19) ⌝ }
+    ensures { λ r. ⌜ outcome (stateFrom (now (parent .exit)) (now (depth .exit)) (now (len .exit)) (now (run .exit)) (now (words .exit)) (now (node .exit)) (now (start .exit)) (now (end .exit)) (now (id .exit)) (now (stamp .exit)) (now (touched .exit)) (now (write .exit)) (now («pin_node» .exit)) (now («pin_start» .exit)) (now («pin_end» .exit)) (now («pin_count» .exit)) (now (marks .exit)) (now (bytes .entry)) (smallFrom (now (books .exit)))) (pathListOf (now («path_node» .exit)) (now («path_len» .exit))) (toldInserted r (now (answer .exit))) ≡ insertCall (stateFrom (now (parent .entry)) (now (depth .entry)) (now (len .entry)) (now (run .entry)) (now (words .entry)) (now (node .entry)) (now (start .entry)) (now (end .entry)) (now (id .entry)) (now (stamp .entry)) (now (touched .entry)) (now (write .entry)) (now («pin_node» .entry)) (now («pin_start» .entry)) (now («pin_end» .entry)) (now («pin_count» .entry)) (now (marks .entry)) (now (bytes .entry)) (smallFrom (now (books .entry)))) (pathListOf (now («path_node» .entry)) (now («path_len» .entry))) (now (hashes .entry)) ⌝ }
+{
+    let x = exported::books::small_from(books);
+    let r = inserting::insert(
+        parent,
+        depth,
+        len,
+        run,
+        words,
+        node,
+        start,
+        end,
+        id,
+        stamp,
+        touched,
+        write,
+        pin_node,
+        pin_start,
+        pin_end,
+        pin_count,
+        marks,
+        bytes,
+        path_node,
+        path_len,
+        x,
+        hashes,
+    );
+    let small = r.small;
+    let a = r.answer;
+    exported::books::keep_small(books, small);
+    exported::told::inserted(answer, a)
 }
 
 // A span into store s.
@@ -175,7 +241,7 @@ pub extern "C" fn scorebeetle_store_insert(
     requires { ⌜ Sound (stateFrom (now parent) (now depth) (now len) (now run) (now words) (now node) (now start) (now end) (now id) (now stamp) (now touched) (now write) (now «pin_node») (now «pin_start») (now «pin_end») (now «pin_count») (now marks) (now bytes) (smallFrom (now books))) × OutFits (outList (now «out_node») (now «out_start») (now «out_end») (now «out_write») (now «out_bytes») (now «out_dead»)) × (length (now books) ≡ 69) × (length (now answer) ≡ 19) ⌝ }
     ensures { λ r. ⌜ outcome (stateFrom (now (parent .entry)) (now (depth .entry)) (now (len .entry)) (now (run .entry)) (now (words .entry)) (now (node .exit)) (now (start .exit)) (now (end .exit)) (now (id .exit)) (now (stamp .exit)) (now (touched .exit)) (now (write .exit)) (now («pin_node» .entry)) (now («pin_start» .entry)) (now («pin_end» .entry)) (now («pin_count» .entry)) (now (marks .exit)) (now (bytes .entry)) (smallFrom (now (books .exit)))) (outList (now («out_node» .exit)) (now («out_start» .exit)) (now («out_end» .exit)) (now («out_write» .exit)) (now («out_bytes» .exit)) (now («out_dead» .exit))) (toldCount r (now (answer .exit))) ≡ storeInsert (stateFrom (now (parent .entry)) (now (depth .entry)) (now (len .entry)) (now (run .entry)) (now (words .entry)) (now (node .entry)) (now (start .entry)) (now (end .entry)) (now (id .entry)) (now (stamp .entry)) (now (touched .entry)) (now (write .entry)) (now («pin_node» .entry)) (now («pin_start» .entry)) (now («pin_end» .entry)) (now («pin_count» .entry)) (now (marks .entry)) (now (bytes .entry)) (smallFrom (now (books .entry)))) (outList (now («out_node» .entry)) (now («out_start» .entry)) (now («out_end» .entry)) (now («out_write» .entry)) (now («out_bytes» .entry)) (now («out_dead» .entry))) s (record { node = on; start = from; end = upto }) time w ⌝ }
 {
-    let x = books::small_from(books);
+    let x = exported::books::small_from(books);
     let sp = Span {
         node: on,
         start: from,
@@ -214,8 +280,75 @@ pub extern "C" fn scorebeetle_store_insert(
     );
     let small = r.small;
     let a = r.answer;
-    books::keep_small(books, small);
-    told::count(answer, a)
+    exported::books::keep_small(books, small);
+    exported::told::count(answer, a)
+}
+
+// The spans of three lists, in turn, used in store s.
+#[no_mangle]
+pub extern "C" fn scorebeetle_store_used(
+    parent: &[usize],
+    depth: &[usize],
+    len: &[usize],
+    run: &[usize],
+    words: &[u64],
+    node: &mut [usize],
+    start: &mut [usize],
+    end: &mut [usize],
+    id: &mut [u64],
+    stamp: &mut [u64],
+    touched: &mut [f64],
+    write: &mut [u32],
+    pin_node: &[usize],
+    pin_start: &[usize],
+    pin_end: &[usize],
+    pin_count: &[u64],
+    marks: &mut [usize],
+    bytes: &[u64],
+    books: &mut [u64; 69],
+    answer: &mut [u64; 19],
+    s: usize,
+    on: &[usize],
+    from: &[usize],
+    upto: &[usize],
+    time: f64,
+    counted: bool,
+) -> u8
+    requires { ⌜ Sound (stateFrom (now parent) (now depth) (now len) (now run) (now words) (now node) (now start) (now end) (now id) (now stamp) (now touched) (now write) (now «pin_node») (now «pin_start») (now «pin_end») (now «pin_count») (now marks) (now bytes) (smallFrom (now books))) × (length (now from) ≡ length (now on)) × (length (now upto) ≡ length (now on)) × (length (now books) ≡ 69) × (length (now answer) ≡ 19) ⌝ }
+    ensures { λ r. ⌜ outcome (stateFrom (now (parent .entry)) (now (depth .entry)) (now (len .entry)) (now (run .entry)) (now (words .entry)) (now (node .exit)) (now (start .exit)) (now (end .exit)) (now (id .exit)) (now (stamp .exit)) (now (touched .exit)) (now (write .exit)) (now («pin_node» .entry)) (now («pin_start» .entry)) (now («pin_end» .entry)) (now («pin_count» .entry)) (now (marks .exit)) (now (bytes .entry)) (smallFrom (now (books .exit)))) tt (toldCount r (now (answer .exit))) ≡ storeUsed (stateFrom (now (parent .entry)) (now (depth .entry)) (now (len .entry)) (now (run .entry)) (now (words .entry)) (now (node .entry)) (now (start .entry)) (now (end .entry)) (now (id .entry)) (now (stamp .entry)) (now (touched .entry)) (now (write .entry)) (now («pin_node» .entry)) (now («pin_start» .entry)) (now («pin_end» .entry)) (now («pin_count» .entry)) (now (marks .entry)) (now (bytes .entry)) (smallFrom (now (books .entry)))) s (spansOf (now (on .entry)) (now (from .entry)) (now (upto .entry))) time counted ⌝ }
+{
+    let x = exported::books::small_from(books);
+    let r = usedcols::store_used(
+        parent,
+        depth,
+        len,
+        run,
+        words,
+        node,
+        start,
+        end,
+        id,
+        stamp,
+        touched,
+        write,
+        pin_node,
+        pin_start,
+        pin_end,
+        pin_count,
+        marks,
+        bytes,
+        x,
+        s,
+        on,
+        from,
+        upto,
+        time,
+        counted,
+    );
+    let small = r.small;
+    let a = r.answer;
+    exported::books::keep_small(books, small);
+    exported::told::count(answer, a)
 }
 
 // A span out of store s.
@@ -250,7 +383,7 @@ pub extern "C" fn scorebeetle_store_remove(
     requires { ⌜ Sound (stateFrom (now parent) (now depth) (now len) (now run) (now words) (now node) (now start) (now end) (now id) (now stamp) (now touched) (now write) (now «pin_node») (now «pin_start») (now «pin_end») (now «pin_count») (now marks) (now bytes) (smallFrom (now books))) × (outPlaces ≤ length (now list)) × (length (now books) ≡ 69) × (length (now answer) ≡ 19) ⌝ }
     ensures { λ r. ⌜ outcome (stateFrom (now (parent .entry)) (now (depth .entry)) (now (len .entry)) (now (run .entry)) (now (words .entry)) (now (node .exit)) (now (start .exit)) (now (end .exit)) (now (id .exit)) (now (stamp .exit)) (now (touched .exit)) (now (write .exit)) (now («pin_node» .entry)) (now («pin_start» .entry)) (now («pin_end» .entry)) (now («pin_count» .entry)) (now (marks .exit)) (now (bytes .entry)) (smallFrom (now (books .exit)))) (now (list .exit)) (toldCount r (now (answer .exit))) ≡ storeRemove (stateFrom (now (parent .entry)) (now (depth .entry)) (now (len .entry)) (now (run .entry)) (now (words .entry)) (now (node .entry)) (now (start .entry)) (now (end .entry)) (now (id .entry)) (now (stamp .entry)) (now (touched .entry)) (now (write .entry)) (now («pin_node» .entry)) (now («pin_start» .entry)) (now («pin_end» .entry)) (now («pin_count» .entry)) (now (marks .entry)) (now (bytes .entry)) (smallFrom (now (books .entry)))) (now (list .entry)) s (record { node = on; start = from; end = upto }) ⌝ }
 {
-    let x = books::small_from(books);
+    let x = exported::books::small_from(books);
     let sp = Span {
         node: on,
         start: from,
@@ -282,8 +415,8 @@ pub extern "C" fn scorebeetle_store_remove(
     );
     let small = r.small;
     let a = r.answer;
-    books::keep_small(books, small);
-    told::count(answer, a)
+    exported::books::keep_small(books, small);
+    exported::told::count(answer, a)
 }
 
 // What is older than the seconds leaves store s.
@@ -322,7 +455,7 @@ pub extern "C" fn scorebeetle_store_expire(
     requires { ⌜ Sound (stateFrom (now parent) (now depth) (now len) (now run) (now words) (now node) (now start) (now end) (now id) (now stamp) (now touched) (now write) (now «pin_node») (now «pin_start») (now «pin_end») (now «pin_count») (now marks) (now bytes) (smallFrom (now books))) × OutFits (outList (now «out_node») (now «out_start») (now «out_end») (now «out_write») (now «out_bytes») (now «out_dead»)) × (length (now books) ≡ 69) × (length (now answer) ≡ 19) ⌝ }
     ensures { λ r. ⌜ outcome (stateFrom (now (parent .entry)) (now (depth .entry)) (now (len .entry)) (now (run .entry)) (now (words .entry)) (now (node .exit)) (now (start .exit)) (now (end .exit)) (now (id .exit)) (now (stamp .exit)) (now (touched .exit)) (now (write .exit)) (now («pin_node» .entry)) (now («pin_start» .entry)) (now («pin_end» .entry)) (now («pin_count» .entry)) (now (marks .exit)) (now (bytes .entry)) (smallFrom (now (books .exit)))) (outList (now («out_node» .exit)) (now («out_start» .exit)) (now («out_end» .exit)) (now («out_write» .exit)) (now («out_bytes» .exit)) (now («out_dead» .exit))) (toldCount r (now (answer .exit))) ≡ storeExpire (stateFrom (now (parent .entry)) (now (depth .entry)) (now (len .entry)) (now (run .entry)) (now (words .entry)) (now (node .entry)) (now (start .entry)) (now (end .entry)) (now (id .entry)) (now (stamp .entry)) (now (touched .entry)) (now (write .entry)) (now («pin_node» .entry)) (now («pin_start» .entry)) (now («pin_end» .entry)) (now («pin_count» .entry)) (now (marks .entry)) (now (bytes .entry)) (smallFrom (now (books .entry)))) (outList (now («out_node» .entry)) (now («out_start» .entry)) (now («out_end» .entry)) (now («out_write» .entry)) (now («out_bytes» .entry)) (now («out_dead» .entry))) s time seconds ⌝ }
 {
-    let x = books::small_from(books);
+    let x = exported::books::small_from(books);
     let r = storeexpire::store_expire(
         parent,
         depth,
@@ -355,8 +488,8 @@ pub extern "C" fn scorebeetle_store_expire(
     );
     let small = r.small;
     let a = r.answer;
-    books::keep_small(books, small);
-    told::count(answer, a)
+    exported::books::keep_small(books, small);
+    exported::told::count(answer, a)
 }
 
 // A pin on a span of store s.
@@ -389,7 +522,7 @@ pub extern "C" fn scorebeetle_pin_source(
     requires { ⌜ Sound (stateFrom (now parent) (now depth) (now len) (now run) (now words) (now node) (now start) (now end) (now id) (now stamp) (now touched) (now write) (now «pin_node») (now «pin_start») (now «pin_end») (now «pin_count») (now marks) (now bytes) (smallFrom (now books))) × (length (now books) ≡ 69) ⌝ }
     ensures { λ r. ⌜ outcome (stateFrom (now (parent .entry)) (now (depth .entry)) (now (len .entry)) (now (run .entry)) (now (words .entry)) (now (node .entry)) (now (start .entry)) (now (end .entry)) (now (id .entry)) (now (stamp .entry)) (now (touched .entry)) (now (write .entry)) (now («pin_node» .exit)) (now («pin_start» .exit)) (now («pin_end» .exit)) (now («pin_count» .exit)) (now (marks .entry)) (now (bytes .entry)) (smallFrom (now (books .exit)))) tt (toldPlain r) ≡ pinSource (stateFrom (now (parent .entry)) (now (depth .entry)) (now (len .entry)) (now (run .entry)) (now (words .entry)) (now (node .entry)) (now (start .entry)) (now (end .entry)) (now (id .entry)) (now (stamp .entry)) (now (touched .entry)) (now (write .entry)) (now («pin_node» .entry)) (now («pin_start» .entry)) (now («pin_end» .entry)) (now («pin_count» .entry)) (now (marks .entry)) (now (bytes .entry)) (smallFrom (now (books .entry)))) s (record { node = on; start = from; end = upto }) ⌝ }
 {
-    let x = books::small_from(books);
+    let x = exported::books::small_from(books);
     let sp = Span {
         node: on,
         start: from,
@@ -420,8 +553,8 @@ pub extern "C" fn scorebeetle_pin_source(
     );
     let small = r.small;
     let a = r.answer;
-    books::keep_small(books, small);
-    told::plain(a)
+    exported::books::keep_small(books, small);
+    exported::told::plain(a)
 }
 
 // A pin off a span of store s.
@@ -454,7 +587,7 @@ pub extern "C" fn scorebeetle_unpin_source(
     requires { ⌜ Sound (stateFrom (now parent) (now depth) (now len) (now run) (now words) (now node) (now start) (now end) (now id) (now stamp) (now touched) (now write) (now «pin_node») (now «pin_start») (now «pin_end») (now «pin_count») (now marks) (now bytes) (smallFrom (now books))) × (length (now books) ≡ 69) ⌝ }
     ensures { λ r. ⌜ outcome (stateFrom (now (parent .entry)) (now (depth .entry)) (now (len .entry)) (now (run .entry)) (now (words .entry)) (now (node .entry)) (now (start .entry)) (now (end .entry)) (now (id .entry)) (now (stamp .entry)) (now (touched .entry)) (now (write .entry)) (now («pin_node» .exit)) (now («pin_start» .exit)) (now («pin_end» .exit)) (now («pin_count» .exit)) (now (marks .entry)) (now (bytes .entry)) (smallFrom (now (books .exit)))) tt (toldPlain r) ≡ unpinSource (stateFrom (now (parent .entry)) (now (depth .entry)) (now (len .entry)) (now (run .entry)) (now (words .entry)) (now (node .entry)) (now (start .entry)) (now (end .entry)) (now (id .entry)) (now (stamp .entry)) (now (touched .entry)) (now (write .entry)) (now («pin_node» .entry)) (now («pin_start» .entry)) (now («pin_end» .entry)) (now («pin_count» .entry)) (now (marks .entry)) (now (bytes .entry)) (smallFrom (now (books .entry)))) s (record { node = on; start = from; end = upto }) ⌝ }
 {
-    let x = books::small_from(books);
+    let x = exported::books::small_from(books);
     let sp = Span {
         node: on,
         start: from,
@@ -485,74 +618,13 @@ pub extern "C" fn scorebeetle_unpin_source(
     );
     let small = r.small;
     let a = r.answer;
-    books::keep_small(books, small);
-    told::plain(a)
+    exported::books::keep_small(books, small);
+    exported::told::plain(a)
 }
 
-// A list into the tree.
+// What the tiers hold of a list, along its path from block 0.
 #[no_mangle]
-pub extern "C" fn scorebeetle_insert(
-    parent: &mut [usize],
-    depth: &mut [usize],
-    len: &mut [usize],
-    run: &mut [usize],
-    words: &mut [u64],
-    node: &mut [usize],
-    start: &mut [usize],
-    end: &mut [usize],
-    id: &mut [u64],
-    stamp: &mut [u64],
-    touched: &mut [f64],
-    write: &mut [u32],
-    pin_node: &mut [usize],
-    pin_start: &mut [usize],
-    pin_end: &mut [usize],
-    pin_count: &mut [u64],
-    marks: &mut [usize],
-    bytes: &[u64],
-    path_node: &mut [usize],
-    path_len: &mut [usize],
-    books: &mut [u64; 69],
-    answer: &mut [u64; 19],
-    hashes: &[u64],
-) -> u8
-    requires { ⌜ Sound (stateFrom (now parent) (now depth) (now len) (now run) (now words) (now node) (now start) (now end) (now id) (now stamp) (now touched) (now write) (now «pin_node») (now «pin_start») (now «pin_end») (now «pin_count») (now marks) (now bytes) (smallFrom (now books))) × PathFits (pathListOf (now «path_node») (now «path_len»)) × (length (now books) ≡ 69) × (length (now answer) ≡ 19) ⌝ }
-    ensures { λ r. ⌜ outcome (stateFrom (now (parent .exit)) (now (depth .exit)) (now (len .exit)) (now (run .exit)) (now (words .exit)) (now (node .exit)) (now (start .exit)) (now (end .exit)) (now (id .exit)) (now (stamp .exit)) (now (touched .exit)) (now (write .exit)) (now («pin_node» .exit)) (now («pin_start» .exit)) (now («pin_end» .exit)) (now («pin_count» .exit)) (now (marks .exit)) (now (bytes .entry)) (smallFrom (now (books .exit)))) (pathListOf (now («path_node» .exit)) (now («path_len» .exit))) (toldInserted r (now (answer .exit))) ≡ insertCall (stateFrom (now (parent .entry)) (now (depth .entry)) (now (len .entry)) (now (run .entry)) (now (words .entry)) (now (node .entry)) (now (start .entry)) (now (end .entry)) (now (id .entry)) (now (stamp .entry)) (now (touched .entry)) (now (write .entry)) (now («pin_node» .entry)) (now («pin_start» .entry)) (now («pin_end» .entry)) (now («pin_count» .entry)) (now (marks .entry)) (now (bytes .entry)) (smallFrom (now (books .entry)))) (pathListOf (now («path_node» .entry)) (now («path_len» .entry))) (now (hashes .entry)) ⌝ }
-{
-    let x = books::small_from(books);
-    let r = inserting::insert(
-        parent,
-        depth,
-        len,
-        run,
-        words,
-        node,
-        start,
-        end,
-        id,
-        stamp,
-        touched,
-        write,
-        pin_node,
-        pin_start,
-        pin_end,
-        pin_count,
-        marks,
-        bytes,
-        path_node,
-        path_len,
-        x,
-        hashes,
-    );
-    let small = r.small;
-    let a = r.answer;
-    books::keep_small(books, small);
-    told::inserted(answer, a)
-}
-
-// How far the tree has a list, on any state.
-#[no_mangle]
-pub extern "C" fn scorebeetle_checked_resolve(
+pub extern "C" fn scorebeetle_lookup(
     parent: &[usize],
     depth: &[usize],
     len: &[usize],
@@ -573,15 +645,20 @@ pub extern "C" fn scorebeetle_checked_resolve(
     bytes: &[u64],
     path_node: &mut [usize],
     path_len: &mut [usize],
+    span_tier: &mut [usize],
+    span_node: &mut [usize],
+    span_start: &mut [usize],
+    span_end: &mut [usize],
     books: &[u64; 69],
     answer: &mut [u64; 19],
+    tiers: &[usize],
     hashes: &[u64],
 ) -> u8
-    requires { ⌜ (length (now answer) ≡ 19) ⌝ }
-    ensures { λ r. ⌜ outcome (stateFrom (now (parent .entry)) (now (depth .entry)) (now (len .entry)) (now (run .entry)) (now (words .entry)) (now (node .entry)) (now (start .entry)) (now (end .entry)) (now (id .entry)) (now (stamp .entry)) (now (touched .entry)) (now (write .entry)) (now («pin_node» .entry)) (now («pin_start» .entry)) (now («pin_end» .entry)) (now («pin_count» .entry)) (now (marks .entry)) (now (bytes .entry)) (smallFrom (now (books .entry)))) (pathListOf (now («path_node» .exit)) (now («path_len» .exit))) (toldPath r (now (answer .exit))) ≡ resolveCall (stateFrom (now (parent .entry)) (now (depth .entry)) (now (len .entry)) (now (run .entry)) (now (words .entry)) (now (node .entry)) (now (start .entry)) (now (end .entry)) (now (id .entry)) (now (stamp .entry)) (now (touched .entry)) (now (write .entry)) (now («pin_node» .entry)) (now («pin_start» .entry)) (now («pin_end» .entry)) (now («pin_count» .entry)) (now (marks .entry)) (now (bytes .entry)) (smallFrom (now (books .entry)))) (pathListOf (now («path_node» .entry)) (now («path_len» .entry))) (now (hashes .entry)) ⌝ }
+    requires { ⌜ Sound (stateFrom (now parent) (now depth) (now len) (now run) (now words) (now node) (now start) (now end) (now id) (now stamp) (now touched) (now write) (now «pin_node») (now «pin_start») (now «pin_end») (now «pin_count») (now marks) (now bytes) (smallFrom (now books))) × PathFits (pathListOf (now «path_node») (now «path_len»)) × TierFits (tierListOf (now «span_tier») (now «span_node») (now «span_start») (now «span_end»)) × (length (now answer) ≡ 19) ⌝ }
+    ensures { λ r. ⌜ LookedUp (stateFrom (now (parent .entry)) (now (depth .entry)) (now (len .entry)) (now (run .entry)) (now (words .entry)) (now (node .entry)) (now (start .entry)) (now (end .entry)) (now (id .entry)) (now (stamp .entry)) (now (touched .entry)) (now (write .entry)) (now («pin_node» .entry)) (now («pin_start» .entry)) (now («pin_end» .entry)) (now («pin_count» .entry)) (now (marks .entry)) (now (bytes .entry)) (smallFrom (now (books .entry)))) (listsOf (pathListOf (now («path_node» .entry)) (now («path_len» .entry))) (tierListOf (now («span_tier» .entry)) (now («span_node» .entry)) (now («span_start» .entry)) (now («span_end» .entry)))) (now (tiers .entry)) (now (hashes .entry)) (listsOf (pathListOf (now («path_node» .exit)) (now («path_len» .exit))) (tierListOf (now («span_tier» .exit)) (now («span_node» .exit)) (now («span_start» .exit)) (now («span_end» .exit)))) (toldLooked r (now (answer .exit))) ⌝ }
 {
-    let x = books::small_from(books);
-    let r = publictree::resolve(
+    let x = exported::books::small_from(books);
+    let r = looking::lookup(
         parent,
         depth,
         len,
@@ -602,157 +679,46 @@ pub extern "C" fn scorebeetle_checked_resolve(
         bytes,
         path_node,
         path_len,
+        span_tier,
+        span_node,
+        span_start,
+        span_end,
         x,
+        tiers,
         hashes,
     );
-    told::path(answer, r)
+    exported::told::looked(answer, r)
 }
 
-// A span into store s, on any state.
+// A counter by its number.
+fn counter_of(x: Small, which: u8, s: usize) -> Count
+    requires { ⌜ x .stores ≤ 8 ⌝ }
+    ensures { λ r. ⌜ ((st : State) → Of x st → countOf r ≡ counterCall which st s .answer) ⌝ }
+{
+    match which {
+        0 => counters::store_held_blocks(x, s),
+        1 => counters::store_capacity_blocks(x, s),
+        2 => counters::store_pinned_blocks(x, s),
+        3 => counters::store_available_for_stage(x, s),
+        4 => counters::source_version(x, s),
+        _ => counters::pin_stalls(x),
+    }
+}
+
+// A counter of store s by its number: blocks held, capacity, blocks pinned, blocks available, version, and the stalls of all stores.
 #[no_mangle]
-pub extern "C" fn scorebeetle_checked_store_insert(
-    parent: &[usize],
-    depth: &[usize],
-    len: &[usize],
-    run: &[usize],
-    words: &[u64],
-    node: &mut [usize],
-    start: &mut [usize],
-    end: &mut [usize],
-    id: &mut [u64],
-    stamp: &mut [u64],
-    touched: &mut [f64],
-    write: &mut [u32],
-    pin_node: &[usize],
-    pin_start: &[usize],
-    pin_end: &[usize],
-    pin_count: &[u64],
-    marks: &mut [usize],
-    bytes: &[u64],
-    out_node: &mut [usize],
-    out_start: &mut [usize],
-    out_end: &mut [usize],
-    out_write: &mut [u32],
-    out_bytes: &mut [u64],
-    out_dead: &mut [u64],
-    books: &mut [u64; 69],
+pub extern "C" fn scorebeetle_counter(
+    books: &[u64; 69],
     answer: &mut [u64; 19],
+    which: u8,
     s: usize,
-    on: usize,
-    from: usize,
-    upto: usize,
-    time: f64,
-    w: u32,
 ) -> u8
-    requires { ⌜ (length (now books) ≡ 69) × (length (now answer) ≡ 19) ⌝ }
-    ensures { λ r. ⌜ outcome (stateFrom (now (parent .entry)) (now (depth .entry)) (now (len .entry)) (now (run .entry)) (now (words .entry)) (now (node .exit)) (now (start .exit)) (now (end .exit)) (now (id .exit)) (now (stamp .exit)) (now (touched .exit)) (now (write .exit)) (now («pin_node» .entry)) (now («pin_start» .entry)) (now («pin_end» .entry)) (now («pin_count» .entry)) (now (marks .exit)) (now (bytes .entry)) (smallFrom (now (books .exit)))) (outList (now («out_node» .exit)) (now («out_start» .exit)) (now («out_end» .exit)) (now («out_write» .exit)) (now («out_bytes» .exit)) (now («out_dead» .exit))) (toldCount r (now (answer .exit))) ≡ storeInsert (stateFrom (now (parent .entry)) (now (depth .entry)) (now (len .entry)) (now (run .entry)) (now (words .entry)) (now (node .entry)) (now (start .entry)) (now (end .entry)) (now (id .entry)) (now (stamp .entry)) (now (touched .entry)) (now (write .entry)) (now («pin_node» .entry)) (now («pin_start» .entry)) (now («pin_end» .entry)) (now («pin_count» .entry)) (now (marks .entry)) (now (bytes .entry)) (smallFrom (now (books .entry)))) (outList (now («out_node» .entry)) (now («out_start» .entry)) (now («out_end» .entry)) (now («out_write» .entry)) (now («out_bytes» .entry)) (now («out_dead» .entry))) s (record { node = on; start = from; end = upto }) time w ⌝ }
+    requires { ⌜ (smallFrom (now books) .stores ≤ 8) × (length (now answer) ≡ 19) ⌝ }
+    ensures { λ r. ⌜ ((st : State) → Of (smallFrom (now (books .entry))) st → toldCount r (now (answer .exit)) ≡ counterCall which st s .answer) ⌝ }
 {
-    let x = books::small_from(books);
-    let sp = Span {
-        node: on,
-        start: from,
-        end: upto,
-    };
-    let r = publicstore::store_insert(
-        parent,
-        depth,
-        len,
-        run,
-        words,
-        node,
-        start,
-        end,
-        id,
-        stamp,
-        touched,
-        write,
-        pin_node,
-        pin_start,
-        pin_end,
-        pin_count,
-        marks,
-        bytes,
-        out_node,
-        out_start,
-        out_end,
-        out_write,
-        out_bytes,
-        out_dead,
-        x,
-        s,
-        sp,
-        time,
-        w,
-    );
-    let small = r.small;
-    let a = r.answer;
-    books::keep_small(books, small);
-    told::count(answer, a)
-}
-
-// A pin on a span of store s, on any state.
-#[no_mangle]
-pub extern "C" fn scorebeetle_checked_pin_source(
-    parent: &[usize],
-    depth: &[usize],
-    len: &[usize],
-    run: &[usize],
-    words: &[u64],
-    node: &[usize],
-    start: &[usize],
-    end: &[usize],
-    id: &[u64],
-    stamp: &[u64],
-    touched: &[f64],
-    write: &[u32],
-    pin_node: &mut [usize],
-    pin_start: &mut [usize],
-    pin_end: &mut [usize],
-    pin_count: &mut [u64],
-    marks: &[usize],
-    bytes: &[u64],
-    books: &mut [u64; 69],
-    s: usize,
-    on: usize,
-    from: usize,
-    upto: usize,
-) -> u8
-    requires { ⌜ (length (now books) ≡ 69) ⌝ }
-    ensures { λ r. ⌜ outcome (stateFrom (now (parent .entry)) (now (depth .entry)) (now (len .entry)) (now (run .entry)) (now (words .entry)) (now (node .entry)) (now (start .entry)) (now (end .entry)) (now (id .entry)) (now (stamp .entry)) (now (touched .entry)) (now (write .entry)) (now («pin_node» .exit)) (now («pin_start» .exit)) (now («pin_end» .exit)) (now («pin_count» .exit)) (now (marks .entry)) (now (bytes .entry)) (smallFrom (now (books .exit)))) tt (toldPlain r) ≡ pinSource (stateFrom (now (parent .entry)) (now (depth .entry)) (now (len .entry)) (now (run .entry)) (now (words .entry)) (now (node .entry)) (now (start .entry)) (now (end .entry)) (now (id .entry)) (now (stamp .entry)) (now (touched .entry)) (now (write .entry)) (now («pin_node» .entry)) (now («pin_start» .entry)) (now («pin_end» .entry)) (now («pin_count» .entry)) (now (marks .entry)) (now (bytes .entry)) (smallFrom (now (books .entry)))) s (record { node = on; start = from; end = upto }) ⌝ }
-{
-    let x = books::small_from(books);
-    let sp = Span {
-        node: on,
-        start: from,
-        end: upto,
-    };
-    let r = publicpins::pin_source(
-        parent,
-        depth,
-        len,
-        run,
-        words,
-        node,
-        start,
-        end,
-        id,
-        stamp,
-        touched,
-        write,
-        pin_node,
-        pin_start,
-        pin_end,
-        pin_count,
-        marks,
-        bytes,
-        x,
-        s,
-        sp,
-    );
-    let small = r.small;
-    let a = r.answer;
-    books::keep_small(books, small);
-    told::plain(a)
+    let x = exported::books::small_from(books);
+    let a = counter_of(x, which, s);
+    exported::told::count(answer, a)
 }
 
 // Whether the state is sound, the whole test.
@@ -780,7 +746,7 @@ pub extern "C" fn scorebeetle_sound_state(
 ) -> bool
     ensures { λ r. ⌜ Says r (Sound (stateFrom (now (parent .entry)) (now (depth .entry)) (now (len .entry)) (now (run .entry)) (now (words .entry)) (now (node .entry)) (now (start .entry)) (now (end .entry)) (now (id .entry)) (now (stamp .entry)) (now (touched .entry)) (now (write .entry)) (now («pin_node» .entry)) (now («pin_start» .entry)) (now («pin_end» .entry)) (now («pin_count» .entry)) (now (marks .entry)) (now (bytes .entry)) (smallFrom (now (books .entry))))) ⌝ }
 {
-    let x = books::small_from(books);
+    let x = exported::books::small_from(books);
     sound::sound_state(
         parent,
         depth,

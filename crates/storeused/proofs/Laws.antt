@@ -45,7 +45,7 @@ use Rattle.usedspan.specs.declared.Old.{Old}
 use Rattle.usedspan.specs.declared.Turn.{Turn}
 use Rattle.usedspan.specs.Turn.{Others, whole, pick, firstNumber, Begun, four, refusing, looked, turnNumber, oldRanges, oldFrom, keptOld, undone, TurnReady, Ready, Taken, Gone, Turned, Finished}
 use Rattle.storeused.specs.Going.{number, On, Off, Going, AtFirst, Turns}
-use Rattle.storeused.specs.Looking.{bad, lookedAt, Looking, Looks}
+use Rattle.storeused.specs.Looking.{bad, lookedAt, refusedBy, Looking, Looks}
 use Rattle.usedspan.proofs.Laws.{number-fits, touch-marks-long, touch-bytes-most}
 
 -- ---- a part put back over what was laid there
@@ -151,7 +151,7 @@ look-small {t} {sps} {y₀} {i} {y} o = ap (λ (z : Turn). z .small) (o .is) ∙
 -- ---- the pass of turns
 
 -- the first number that is not 0
-abbrev next : ℕ → ℕ → ℕ
+abbrev pub next : ℕ → ℕ → ℕ
 next zero m = m
 next (suc k) m = suc k
 
@@ -164,7 +164,7 @@ next-some : (k m : ℕ) → (k ≡ 0 → ⊥) → k ≡ next k m
 next-some zero m n = absurd (n refl)
 next-some (suc k) m n = refl
 
-next-none : (k m : ℕ) → k ≡ 0 → m ≡ next k m
+pub next-none : (k m : ℕ) → k ≡ 0 → m ≡ next k m
 next-none k m e = ap (λ (j : ℕ). next j m) (sym e)
 
 split-list : (sps : List Span) (i : ℕ) → i < length sps → drop i sps ≡ getD sps i noSpan ∷ drop (i + 1) sps
@@ -174,7 +174,7 @@ module _ (st : State) (s : ℕ) (sp : Span) (rest : List Span) (time : Float) (c
   abbrev w : Touched
   w = touchedBy st s sp time counted
 
-  turn-first : firstOf (turnRefusals st s (sp ∷ rest) time counted)
+  pub turn-first : firstOf (turnRefusals st s (sp ∷ rest) time counted)
       ≡ next (turnNumber (at (st .books .records) s) (w .need) (at (st .books .stamp) s) (w .stamps) (st .books .nextId))
       (firstOf (turnRefusals (touchSpan st s sp time counted) s rest time counted))
   turn-first =
@@ -192,11 +192,11 @@ module _ (st : State) (s : ℕ) (sp : Span) (rest : List Span) (time : Float) (c
 
 -- what a taken turn changes
 module _ (st : State) (s : ℕ) (sp : Span) (time : Float) (counted : Bool) where
-  touched-tree : touchSpan st s sp time counted .tree ≡ st .tree
+  pub touched-tree : touchSpan st s sp time counted .tree ≡ st .tree
   unfolding touchSpan
   touched-tree = refl
 
-  touched-stores : touchSpan st s sp time counted .books .stores ≡ st .books .stores
+  pub touched-stores : touchSpan st s sp time counted .books .stores ≡ st .books .stores
   unfolding touchSpan
   touched-stores = refl
 
@@ -271,7 +271,7 @@ module _ (st₀ : State) (s : ℕ) (sps : List Span) (time : Float) (counted : B
       old-here : keptOld (y .turns) (y .old) (y .s) (st .ranges) (st .marks) ≡ keptOld i (y .old) s (st .ranges) (st .marks)
       old-here = (λ j. keptOld (v .turns j) (y .old) (v .store j) (st .ranges) (st .marks))
 
-      off-next : (r .refused ≡ 0 → ⊥) → Off st₀ s sps time counted st′ r
+      pub off-next : (r .refused ≡ 0 → ⊥) → Off st₀ s sps time counted st′ r
       off-next n =
           let e : 1 ≤ r .refused = omega arith in
           let k = g .stopped e ∙ (λ j. undone (v .store j) (old-here j) st) in
@@ -307,7 +307,7 @@ module _ (st₀ : State) (s : ℕ) (sps : List Span) (time : Float) (counted : B
         old-is : keptOld (i + 1) (r .old) s (st′ .ranges) (st′ .marks) ≡ keptOld i (y .old) s (st .ranges) (st .marks)
         old-is = ap (λ (k : ℕ). keptOld k (r .old) s (st′ .ranges) (st′ .marks)) (add-one i) ∙ t .old ∙ old-here
 
-        on-next : On st₀ s sps time counted (i + 1) st′ r
+        pub on-next : On st₀ s sps time counted (i + 1) st′ r
         on-next =
             let old = keptOld i (y .old) s (st .ranges) (st .marks) in
             let b = bytes-most in
@@ -367,10 +367,6 @@ module _ (st₀ : State) (s : ℕ) (sps : List Span) (time : Float) (counted : B
             }
 
 -- ---- before the first turn
-
-abbrev refusedBy : Bool → ℕ → ℕ
-refusedBy true n = four n
-refusedBy false n = n
 
 looked-number : (b : Bool) (y : Turn) → lookedAt b y .refused ≡ refusedBy b (y .refused)
 looked-number true y = refl
@@ -461,22 +457,22 @@ module _ (st₀ : State) (s : ℕ) (sps : List Span) (time : Float) (counted : B
 
 -- ---- after the last turn
 
-outcome-refused : (n : ℕ) (st : State) (o : Outcome (Unit {0}) ℕ) → (n ≡ 0 → ⊥) → outcome st tt (refused n) ≡ unless n st tt o
+pub outcome-refused : (n : ℕ) (st : State) (o : Outcome (Unit {0}) ℕ) → (n ≡ 0 → ⊥) → outcome st tt (refused n) ≡ unless n st tt o
 outcome-refused zero st o n = absurd (n refl)
 outcome-refused (suc k) st o n = refl
 
-outcome-done : (n : ℕ) (st st′ : State) (a a′ : ℕ) → n ≡ 0 → st′ ≡ st → a ≡ a′ → (st₀ : State) (o : Outcome (Unit {0}) ℕ)
+pub outcome-done : (n : ℕ) (st st′ : State) (a a′ : ℕ) → n ≡ 0 → st′ ≡ st → a ≡ a′ → (st₀ : State) (o : Outcome (Unit {0}) ℕ)
     → o ≡ record { state = st; lists = tt; answer = done a′ } → _≡_ {A = Outcome (Unit {0}) ℕ} (outcome st′ tt (done a)) (unless n st₀ tt o)
 outcome-done n st st′ a a′ e f g st₀ o h = (λ i. outcome (f i) tt (done (g i))) ∙ sym h ∙ ap (λ (k : ℕ). unless k st₀ tt o) (sym e)
 
-none-left : (sps : List Span) (i : ℕ) → length sps ≤ i → i ≤ length sps → drop i sps ≡ []
+pub none-left : (sps : List Span) (i : ℕ) → length sps ≤ i → i ≤ length sps → drop i sps ≡ []
 none-left sps i a b = let e : i ≡ length sps = omega arith in ap (λ (k : ℕ). drop k sps) e ∙ drop-length sps
 
-no-bytes : (st : State) (s : ℕ) (time : Float) (counted : Bool) → bytesTouched st s [] time counted ≡ 0
+pub no-bytes : (st : State) (s : ℕ) (time : Float) (counted : Bool) → bytesTouched st s [] time counted ≡ 0
 unfolding bytesTouched
 no-bytes st s time counted = refl
 
-no-spans : (st : State) (s : ℕ) (time : Float) (counted : Bool) → touchSpans st s [] time counted ≡ st
+pub no-spans : (st : State) (s : ℕ) (time : Float) (counted : Bool) → touchSpans st s [] time counted ≡ st
 unfolding touchSpans
 no-spans st s time counted = refl
 
@@ -523,32 +519,11 @@ module _ (o : Others) (depth bytes : List ℕ) (c₀ : Ranges) (ms₀ : List ℕ
     small-is : y .small ≡ x
     small-is = look-small v ∙ b .small
 
-    pub look-nodes : y .small .nodes ≤ length (o .len)
-    look-nodes = rw small-is (omega (arith, h .counts .nodes, h .lent .tree .len))
-
-    pub look-more : (r : Turn) (sp : Span) → i < length sps → sp ≡ getD sps i noSpan
-        → ((t : Tree) → t .len ≡ o .len → t .nodes ≡ y .small .nodes → r ≡ looked (spanIn t sp) y) → Looking (began .tree) sps y₀ (i + 1) r
-    look-more r sp less e f =
-        look-next (began .tree) sps y₀ i y r v less
-        (f (began .tree) refl (ap (λ (q : Small). q .nodes) (sym small-is)) ∙ ap (λ (q : Span). looked (spanIn (began .tree) q) y) e)
-
     pub look-all : length sps ≤ i → Going began s sps time counted 0 (whole o depth bytes c₀ ms₀ (y .small)) y
     look-all over =
         let n : i ≡ length sps = omega (arith, v .high) in
         subst (λ (q : Small). Going began s sps time counted 0 (whole o depth bytes c₀ ms₀ q) y) (sym small-is)
         (going-start began s sps time counted h x y₀ y b refl (subst (λ (k : ℕ). y ≡ lookedAt (any k (bad (began .tree) sps)) y₀) n (v .is)))
-
-  module _ (i : ℕ) (c : Ranges) (ms : List ℕ) (y : Turn) (sp : Span) (less : i < length sps) (e : sp ≡ getD sps i noSpan)
-      (g : Going began s sps time counted i (whole o depth bytes c ms (y .small)) y) where
-    pub turn-asks : Ready sp depth bytes c ms y
-    turn-asks = rw e (going-ready began s sps time counted i o depth bytes c ms y less g)
-
-    pub turn-more : (c′ : Ranges) (ms′ : List ℕ) (r : Turn)
-        → ((q : Others) → Turned sp (whole q depth bytes c ms (y .small)) y (whole q depth bytes c′ ms′ (r .small)) r)
-        → Going began s sps time counted (i + 1) (whole o depth bytes c′ ms′ (r .small)) r
-    turn-more c′ ms′ r f =
-        going-next began s sps time counted i less (whole o depth bytes c ms (y .small)) (whole o depth bytes c′ ms′ (r .small)) y r g
-        (subst (λ (q : Span). Turned q (whole o depth bytes c ms (y .small)) y (whole o depth bytes c′ ms′ (r .small)) r) e (f o))
 
 -- ---- the first spans of an array
 
@@ -563,9 +538,6 @@ module _ (l : List Span) (count : ℕ) (long : length l ≡ 64) (few : count ≤
 
   pub array-at : (i : ℕ) (d : Span) → i < count → getD l i d ≡ getD (take count l) i noSpan
   array-at i d h = other-default l i d noSpan (omega arith) ∙ sym (getD-take count l i noSpan h)
-
-  pub array-begun : {x : Small} {s : ℕ} {time : Float} {counted : Bool} {y : Turn} → Begun x s count time counted y → Begun x s (length (take count l)) time counted y
-  array-begun {x} {s} {time} {counted} {y} b = subst (λ (n : ℕ). Begun x s n time counted y) (sym array-long) b
 
   pub array-in : {i : ℕ} → i < count → i < length (take count l)
   array-in {i} h = omega (arith, array-long)

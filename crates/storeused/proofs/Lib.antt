@@ -1,2 +1,4 @@
 pub mod Laws
+pub mod Room
+pub mod Running
 pub mod Lent

@@ -19,6 +19,11 @@ abbrev pub lookedAt : Bool → Turn → Turn
 lookedAt true y = refusing (four (y .refused)) y
 lookedAt false y = y
 
+-- the number n, or 4 before it, after a look at spans of which some are bad, or none
+abbrev pub refusedBy : Bool → ℕ → ℕ
+refusedBy true n = four n
+refusedBy false n = n
+
 pub record Looking (t : Tree) (sps : List Span) (y₀ : Turn) (i : ℕ) (y : Turn) : Type 0 where
   pub high : i ≤ length sps
   pub is : y ≡ lookedAt (any i (bad t sps)) y₀

@@ -1,15 +1,22 @@
+use answers::Count;
 use answers::Counted;
 use lent::Small;
 use model::Span;
+use usedspan::Run;
 use usedspan::Turn;
 ghost use mathlib.Core.Path.{_≡_};
-ghost use Prim.Native.Nat.{_≤_};
+ghost use Prim.Native.Nat.{_≤_, _<_};
 ghost use lib.ListN.{length, take};
+ghost use Rattle.model.specs.Sizes.{maxStamp};
+ghost use Rattle.model.specs.Words.{Says, any};
+ghost use Rattle.model.specs.State.{Tree};
 ghost use Rattle.model.specs.Sound.{Sound};
 ghost use Rattle.model.specs.Calls.{storeUsed};
 ghost use Rattle.lent.specs.Lent.{rangesOf};
-ghost use Rattle.storeused.specs.Looking.{Looks};
+ghost use Rattle.usedspan.specs.Turn.{Others, whole, firstNumber, smallWith};
+ghost use Rattle.storeused.specs.Looking.{bad, refusedBy, Looks};
 ghost use Rattle.storeused.specs.Going.{AtFirst, Turns};
+ghost use Rattle.storeused.specs.Running.{Starts, CanStart, Went, Roomy, runDone, Outcomes};
 ghost use Rattle.answers.specs.Answers.{stateFrom, outcome, countOf};
 
 // The spans of a lent list, one call for each, before the first turn: 4 if one of them is not one of the tree.
@@ -66,7 +73,171 @@ pub fn touch_spans(
     y
 }
 
-// The same with the first `count` spans of an array by value: for callers that have no slice of spans.
+// 2, 3, 4 or 5, before any turn of the first `count` spans, or 0.
+fn first_refusal(
+    len: &[usize],
+    nodes: usize,
+    stores: usize,
+    s: usize,
+    spans: [Span; 64],
+    count: usize,
+    time: f64,
+) -> u8
+    requires { ⌜ (nodes ≤ length (now len)) × (count ≤ 64) ⌝ }
+    ensures { λ r. ⌜ ((t : Tree) → t .len ≡ now (len .entry) → t .nodes ≡ nodes → r ≡ refusedBy (any (length (take count spans)) (bad t (take count spans))) (firstNumber stores s (length (take count spans)) time)) ⌝ }
+{
+    let first = usedspan::first_number(stores, s, count, time);
+    let mut i = 0;
+    while i < count {
+        let sp = spans[i];
+        if !refuse::span_in(len, nodes, sp) {
+            return usedspan::four_first(first);
+        }
+        i += 1;
+    }
+    first
+}
+
+// The first `count` spans in turn, up to the first that is refused. That one writes nothing; what the earlier ones wrote stands.
+fn take_turns(
+    node: &mut [usize],
+    start: &mut [usize],
+    end: &mut [usize],
+    id: &mut [u64],
+    stamp: &mut [u64],
+    touched: &mut [f64],
+    write: &mut [u32],
+    marks: &mut [usize],
+    depth: &[usize],
+    bytes: &[u64],
+    s: usize,
+    refreshes: bool,
+    spans: [Span; 64],
+    count: usize,
+    time: f64,
+    counted: bool,
+    y: Run,
+) -> Run
+    requires { ⌜ CanStart (take count spans) (now depth) (now bytes) (rangesOf (now node) (now start) (now end) (now id) (now stamp) (now touched) (now write)) (now marks) s refreshes time counted y × (count ≤ 64) ⌝ }
+    ensures { λ r. ⌜ ((o : Others) (x : Small) → Starts o x (take count spans) (now (depth .entry)) (now (bytes .entry)) (rangesOf (now (node .entry)) (now (start .entry)) (now (end .entry)) (now (id .entry)) (now (stamp .entry)) (now (touched .entry)) (now (write .entry))) (now (marks .entry)) s refreshes time counted y → Went (whole o (now (depth .entry)) (now (bytes .entry)) (rangesOf (now (node .entry)) (now (start .entry)) (now (end .entry)) (now (id .entry)) (now (stamp .entry)) (now (touched .entry)) (now (write .entry))) (now (marks .entry)) x) s (take count spans) time counted (whole o (now (depth .entry)) (now (bytes .entry)) (rangesOf (now (node .exit)) (now (start .exit)) (now (end .exit)) (now (id .exit)) (now (stamp .exit)) (now (touched .exit)) (now (write .exit))) (now (marks .exit)) (smallWith s r x)) r) ⌝ }
+{
+    let mut z = y;
+    let mut j = 0;
+    while j < count {
+        let sp = spans[j];
+        z = usedspan::one_turn(
+            sp,
+            node,
+            start,
+            end,
+            id,
+            stamp,
+            touched,
+            write,
+            marks,
+            depth,
+            bytes,
+            s,
+            refreshes,
+            time,
+            counted,
+            z,
+        );
+        if z.number != 0 {
+            return z;
+        }
+        j += 1;
+    }
+    z
+}
+
+// No turn of `count` spans can be refused: each needs two records and ids and one stamp at most.
+fn roomy(n: usize, top: u64, next: u64, count: usize) -> bool
+    requires { ⌜ (count ≤ 64) × (n ≤ 128) × (top ≤ maxStamp) × (next ≤ maxStamp) ⌝ }
+    ensures { λ r. ⌜ Says r (Roomy n top next count) ⌝ }
+{
+    if 128 < n + 2 * count {
+        return false;
+    }
+    if 281474976710655 - top < count as u64 {
+        return false;
+    }
+    if 281474976710655 - next < 2 * (count as u64) {
+        return false;
+    }
+    true
+}
+
+// The small numbers with those of a run of store s, and the bytes read.
+fn run_done(x: Small, s: usize, y: Run) -> Counted
+    requires { ⌜ s < 8 ⌝ }
+    ensures { λ r. ⌜ r ≡ runDone x s y ⌝ }
+{
+    let mut small = x;
+    small.next = y.next;
+    small.records[s] = y.n;
+    small.stamp[s] = y.top;
+    Counted {
+        small,
+        answer: Count::Done(y.sum),
+    }
+}
+
+// The turns where one may be refused: the store's part is kept, and put back then.
+fn touch_kept(
+    node: &mut [usize],
+    start: &mut [usize],
+    end: &mut [usize],
+    id: &mut [u64],
+    stamp: &mut [u64],
+    touched: &mut [f64],
+    write: &mut [u32],
+    marks: &mut [usize],
+    depth: &[usize],
+    bytes: &[u64],
+    x: Small,
+    s: usize,
+    refreshes: bool,
+    spans: [Span; 64],
+    count: usize,
+    time: f64,
+    counted: bool,
+    y: Run,
+) -> Counted
+    requires { ⌜ CanStart (take count spans) (now depth) (now bytes) (rangesOf (now node) (now start) (now end) (now id) (now stamp) (now touched) (now write)) (now marks) s refreshes time counted y × (count ≤ 64) ⌝ }
+    ensures { λ r. ⌜ ((o : Others) → Starts o x (take count spans) (now (depth .entry)) (now (bytes .entry)) (rangesOf (now (node .entry)) (now (start .entry)) (now (end .entry)) (now (id .entry)) (now (stamp .entry)) (now (touched .entry)) (now (write .entry))) (now (marks .entry)) s refreshes time counted y → Outcomes (whole o (now (depth .entry)) (now (bytes .entry)) (rangesOf (now (node .entry)) (now (start .entry)) (now (end .entry)) (now (id .entry)) (now (stamp .entry)) (now (touched .entry)) (now (write .entry))) (now (marks .entry)) x) s (take count spans) time counted (whole o (now (depth .entry)) (now (bytes .entry)) (rangesOf (now (node .exit)) (now (start .exit)) (now (end .exit)) (now (id .exit)) (now (stamp .exit)) (now (touched .exit)) (now (write .exit))) (now (marks .exit)) (r .small)) r) ⌝ }
+{
+    let old = usedspan::keep(node, start, end, id, stamp, touched, write, marks, s);
+    let z = take_turns(
+        node,
+        start,
+        end,
+        id,
+        stamp,
+        touched,
+        write,
+        marks,
+        depth,
+        bytes,
+        s,
+        refreshes,
+        spans,
+        count,
+        time,
+        counted,
+        y,
+    );
+    if z.number != 0 {
+        usedspan::undo(node, start, end, id, stamp, touched, write, marks, s, old);
+        return Counted {
+            small: x,
+            answer: Count::Refused(z.number),
+        };
+    }
+    run_done(x, s, z)
+}
+
+// A touch of the first `count` spans of an array by value: for callers that have no slice of spans.
 pub fn store_used_array(
     parent: &[usize],
     depth: &[usize],
@@ -96,18 +267,23 @@ pub fn store_used_array(
     requires { ⌜ Sound (stateFrom (now parent) (now depth) (now len) (now run) (now words) (now node) (now start) (now end) (now id) (now stamp) (now touched) (now write) (now «pin_node») (now «pin_start») (now «pin_end») (now «pin_count») (now marks) (now bytes) x) × (count ≤ 64) ⌝ }
     ensures { λ r. ⌜ outcome (stateFrom (now (parent .entry)) (now (depth .entry)) (now (len .entry)) (now (run .entry)) (now (words .entry)) (now (node .exit)) (now (start .exit)) (now (end .exit)) (now (id .exit)) (now (stamp .exit)) (now (touched .exit)) (now (write .exit)) (now («pin_node» .entry)) (now («pin_start» .entry)) (now («pin_end» .entry)) (now («pin_count» .entry)) (now (marks .exit)) (now (bytes .entry)) (r .small)) tt (countOf (r .answer)) ≡ storeUsed (stateFrom (now (parent .entry)) (now (depth .entry)) (now (len .entry)) (now (run .entry)) (now (words .entry)) (now (node .entry)) (now (start .entry)) (now (end .entry)) (now (id .entry)) (now (stamp .entry)) (now (touched .entry)) (now (write .entry)) (now («pin_node» .entry)) (now («pin_start» .entry)) (now («pin_end» .entry)) (now («pin_count» .entry)) (now (marks .entry)) (now (bytes .entry)) x) s (take count spans) time counted ⌝ }
 {
-    let mut y = usedspan::begin(x, s, count, time, counted);
-    let mut i = 0;
-    while i < count {
-        let sp = spans[i];
-        y = usedspan::check_one(sp, len, y);
-        i += 1;
+    let number = first_refusal(len, x.nodes, x.stores, s, spans, count, time);
+    if number != 0 {
+        return Counted {
+            small: x,
+            answer: Count::Refused(number),
+        };
     }
-    let mut j = 0;
-    while j < count {
-        let sp = spans[j];
-        y = usedspan::one(
-            sp,
+    let refreshes = x.refreshes[s];
+    let y = Run {
+        n: x.records[s],
+        top: x.stamp[s],
+        next: x.next,
+        sum: 0,
+        number: 0,
+    };
+    if !roomy(y.n, y.top, y.next, count) {
+        return touch_kept(
             node,
             start,
             end,
@@ -118,9 +294,34 @@ pub fn store_used_array(
             marks,
             depth,
             bytes,
+            x,
+            s,
+            refreshes,
+            spans,
+            count,
+            time,
+            counted,
             y,
         );
-        j += 1;
     }
-    usedspan::finish(x, y)
+    let z = take_turns(
+        node,
+        start,
+        end,
+        id,
+        stamp,
+        touched,
+        write,
+        marks,
+        depth,
+        bytes,
+        s,
+        refreshes,
+        spans,
+        count,
+        time,
+        counted,
+        y,
+    );
+    run_done(x, s, z)
 }

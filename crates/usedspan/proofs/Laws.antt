@@ -42,7 +42,8 @@ use Rattle.touch.specs.declared.Used.{Used}
 use Rattle.touch.specs.Touch.{Touching}
 use Rattle.usedspan.specs.declared.Old.{Old}
 use Rattle.usedspan.specs.declared.Turn.{Turn}
-use Rattle.usedspan.specs.Turn.{Others, whole, pick, firstNumber, four, looked, refusing, turnNumber, Placed, Judged, PoolReady, TouchedAt, settledBooks, Settled, oldRanges, oldFrom, keptOld, undone, TurnTaken, TurnReady, Ready, Taken, Gone, Turned}
+use Rattle.usedspan.specs.declared.Run.{Run}
+use Rattle.usedspan.specs.Turn.{Others, whole, pick, firstNumber, four, looked, refusing, turnNumber, Placed, Judged, PoolReady, TouchedAt, settledBooks, Settled, oldRanges, oldFrom, keptOld, undone, TurnTaken, TurnReady, Ready, Taken, Gone, Turned, runOn, stopRun, smallWith, RunAt, Ran}
 
 -- ---- copies of a part, and a part put back
 
@@ -563,6 +564,82 @@ module _ (sp : Span) (depth bytes : List ℕ) (c : Ranges) (ms : List ℕ) (y : 
   unfolding storeOf
   count-here number used c′ ms′ none j touched =
       count-ready ready on number none j refl used c′ ms′ (touched (st (p .others) .tree) (storeOf (st (p .others)) (y .s)) refl refl refl refl refl)
+
+-- ---- a turn with no part kept: the same as that of a touch which would keep it
+
+module _ (o : Others) (x : Small) (sp : Span) (depth bytes : List ℕ) (c : Ranges) (ms : List ℕ) (s : ℕ) (refreshes : Bool) (y : Run) (time : Float) (counted : Bool)
+    (h : RunAt o x sp depth bytes c ms s refreshes y) where
+  abbrev before : State
+  before = whole o depth bytes c ms x
+
+  abbrev turn : Turn
+  turn = record { small = x; old = oldFrom s c ms; s = s; time = time; counted = counted; turns = 63; sum = y .sum; refused = 0 }
+
+  turn-ready : TurnReady sp before turn
+  turn-ready = record { sound = h .sound; store = h .store; span = h .span; turns = omega arith; sum = h .sum }
+
+  can-turn : Ready sp depth bytes c ms turn
+  can-turn = record { others = o; ready = λ e. turn-ready }
+
+  abbrev JudgedRun : ℕ → Type 0
+  JudgedRun r = Judged s (y .n) (c .node) (c .start) (c .end) sp refreshes (y .top) (y .next) r
+
+  abbrev TouchedRun : Ranges → List ℕ → Used → Type 0
+  TouchedRun c′ ms′ used =
+      (t : Tree) (q : Store) → t .depth ≡ depth → q .ranges ≡ ranges c (128 * s) (y .n) → q .stamp ≡ y .top → q .refreshes ≡ refreshes → q .marks ≡ mid (256 * s) 256 ms
+      → TouchedAt s (touch t bytes q (y .next) sp time counted) (y .n) c ms c′ ms′ used
+
+  judged : (r : ℕ) → JudgedRun r → JudgedHere sp depth bytes c ms turn can-turn refl r
+  judged r j = rw (h .stands .records, h .stands .on, h .stands .stamp, h .stands .next) at j
+
+  touched-run : (c′ : Ranges) (ms′ : List ℕ) (used : Used) → TouchedRun c′ ms′ used
+      → (t : Tree) (q : Store) → t .depth ≡ depth → q .ranges ≡ ranges c (128 * s) (at (x .records) s) → q .stamp ≡ at (x .stamp) s → q .refreshes ≡ getD (x .refreshes) s false
+      → q .marks ≡ mid (256 * s) 256 ms → TouchedAt s (touch t bytes q (x .next) sp time counted) (at (x .records) s) c ms c′ ms′ used
+  touched-run c′ ms′ used u = rw (h .stands .records, h .stands .on, h .stands .stamp, h .stands .next) at u
+
+  pub run-asks-number : Placed s (y .n) (c .node) (c .start) (c .end) × (y .n ≤ 128) × (y .top ≤ maxStamp) × (y .next ≤ maxStamp)
+  run-asks-number = rw (h .stands .records, h .stands .stamp, h .stands .next) (number-ready turn-ready)
+
+  pub run-asks-touch : (r : ℕ) → r ≡ 0 → JudgedRun r → PoolReady depth bytes s (y .n) c ms sp refreshes (y .top) (y .next)
+  run-asks-touch r e j =
+      rw (h .stands .records, h .stands .on, h .stands .stamp, h .stands .next) (touch-ready turn-ready (getD (x .refreshes) s false) r e (judged r j))
+
+  pub run-asks-on : (r : ℕ) (c′ : Ranges) (ms′ : List ℕ) (used : Used) → r ≡ 0 → JudgedRun r → TouchedRun c′ ms′ used
+      → (y .top + used .stamps ≤ maxStamp) × (y .next + used .need ≤ maxStamp) × (y .sum + used .bytes < 18446744073709551616)
+  run-asks-on r c′ ms′ used e j u =
+      let k = count-here sp depth bytes c ms turn can-turn refl r used c′ ms′ e (judged r j) (touched-run c′ ms′ used u) in
+      (rw (h .stands .stamp) (k .1), rw (h .stands .next) (k .2), k .4)
+
+  pub run-refused : (k : ℕ) (r : Run) → r ≡ stopRun k y → (k ≡ 0 → ⊥) → JudgedRun k → Ran sp s time counted before y (whole o depth bytes c ms (smallWith s r x)) r
+  run-refused k r is n j =
+      let e = ap (λ (q : Run). q .number) is in
+      record {
+        number = e ∙ number-here sp depth bytes c ms turn can-turn refl o k (judged k j);
+        stopped = λ l. (refl, refl);
+        taken = λ z. absurd (n (sym e ∙ z));
+        sum = λ z. absurd (n (sym e ∙ z));
+      }
+
+  settled-run : (used : Used) → Settled s used x (smallWith s (runOn y used) x)
+  settled-run used =
+      let e = h .stands .stamp in
+      let f = h .stands .next in
+      record { nodes = refl; used = refl; books = (λ i. booksOf (smallWith s (record { n = used .n; top = e i + used .stamps; next = f i + used .need; sum = 0; number = 0 }) x)) }
+
+  pub run-taken : (k : ℕ) (c′ : Ranges) (ms′ : List ℕ) (used : Used) (r : Run) → r ≡ runOn y used → k ≡ 0 → JudgedRun k → TouchedRun c′ ms′ used
+      → Ran sp s time counted before y (whole o depth bytes c′ ms′ (smallWith s r x)) r
+  unfolding storeOf
+  run-taken k c′ ms′ used r is none j v =
+      let u = touched-run c′ ms′ used v (before .tree) (storeOf before s) refl refl refl refl refl in
+      subst (λ (q : Run). Ran sp s time counted before y (whole o depth bytes c′ ms′ (smallWith s q x)) q) (sym is)
+      (record {
+        number = sym none ∙ number-here sp depth bytes c ms turn can-turn refl o k (judged k j);
+        stopped = λ l. absurd (omega arith);
+        taken = λ z.
+            state-here sp depth bytes c ms turn can-turn refl o used (record { small = smallWith s (runOn y used) x; old = turn .old; s = s; time = time; counted = counted; turns = 64; sum = 0; refused = 0 }) c′ ms′ u
+            (settled-run used);
+        sum = λ z. ap (λ (b : ℕ). y .sum + b) (u .bytes);
+      })
 
 pub index-fits : {s : ℕ} → s < 8 → Fits w64 (s * 8)
 index-fits h = omega arith

@@ -3,7 +3,7 @@ use Prim.Native.Nat.{ℕ, zero, suc, _+_, _*_, _≤_, _<_, _^_}
 use mathlib.Core.Path.{_≡_}
 use mathlib.Core.Bool.{Bool, true, false, _||_}
 use mathlib.Core.List.{List}
-use lib.ListN.{length, set}
+use lib.ListN.{length, getD, set}
 use lib.Dec.{ltb, leb, eqb}
 use lib.Ieee.{Float}
 use Rattle.model.specs.declared.Span.{Span}
@@ -25,6 +25,7 @@ use Rattle.answers.specs.declared.Counted.{Counted}
 use Rattle.answers.specs.declared.Count.the-variants.{Refused, Done}
 use Rattle.usedspan.specs.declared.Old.{Old}
 use Rattle.usedspan.specs.declared.Turn.{Turn}
+use Rattle.usedspan.specs.declared.Run.{Run}
 
 -- ---- the state
 
@@ -223,6 +224,64 @@ pub record Gone (sp : Span) (st : State) (y : Turn) (st′ : State) (r : Turn) :
 pub record Turned (sp : Span) (st : State) (y : Turn) (st′ : State) (r : Turn) : Type 0 where
   pub idle : 1 ≤ y .refused → (st′ ≡ st) × (r ≡ y)
   pub gone : y .refused ≡ 0 → Gone sp st y st′ r
+
+-- ---- a turn with no part kept: the small numbers of store s alone go on
+
+-- y with the turn taken
+abbrev pub runOn : Run → Used → Run
+runOn y w = record { n = w .n; top = y .top + w .stamps; next = y .next + w .need; sum = y .sum + w .bytes; number = 0 }
+
+abbrev pub stopRun : ℕ → Run → Run
+stopRun k y = record { n = y .n; top = y .top; next = y .next; sum = y .sum; number = k }
+
+-- the small numbers x with those of y for store s
+abbrev pub smallWith : ℕ → Run → Small → Small
+smallWith s y x =
+    record {
+      nodes = x .nodes;
+      used = x .used;
+      stores = x .stores;
+      next = y .next;
+      stalls = x .stalls;
+      capacity = x .capacity;
+      refreshes = x .refreshes;
+      records = set (x .records) s (y .n);
+      held = x .held;
+      stamp = set (x .stamp) s (y .top);
+      version = x .version;
+      entries = x .entries;
+      pinned = x .pinned;
+    }
+
+-- the numbers of y are those of store s in x
+pub record Stands (s : ℕ) (refreshes : Bool) (x : Small) (y : Run) : Type 0 where
+  pub records : y .n ≡ at (x .records) s
+  pub on : refreshes ≡ getD (x .refreshes) s false
+  pub stamp : y .top ≡ at (x .stamp) s
+  pub next : y .next ≡ x .next
+
+-- a turn of a span of the tree, in a sound state with these columns; at most 63 were before
+pub record RunAt (o : Others) (x : Small) (sp : Span) (depth bytes : List ℕ) (c : Ranges) (marks : List ℕ) (s : ℕ) (refreshes : Bool) (y : Run) : Type 0 where
+  pub stands : Stands s refreshes x y
+  pub sound : Sound (whole o depth bytes c marks x)
+  pub store : s < x .stores
+  pub span : SpanIn (whole o depth bytes c marks x .tree) sp
+  pub sum : y .sum ≤ 63 * (storeRecords * maxBytes)
+
+pub record RunReady (sp : Span) (depth bytes : List ℕ) (c : Ranges) (marks : List ℕ) (s : ℕ) (refreshes : Bool) (y : Run) : Type 0 where
+  pub others : Others
+  pub small : Small
+  pub ready : RunAt others small sp depth bytes c marks s refreshes y
+
+-- what the turn makes of the state st and of y: nothing where it is refused
+pub record Ran (sp : Span) (s : ℕ) (time : Float) (counted : Bool) (st : State) (y : Run) (st′ : State) (r : Run) : Type 0 where
+  pub number :
+      r .number
+      ≡ turnNumber (at (st .books .records) s) (touchedBy st s sp time counted .need) (at (st .books .stamp) s) (touchedBy st s sp time counted .stamps)
+      (st .books .nextId)
+  pub stopped : 1 ≤ r .number → (st′ .ranges ≡ st .ranges) × (st′ .marks ≡ st .marks)
+  pub taken : r .number ≡ 0 → st′ ≡ touchSpan st s sp time counted
+  pub sum : r .number ≡ 0 → r .sum ≡ y .sum + touchedBy st s sp time counted .bytes
 
 -- ---- the answer
 

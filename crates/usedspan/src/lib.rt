@@ -15,7 +15,7 @@ ghost use Rattle.model.specs.Touch.{touch as touchOf};
 ghost use Rattle.model.specs.Refusals.{spanIn};
 ghost use Rattle.lent.specs.Lent.{rangesOf};
 ghost use Rattle.parts.specs.Parts.{mid, back, backRanges};
-ghost use Rattle.usedspan.specs.Turn.{Others, whole, firstNumber, Begun, four, looked, Placed, Judged, PoolReady, TouchedAt, refusing, oldFrom, keptOld, Settled, TurnTaken, Finished, oldRanges, Ready, Turned};
+ghost use Rattle.usedspan.specs.Turn.{Others, whole, firstNumber, Begun, four, looked, Placed, Judged, PoolReady, TouchedAt, refusing, oldFrom, keptOld, Settled, TurnTaken, Finished, oldRanges, Ready, Turned, runOn, smallWith, RunAt, RunReady, Ran};
 
 // A store's part of the pools, as it was before the first turn.
 pub struct Old {
@@ -42,10 +42,20 @@ pub struct Turn {
     pub refused: u8,
 }
 
+// What a touch changes of the small numbers, between two of its spans: the store's records and stamp and the next id; the bytes read;
+// and the refusal's number, 0 for none.
+pub struct Run {
+    pub n: usize,
+    pub top: u64,
+    pub next: u64,
+    pub sum: u64,
+    pub number: u8,
+}
+
 // ---- before the turns
 
 // 2, 3 or 5, before any span is looked at.
-fn first_number(stores: usize, s: usize, n: usize, time: f64) -> u8
+pub fn first_number(stores: usize, s: usize, n: usize, time: f64) -> u8
     ensures { λ r. ⌜ r ≡ firstNumber stores s n time ⌝ }
 {
     if stores <= s {
@@ -87,7 +97,7 @@ pub fn begin(x: Small, s: usize, n: usize, time: f64, counted: bool) -> Turn
 }
 
 // 4 goes before 5, and behind 2 and 3.
-fn four_first(n: u8) -> u8
+pub fn four_first(n: u8) -> u8
     ensures { λ r. ⌜ r ≡ four n ⌝ }
 {
     if n == 0 {
@@ -236,7 +246,7 @@ fn put_marks(col: &mut [usize], a: usize, from: [usize; 256])
 }
 
 // The part of store s as it is.
-fn keep(
+pub fn keep(
     node: &[usize],
     start: &[usize],
     end: &[usize],
@@ -285,7 +295,7 @@ fn keep_first(
 }
 
 // The part of store s as it was.
-fn undo(
+pub fn undo(
     node: &mut [usize],
     start: &mut [usize],
     end: &mut [usize],
@@ -410,6 +420,71 @@ fn settle(x: Small, s: usize, w: Used) -> Small
     r.records[s] = w.n;
     r.stamp[s] = x.stamp[s] + w.stamps;
     r
+}
+
+// The numbers after a taken turn.
+fn run_on(y: Run, w: Used) -> Run
+    requires { ⌜ (y .top + w .stamps ≤ maxStamp) × (y .next + w .need ≤ maxStamp) × (y .sum + w .bytes < 18446744073709551616) ⌝ }
+    ensures { λ r. ⌜ r ≡ runOn y w ⌝ }
+{
+    Run {
+        n: w.n,
+        top: y.top + w.stamps,
+        next: y.next + w.need as u64,
+        sum: y.sum + w.bytes,
+        number: 0,
+    }
+}
+
+// One span at its turn, with no part kept: refused, 8 or 11, with nothing written; or taken.
+pub fn one_turn(
+    sp: Span,
+    node: &mut [usize],
+    start: &mut [usize],
+    end: &mut [usize],
+    id: &mut [u64],
+    stamp: &mut [u64],
+    touched: &mut [f64],
+    write: &mut [u32],
+    marks: &mut [usize],
+    depth: &[usize],
+    bytes: &[u64],
+    s: usize,
+    refreshes: bool,
+    time: f64,
+    counted: bool,
+    y: Run,
+) -> Run
+    requires { ⌜ RunReady sp (now depth) (now bytes) (rangesOf (now node) (now start) (now end) (now id) (now stamp) (now touched) (now write)) (now marks) s refreshes y ⌝ }
+    ensures { λ r. ⌜ ((o : Others) (x : Small) → RunAt o x sp (now (depth .entry)) (now (bytes .entry)) (rangesOf (now (node .entry)) (now (start .entry)) (now (end .entry)) (now (id .entry)) (now (stamp .entry)) (now (touched .entry)) (now (write .entry))) (now (marks .entry)) s refreshes y → Ran sp s time counted (whole o (now (depth .entry)) (now (bytes .entry)) (rangesOf (now (node .entry)) (now (start .entry)) (now (end .entry)) (now (id .entry)) (now (stamp .entry)) (now (touched .entry)) (now (write .entry))) (now (marks .entry)) x) y (whole o (now (depth .entry)) (now (bytes .entry)) (rangesOf (now (node .exit)) (now (start .exit)) (now (end .exit)) (now (id .exit)) (now (stamp .exit)) (now (touched .exit)) (now (write .exit))) (now (marks .exit)) (smallWith s r x)) r) ⌝ }
+{
+    let number = turn_number(node, start, end, s, y.n, sp, refreshes, y.top, y.next);
+    if number != 0 {
+        let mut z = y;
+        z.number = number;
+        return z;
+    }
+    let used = touch_pools(
+        node,
+        start,
+        end,
+        id,
+        stamp,
+        touched,
+        write,
+        marks,
+        depth,
+        bytes,
+        s,
+        y.n,
+        sp,
+        time,
+        counted,
+        refreshes,
+        y.top,
+        y.next,
+    );
+    run_on(y, used)
 }
 
 // A turn that is refused: what the earlier ones changed is put back.

@@ -2,8 +2,8 @@
 use mathlib.Core.Path.{ap, _∙_}
 use Rattle.model.specs.Calls.{setUp}
 use Rattle.answers.specs.Answers.{stateFrom}
-use Rattle.exports.specs.Books.{smallFrom}
-use Rattle.exports.proofs.Telling.{plainly, setUp-numbered}
+use Rattle.exported.specs.Books.{smallFrom}
+use Rattle.exported.proofs.Telling.{plainly, setUp-numbered}
 use Rattle.exports.proofs.scorebeetle_set_up.Statement.{statement}
 use Rattle.exports.proofs.scorebeetle_set_up.Tie as tie
 

@@ -1,0 +1,553 @@
+// The public calls for Rust, in the shape of those of `exports`: they ask nothing of the state and refuse with 1 one that is not sound. A touch is not among
+// them: the public one takes a slice of spans, which no covered function can make.
+use model::Span;
+ghost use mathlib.Core.Path.{_≡_};
+ghost use lib.ListN.{length};
+ghost use Rattle.model.specs.Calls.{resolveCall, insert as insertCall, storeInsert, storeRemove, storeExpire, pinSource, unpinSource};
+ghost use Rattle.tree.specs.Walk.{pathListOf};
+ghost use Rattle.evicted.specs.Evicted.{outList};
+ghost use Rattle.tiers.specs.Tiers.{tierListOf};
+ghost use Rattle.looking.specs.Looking.{listsOf, LookedUp};
+ghost use Rattle.answers.specs.Answers.{stateFrom, outcome};
+ghost use Rattle.exported.specs.Books.{smallFrom};
+ghost use Rattle.exported.specs.Told.{toldPlain, toldCount, toldPath, toldInserted, toldLooked};
+
+// How far the tree has a list, on any state.
+#[no_mangle]
+pub extern "C" fn scorebeetle_checked_resolve(
+    parent: &[usize],
+    depth: &[usize],
+    len: &[usize],
+    run: &[usize],
+    words: &[u64],
+    node: &[usize],
+    start: &[usize],
+    end: &[usize],
+    id: &[u64],
+    stamp: &[u64],
+    touched: &[f64],
+    write: &[u32],
+    pin_node: &[usize],
+    pin_start: &[usize],
+    pin_end: &[usize],
+    pin_count: &[u64],
+    marks: &[usize],
+    bytes: &[u64],
+    path_node: &mut [usize],
+    path_len: &mut [usize],
+    books: &[u64; 69],
+    answer: &mut [u64; 19],
+    hashes: &[u64],
+) -> u8
+    requires { ⌜ (length (now answer) ≡ 19) ⌝ }
+    ensures { λ r. ⌜ outcome (stateFrom (now (parent .entry)) (now (depth .entry)) (now (len .entry)) (now (run .entry)) (now (words .entry)) (now (node .entry)) (now (start .entry)) (now (end .entry)) (now (id .entry)) (now (stamp .entry)) (now (touched .entry)) (now (write .entry)) (now («pin_node» .entry)) (now («pin_start» .entry)) (now («pin_end» .entry)) (now («pin_count» .entry)) (now (marks .entry)) (now (bytes .entry)) (smallFrom (now (books .entry)))) (pathListOf (now («path_node» .exit)) (now («path_len» .exit))) (toldPath r (now (answer .exit))) ≡ resolveCall (stateFrom (now (parent .entry)) (now (depth .entry)) (now (len .entry)) (now (run .entry)) (now (words .entry)) (now (node .entry)) (now (start .entry)) (now (end .entry)) (now (id .entry)) (now (stamp .entry)) (now (touched .entry)) (now (write .entry)) (now («pin_node» .entry)) (now («pin_start» .entry)) (now («pin_end» .entry)) (now («pin_count» .entry)) (now (marks .entry)) (now (bytes .entry)) (smallFrom (now (books .entry)))) (pathListOf (now («path_node» .entry)) (now («path_len» .entry))) (now (hashes .entry)) ⌝ }
+{
+    let x = exported::books::small_from(books);
+    let r = publictree::resolve(
+        parent,
+        depth,
+        len,
+        run,
+        words,
+        node,
+        start,
+        end,
+        id,
+        stamp,
+        touched,
+        write,
+        pin_node,
+        pin_start,
+        pin_end,
+        pin_count,
+        marks,
+        bytes,
+        path_node,
+        path_len,
+        x,
+        hashes,
+    );
+    exported::told::path(answer, r)
+}
+
+// A list into the tree, on any state.
+#[no_mangle]
+pub extern "C" fn scorebeetle_checked_insert(
+    parent: &mut [usize],
+    depth: &mut [usize],
+    len: &mut [usize],
+    run: &mut [usize],
+    words: &mut [u64],
+    node: &mut [usize],
+    start: &mut [usize],
+    end: &mut [usize],
+    id: &mut [u64],
+    stamp: &mut [u64],
+    touched: &mut [f64],
+    write: &mut [u32],
+    pin_node: &mut [usize],
+    pin_start: &mut [usize],
+    pin_end: &mut [usize],
+    pin_count: &mut [u64],
+    marks: &mut [usize],
+    bytes: &[u64],
+    path_node: &mut [usize],
+    path_len: &mut [usize],
+    books: &mut [u64; 69],
+    answer: &mut [u64; 19],
+    hashes: &[u64],
+) -> u8
+    requires { ⌜ (length (now books) ≡ 69) × (length (now answer) ≡ 19) ⌝ }
+    ensures { λ r. ⌜ outcome (stateFrom (now (parent .exit)) (now (depth .exit)) (now (len .exit)) (now (run .exit)) (now (words .exit)) (now (node .exit)) (now (start .exit)) (now (end .exit)) (now (id .exit)) (now (stamp .exit)) (now (touched .exit)) (now (write .exit)) (now («pin_node» .exit)) (now («pin_start» .exit)) (now («pin_end» .exit)) (now («pin_count» .exit)) (now (marks .exit)) (now (bytes .entry)) (smallFrom (now (books .exit)))) (pathListOf (now («path_node» .exit)) (now («path_len» .exit))) (toldInserted r (now (answer .exit))) ≡ insertCall (stateFrom (now (parent .entry)) (now (depth .entry)) (now (len .entry)) (now (run .entry)) (now (words .entry)) (now (node .entry)) (now (start .entry)) (now (end .entry)) (now (id .entry)) (now (stamp .entry)) (now (touched .entry)) (now (write .entry)) (now («pin_node» .entry)) (now («pin_start» .entry)) (now («pin_end» .entry)) (now («pin_count» .entry)) (now (marks .entry)) (now (bytes .entry)) (smallFrom (now (books .entry)))) (pathListOf (now («path_node» .entry)) (now («path_len» .entry))) (now (hashes .entry)) ⌝ }
+{
+    let x = exported::books::small_from(books);
+    let r = publicinsert::insert(
+        parent,
+        depth,
+        len,
+        run,
+        words,
+        node,
+        start,
+        end,
+        id,
+        stamp,
+        touched,
+        write,
+        pin_node,
+        pin_start,
+        pin_end,
+        pin_count,
+        marks,
+        bytes,
+        path_node,
+        path_len,
+        x,
+        hashes,
+    );
+    let small = r.small;
+    let a = r.answer;
+    exported::books::keep_small(books, small);
+    exported::told::inserted(answer, a)
+}
+
+// A span into store s, on any state.
+#[no_mangle]
+pub extern "C" fn scorebeetle_checked_store_insert(
+    parent: &[usize],
+    depth: &[usize],
+    len: &[usize],
+    run: &[usize],
+    words: &[u64],
+    node: &mut [usize],
+    start: &mut [usize],
+    end: &mut [usize],
+    id: &mut [u64],
+    stamp: &mut [u64],
+    touched: &mut [f64],
+    write: &mut [u32],
+    pin_node: &[usize],
+    pin_start: &[usize],
+    pin_end: &[usize],
+    pin_count: &[u64],
+    marks: &mut [usize],
+    bytes: &[u64],
+    out_node: &mut [usize],
+    out_start: &mut [usize],
+    out_end: &mut [usize],
+    out_write: &mut [u32],
+    out_bytes: &mut [u64],
+    out_dead: &mut [u64],
+    books: &mut [u64; 69],
+    answer: &mut [u64; 19],
+    s: usize,
+    on: usize,
+    from: usize,
+    upto: usize,
+    time: f64,
+    w: u32,
+) -> u8
+    requires { ⌜ (length (now books) ≡ 69) × (length (now answer) ≡ 19) ⌝ }
+    ensures { λ r. ⌜ outcome (stateFrom (now (parent .entry)) (now (depth .entry)) (now (len .entry)) (now (run .entry)) (now (words .entry)) (now (node .exit)) (now (start .exit)) (now (end .exit)) (now (id .exit)) (now (stamp .exit)) (now (touched .exit)) (now (write .exit)) (now («pin_node» .entry)) (now («pin_start» .entry)) (now («pin_end» .entry)) (now («pin_count» .entry)) (now (marks .exit)) (now (bytes .entry)) (smallFrom (now (books .exit)))) (outList (now («out_node» .exit)) (now («out_start» .exit)) (now («out_end» .exit)) (now («out_write» .exit)) (now («out_bytes» .exit)) (now («out_dead» .exit))) (toldCount r (now (answer .exit))) ≡ storeInsert (stateFrom (now (parent .entry)) (now (depth .entry)) (now (len .entry)) (now (run .entry)) (now (words .entry)) (now (node .entry)) (now (start .entry)) (now (end .entry)) (now (id .entry)) (now (stamp .entry)) (now (touched .entry)) (now (write .entry)) (now («pin_node» .entry)) (now («pin_start» .entry)) (now («pin_end» .entry)) (now («pin_count» .entry)) (now (marks .entry)) (now (bytes .entry)) (smallFrom (now (books .entry)))) (outList (now («out_node» .entry)) (now («out_start» .entry)) (now («out_end» .entry)) (now («out_write» .entry)) (now («out_bytes» .entry)) (now («out_dead» .entry))) s (record { node = on; start = from; end = upto }) time w ⌝ }
+{
+    let x = exported::books::small_from(books);
+    let sp = Span {
+        node: on,
+        start: from,
+        end: upto,
+    };
+    let r = publicstore::store_insert(
+        parent,
+        depth,
+        len,
+        run,
+        words,
+        node,
+        start,
+        end,
+        id,
+        stamp,
+        touched,
+        write,
+        pin_node,
+        pin_start,
+        pin_end,
+        pin_count,
+        marks,
+        bytes,
+        out_node,
+        out_start,
+        out_end,
+        out_write,
+        out_bytes,
+        out_dead,
+        x,
+        s,
+        sp,
+        time,
+        w,
+    );
+    let small = r.small;
+    let a = r.answer;
+    exported::books::keep_small(books, small);
+    exported::told::count(answer, a)
+}
+
+// A span out of store s, on any state.
+#[no_mangle]
+pub extern "C" fn scorebeetle_checked_store_remove(
+    parent: &[usize],
+    depth: &[usize],
+    len: &[usize],
+    run: &[usize],
+    words: &[u64],
+    node: &mut [usize],
+    start: &mut [usize],
+    end: &mut [usize],
+    id: &mut [u64],
+    stamp: &mut [u64],
+    touched: &mut [f64],
+    write: &mut [u32],
+    pin_node: &[usize],
+    pin_start: &[usize],
+    pin_end: &[usize],
+    pin_count: &[u64],
+    marks: &mut [usize],
+    bytes: &[u64],
+    list: &mut [u32],
+    books: &mut [u64; 69],
+    answer: &mut [u64; 19],
+    s: usize,
+    on: usize,
+    from: usize,
+    upto: usize,
+) -> u8
+    requires { ⌜ (length (now books) ≡ 69) × (length (now answer) ≡ 19) ⌝ }
+    ensures { λ r. ⌜ outcome (stateFrom (now (parent .entry)) (now (depth .entry)) (now (len .entry)) (now (run .entry)) (now (words .entry)) (now (node .exit)) (now (start .exit)) (now (end .exit)) (now (id .exit)) (now (stamp .exit)) (now (touched .exit)) (now (write .exit)) (now («pin_node» .entry)) (now («pin_start» .entry)) (now («pin_end» .entry)) (now («pin_count» .entry)) (now (marks .exit)) (now (bytes .entry)) (smallFrom (now (books .exit)))) (now (list .exit)) (toldCount r (now (answer .exit))) ≡ storeRemove (stateFrom (now (parent .entry)) (now (depth .entry)) (now (len .entry)) (now (run .entry)) (now (words .entry)) (now (node .entry)) (now (start .entry)) (now (end .entry)) (now (id .entry)) (now (stamp .entry)) (now (touched .entry)) (now (write .entry)) (now («pin_node» .entry)) (now («pin_start» .entry)) (now («pin_end» .entry)) (now («pin_count» .entry)) (now (marks .entry)) (now (bytes .entry)) (smallFrom (now (books .entry)))) (now (list .entry)) s (record { node = on; start = from; end = upto }) ⌝ }
+{
+    let x = exported::books::small_from(books);
+    let sp = Span {
+        node: on,
+        start: from,
+        end: upto,
+    };
+    let r = publicstore::store_remove(
+        parent,
+        depth,
+        len,
+        run,
+        words,
+        node,
+        start,
+        end,
+        id,
+        stamp,
+        touched,
+        write,
+        pin_node,
+        pin_start,
+        pin_end,
+        pin_count,
+        marks,
+        bytes,
+        list,
+        x,
+        s,
+        sp,
+    );
+    let small = r.small;
+    let a = r.answer;
+    exported::books::keep_small(books, small);
+    exported::told::count(answer, a)
+}
+
+// What is older than the seconds leaves store s, on any state.
+#[no_mangle]
+pub extern "C" fn scorebeetle_checked_store_expire(
+    parent: &[usize],
+    depth: &[usize],
+    len: &[usize],
+    run: &[usize],
+    words: &[u64],
+    node: &mut [usize],
+    start: &mut [usize],
+    end: &mut [usize],
+    id: &mut [u64],
+    stamp: &mut [u64],
+    touched: &mut [f64],
+    write: &mut [u32],
+    pin_node: &[usize],
+    pin_start: &[usize],
+    pin_end: &[usize],
+    pin_count: &[u64],
+    marks: &mut [usize],
+    bytes: &[u64],
+    out_node: &mut [usize],
+    out_start: &mut [usize],
+    out_end: &mut [usize],
+    out_write: &mut [u32],
+    out_bytes: &mut [u64],
+    out_dead: &mut [u64],
+    books: &mut [u64; 69],
+    answer: &mut [u64; 19],
+    s: usize,
+    time: f64,
+    seconds: f64,
+) -> u8
+    requires { ⌜ (length (now books) ≡ 69) × (length (now answer) ≡ 19) ⌝ }
+    ensures { λ r. ⌜ outcome (stateFrom (now (parent .entry)) (now (depth .entry)) (now (len .entry)) (now (run .entry)) (now (words .entry)) (now (node .exit)) (now (start .exit)) (now (end .exit)) (now (id .exit)) (now (stamp .exit)) (now (touched .exit)) (now (write .exit)) (now («pin_node» .entry)) (now («pin_start» .entry)) (now («pin_end» .entry)) (now («pin_count» .entry)) (now (marks .exit)) (now (bytes .entry)) (smallFrom (now (books .exit)))) (outList (now («out_node» .exit)) (now («out_start» .exit)) (now («out_end» .exit)) (now («out_write» .exit)) (now («out_bytes» .exit)) (now («out_dead» .exit))) (toldCount r (now (answer .exit))) ≡ storeExpire (stateFrom (now (parent .entry)) (now (depth .entry)) (now (len .entry)) (now (run .entry)) (now (words .entry)) (now (node .entry)) (now (start .entry)) (now (end .entry)) (now (id .entry)) (now (stamp .entry)) (now (touched .entry)) (now (write .entry)) (now («pin_node» .entry)) (now («pin_start» .entry)) (now («pin_end» .entry)) (now («pin_count» .entry)) (now (marks .entry)) (now (bytes .entry)) (smallFrom (now (books .entry)))) (outList (now («out_node» .entry)) (now («out_start» .entry)) (now («out_end» .entry)) (now («out_write» .entry)) (now («out_bytes» .entry)) (now («out_dead» .entry))) s time seconds ⌝ }
+{
+    let x = exported::books::small_from(books);
+    let r = publicstore::store_expire(
+        parent,
+        depth,
+        len,
+        run,
+        words,
+        node,
+        start,
+        end,
+        id,
+        stamp,
+        touched,
+        write,
+        pin_node,
+        pin_start,
+        pin_end,
+        pin_count,
+        marks,
+        bytes,
+        out_node,
+        out_start,
+        out_end,
+        out_write,
+        out_bytes,
+        out_dead,
+        x,
+        s,
+        time,
+        seconds,
+    );
+    let small = r.small;
+    let a = r.answer;
+    exported::books::keep_small(books, small);
+    exported::told::count(answer, a)
+}
+
+// A pin on a span of store s, on any state.
+#[no_mangle]
+pub extern "C" fn scorebeetle_checked_pin_source(
+    parent: &[usize],
+    depth: &[usize],
+    len: &[usize],
+    run: &[usize],
+    words: &[u64],
+    node: &[usize],
+    start: &[usize],
+    end: &[usize],
+    id: &[u64],
+    stamp: &[u64],
+    touched: &[f64],
+    write: &[u32],
+    pin_node: &mut [usize],
+    pin_start: &mut [usize],
+    pin_end: &mut [usize],
+    pin_count: &mut [u64],
+    marks: &[usize],
+    bytes: &[u64],
+    books: &mut [u64; 69],
+    s: usize,
+    on: usize,
+    from: usize,
+    upto: usize,
+) -> u8
+    requires { ⌜ (length (now books) ≡ 69) ⌝ }
+    ensures { λ r. ⌜ outcome (stateFrom (now (parent .entry)) (now (depth .entry)) (now (len .entry)) (now (run .entry)) (now (words .entry)) (now (node .entry)) (now (start .entry)) (now (end .entry)) (now (id .entry)) (now (stamp .entry)) (now (touched .entry)) (now (write .entry)) (now («pin_node» .exit)) (now («pin_start» .exit)) (now («pin_end» .exit)) (now («pin_count» .exit)) (now (marks .entry)) (now (bytes .entry)) (smallFrom (now (books .exit)))) tt (toldPlain r) ≡ pinSource (stateFrom (now (parent .entry)) (now (depth .entry)) (now (len .entry)) (now (run .entry)) (now (words .entry)) (now (node .entry)) (now (start .entry)) (now (end .entry)) (now (id .entry)) (now (stamp .entry)) (now (touched .entry)) (now (write .entry)) (now («pin_node» .entry)) (now («pin_start» .entry)) (now («pin_end» .entry)) (now («pin_count» .entry)) (now (marks .entry)) (now (bytes .entry)) (smallFrom (now (books .entry)))) s (record { node = on; start = from; end = upto }) ⌝ }
+{
+    let x = exported::books::small_from(books);
+    let sp = Span {
+        node: on,
+        start: from,
+        end: upto,
+    };
+    let r = publicpins::pin_source(
+        parent,
+        depth,
+        len,
+        run,
+        words,
+        node,
+        start,
+        end,
+        id,
+        stamp,
+        touched,
+        write,
+        pin_node,
+        pin_start,
+        pin_end,
+        pin_count,
+        marks,
+        bytes,
+        x,
+        s,
+        sp,
+    );
+    let small = r.small;
+    let a = r.answer;
+    exported::books::keep_small(books, small);
+    exported::told::plain(a)
+}
+
+// A pin off a span of store s, on any state.
+#[no_mangle]
+pub extern "C" fn scorebeetle_checked_unpin_source(
+    parent: &[usize],
+    depth: &[usize],
+    len: &[usize],
+    run: &[usize],
+    words: &[u64],
+    node: &[usize],
+    start: &[usize],
+    end: &[usize],
+    id: &[u64],
+    stamp: &[u64],
+    touched: &[f64],
+    write: &[u32],
+    pin_node: &mut [usize],
+    pin_start: &mut [usize],
+    pin_end: &mut [usize],
+    pin_count: &mut [u64],
+    marks: &[usize],
+    bytes: &[u64],
+    books: &mut [u64; 69],
+    s: usize,
+    on: usize,
+    from: usize,
+    upto: usize,
+) -> u8
+    requires { ⌜ (length (now books) ≡ 69) ⌝ }
+    ensures { λ r. ⌜ outcome (stateFrom (now (parent .entry)) (now (depth .entry)) (now (len .entry)) (now (run .entry)) (now (words .entry)) (now (node .entry)) (now (start .entry)) (now (end .entry)) (now (id .entry)) (now (stamp .entry)) (now (touched .entry)) (now (write .entry)) (now («pin_node» .exit)) (now («pin_start» .exit)) (now («pin_end» .exit)) (now («pin_count» .exit)) (now (marks .entry)) (now (bytes .entry)) (smallFrom (now (books .exit)))) tt (toldPlain r) ≡ unpinSource (stateFrom (now (parent .entry)) (now (depth .entry)) (now (len .entry)) (now (run .entry)) (now (words .entry)) (now (node .entry)) (now (start .entry)) (now (end .entry)) (now (id .entry)) (now (stamp .entry)) (now (touched .entry)) (now (write .entry)) (now («pin_node» .entry)) (now («pin_start» .entry)) (now («pin_end» .entry)) (now («pin_count» .entry)) (now (marks .entry)) (now (bytes .entry)) (smallFrom (now (books .entry)))) s (record { node = on; start = from; end = upto }) ⌝ }
+{
+    let x = exported::books::small_from(books);
+    let sp = Span {
+        node: on,
+        start: from,
+        end: upto,
+    };
+    let r = publicpins::unpin_source(
+        parent,
+        depth,
+        len,
+        run,
+        words,
+        node,
+        start,
+        end,
+        id,
+        stamp,
+        touched,
+        write,
+        pin_node,
+        pin_start,
+        pin_end,
+        pin_count,
+        marks,
+        bytes,
+        x,
+        s,
+        sp,
+    );
+    let small = r.small;
+    let a = r.answer;
+    exported::books::keep_small(books, small);
+    exported::told::plain(a)
+}
+
+// What the tiers hold of a list, along its path from block 0, on any state.
+#[no_mangle]
+pub extern "C" fn scorebeetle_checked_lookup(
+    parent: &[usize],
+    depth: &[usize],
+    len: &[usize],
+    run: &[usize],
+    words: &[u64],
+    node: &[usize],
+    start: &[usize],
+    end: &[usize],
+    id: &[u64],
+    stamp: &[u64],
+    touched: &[f64],
+    write: &[u32],
+    pin_node: &[usize],
+    pin_start: &[usize],
+    pin_end: &[usize],
+    pin_count: &[u64],
+    marks: &[usize],
+    bytes: &[u64],
+    path_node: &mut [usize],
+    path_len: &mut [usize],
+    span_tier: &mut [usize],
+    span_node: &mut [usize],
+    span_start: &mut [usize],
+    span_end: &mut [usize],
+    books: &[u64; 69],
+    answer: &mut [u64; 19],
+    tiers: &[usize],
+    hashes: &[u64],
+) -> u8
+    requires { ⌜ (length (now answer) ≡ 19) ⌝ }
+    ensures { λ r. ⌜ LookedUp (stateFrom (now (parent .entry)) (now (depth .entry)) (now (len .entry)) (now (run .entry)) (now (words .entry)) (now (node .entry)) (now (start .entry)) (now (end .entry)) (now (id .entry)) (now (stamp .entry)) (now (touched .entry)) (now (write .entry)) (now («pin_node» .entry)) (now («pin_start» .entry)) (now («pin_end» .entry)) (now («pin_count» .entry)) (now (marks .entry)) (now (bytes .entry)) (smallFrom (now (books .entry)))) (listsOf (pathListOf (now («path_node» .entry)) (now («path_len» .entry))) (tierListOf (now («span_tier» .entry)) (now («span_node» .entry)) (now («span_start» .entry)) (now («span_end» .entry)))) (now (tiers .entry)) (now (hashes .entry)) (listsOf (pathListOf (now («path_node» .exit)) (now («path_len» .exit))) (tierListOf (now («span_tier» .exit)) (now («span_node» .exit)) (now («span_start» .exit)) (now («span_end» .exit)))) (toldLooked r (now (answer .exit))) ⌝ }
+{
+    let x = exported::books::small_from(books);
+    let r = publicread::lookup(
+        parent,
+        depth,
+        len,
+        run,
+        words,
+        node,
+        start,
+        end,
+        id,
+        stamp,
+        touched,
+        write,
+        pin_node,
+        pin_start,
+        pin_end,
+        pin_count,
+        marks,
+        bytes,
+        path_node,
+        path_len,
+        span_tier,
+        span_node,
+        span_start,
+        span_end,
+        x,
+        tiers,
+        hashes,
+    );
+    exported::told::looked(answer, r)
+}

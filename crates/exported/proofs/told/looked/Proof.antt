@@ -1,0 +1,62 @@
+-- `exported::told::looked` meets its contract: each arm knows its case, and each kind of sum is told by its own function. Assumes nothing.
+use mathlib.Core.Path.{_≡_, sym, ap, _∙_}
+use borrow.Author.Needs.{needs}
+use lib.ListN.{length}
+use lib.Seq.{sets}
+use Rattle.exported.specs.Books.{eight}
+use Rattle.exported.specs.Told.{readingNumber, readingIn}
+use Rattle.exported.proofs.told.looked.Statement.{statement}
+use Rattle.exported.proofs.told.looked.Tie as tie
+
+enum-known-a : tie.Need-enum-known-a
+enum-known-a c = search needs
+
+enum-known-a-2 : tie.Need-enum-known-a-2
+enum-known-a-2 c = search needs
+
+element-write-answer : tie.Need-element-write-answer
+element-write-answer c = search needs
+
+element-write-answer-2 : tie.Need-element-write-answer-2
+element-write-answer-2 c = search needs
+
+element-write-answer-3 : tie.Need-element-write-answer-3
+element-write-answer-3 c = search needs
+
+tell-blocks-requires : tie.Need-tell-blocks-requires
+tell-blocks-requires c κs = search needs
+
+tell-bytes-requires : tie.Need-tell-bytes-requires
+tell-bytes-requires c κs = search needs
+
+returns : tie.Need-returns
+returns c = search needs
+
+eights : (c : tie.Start) → (length (c .args .r .blocks) ≡ 8) × (length (c .args .r .bytes) ≡ 8)
+eights c = (search needs, search needs)
+
+returns-2 : tie.Need-returns-2
+returns-2 c =
+    let z = c .before .before .before .before .before .before .before .before .before in
+    let done = c .before .before .before .before .before .a2 .given .1 in (
+      sym (ap readingNumber done),
+      c .tell-bytes .ensures
+          ∙ ap (λ l. sets l 11 (eight (z .args .r .bytes))) (c .before .before .tell-blocks .ensures)
+          ∙ sym (ap (λ a. readingIn a (z .args .r .blocks) (z .args .r .bytes) (z .args .answer .now)) done),
+      eights z .0,
+      eights z .1,
+    )
+
+pub looked-spec : {M : Type 1} → statement M
+looked-spec =
+    tie.close
+    (tie.spec
+    enum-known-a
+    enum-known-a-2
+    element-write-answer
+    element-write-answer-2
+    element-write-answer-3
+    tell-blocks-requires
+    tell-bytes-requires
+    returns
+    returns-2)

@@ -1,0 +1,332 @@
+-- The turns with no part kept, as the turns of a list: what the store's part was stands beside them, so that a refused turn can be put back. Assumes nothing.
+use Prim.Native.Nat.{ℕ, zero, suc, _+_, _*_, _≤_, _<_}
+use mathlib.Core.Path.{_≡_, refl, sym, ap, subst, _∙_}
+use mathlib.Core.Bool.{Bool, true, false, not, _||_}
+use mathlib.Core.List.{List}
+use mathlib.Core.Logic.{⊎-elim}
+use native.Mathlib.Nat.{eq-or-lt-of-le, le-of-suc-le-suc}
+use native.Mathlib.Numerals.{add-one}
+use native.Mathlib.Omega.{arith}
+use lib.ListN.{length, take, getD, set, length-take}
+use lib.Seq.{set-getD, set-set, getD-set-same}
+use lib.Ieee.{Float}
+use Rattle.model.specs.declared.Span.{Span}
+use Rattle.model.specs.Words.{any}
+use Rattle.model.specs.State.{Tree, Ranges, State, at}
+use Rattle.model.specs.Sound.{Sound, RangesLent}
+use Rattle.model.specs.Refusals.{firstOf, SpanIn, spanIn, noSpan, turnRefusals}
+use Rattle.model.specs.Calls.{Outcome, done, refused, touchSpans, bytesTouched, storeUsed}
+use Rattle.lent.specs.declared.Small.{Small}
+use Rattle.parts.specs.Parts.{back, backRanges}
+use Rattle.answers.specs.declared.Counted.{Counted}
+use Rattle.answers.specs.declared.Count.the-variants.{Refused}
+use Rattle.answers.specs.Answers.{outcome, countOf}
+use Rattle.usedspan.specs.declared.Old.{Old}
+use Rattle.usedspan.specs.declared.Turn.{Turn}
+use Rattle.usedspan.specs.declared.Run.{Run}
+use Rattle.usedspan.specs.Turn.{Others, whole, firstNumber, four, oldRanges, oldFrom, keptOld, undone, smallWith, Stands, RunAt, Ran}
+use Rattle.storeused.specs.Looking.{bad, lookedAt, refusedBy}
+use Rattle.storeused.specs.Going.{number, On, Going}
+use Rattle.storeused.specs.Running.{turnAt, Starts, Went, Roomy, runDone, Outcomes}
+use Rattle.storeused.proofs.Laws.{AsLong, off-next, on-next, none-left, no-bytes, no-spans, outcome-refused, outcome-done, going-start}
+use Rattle.storeused.proofs.Room.{turns-fine}
+
+-- before span i, with no turn refused
+pub record Running (o : Others) (x : Small) (sps : List Span) (depth bytes : List ℕ) (c₀ : Ranges) (ms₀ : List ℕ) (s : ℕ) (time : Float) (counted : Bool) (i : ℕ) (c : Ranges) (ms : List ℕ) (z : Run) : Type 0 where
+  pub on : On (whole o depth bytes c₀ ms₀ x) s sps time counted i (whole o depth bytes c ms (smallWith s z x)) (turnAt x (oldFrom s c₀ ms₀) s time counted i (z .sum) 0)
+  pub kept : keptOld i (oldFrom s c₀ ms₀) s c ms ≡ oldFrom s c₀ ms₀
+
+-- the small numbers that stand already
+small-same : (s : ℕ) (refreshes : Bool) (x : Small) (y : Run) → Stands s refreshes x y → smallWith s y x ≡ x
+small-same s refreshes x y e =
+    let a : set (x .records) s (y .n) ≡ x .records = ap (λ (k : ℕ). set (x .records) s k) (e .records) ∙ set-getD (x .records) s 0 in
+    let b : set (x .stamp) s (y .top) ≡ x .stamp = ap (λ (k : ℕ). set (x .stamp) s k) (e .stamp) ∙ set-getD (x .stamp) s 0 in
+    let d = e .next in
+    (λ j.
+    record {
+      nodes = x .nodes;
+      used = x .used;
+      stores = x .stores;
+      next = d j;
+      stalls = x .stalls;
+      capacity = x .capacity;
+      refreshes = x .refreshes;
+      records = a j;
+      held = x .held;
+      stamp = b j;
+      version = x .version;
+      entries = x .entries;
+      pinned = x .pinned;
+    })
+
+small-over : (s : ℕ) (x : Small) (z r : Run) → smallWith s r (smallWith s z x) ≡ smallWith s r x
+small-over s x z r =
+    let a = set-set (x .records) s (z .n) (r .n) in
+    let b = set-set (x .stamp) s (z .top) (r .top) in
+    (λ j.
+    record {
+      nodes = x .nodes;
+      used = x .used;
+      stores = x .stores;
+      next = r .next;
+      stalls = x .stalls;
+      capacity = x .capacity;
+      refreshes = x .refreshes;
+      records = a j;
+      held = x .held;
+      stamp = b j;
+      version = x .version;
+      entries = x .entries;
+      pinned = x .pinned;
+    })
+
+module _ (o : Others) (x : Small) (sps : List Span) (depth bytes : List ℕ) (c₀ : Ranges) (ms₀ : List ℕ) (s : ℕ) (refreshes : Bool) (time : Float) (counted : Bool) (y : Run)
+    (q : Starts o x sps depth bytes c₀ ms₀ s refreshes time counted y) where
+  abbrev began : State
+  began = whole o depth bytes c₀ ms₀ x
+
+  abbrev old : Old
+  old = oldFrom s c₀ ms₀
+
+  pub low : s < 8
+  low = omega (arith, q .on .less, q .on .sound .counts .stores)
+
+  pub lends : (s < 8) × RangesLent c₀ × (2048 ≤ length ms₀)
+  lends = (low, q .on .sound .lent .ranges, q .on .sound .lent .marks)
+
+  pub running-start : Running o x sps depth bytes c₀ ms₀ s time counted 0 c₀ ms₀ y
+  running-start =
+      record {
+        on =
+            subst (λ (w : Small). On began s sps time counted 0 (whole o depth bytes c₀ ms₀ w) (turnAt x old s time counted 0 (y .sum) 0)) (sym (small-same s refreshes x y (q .stands)))
+            (subst (λ (k : ℕ). On began s sps time counted 0 began (turnAt x old s time counted 0 k 0)) (sym (q .sum)) (q .on));
+        kept = refl;
+      }
+
+  module _ (i : ℕ) (c : Ranges) (ms : List ℕ) (z : Run) (v : Running o x sps depth bytes c₀ ms₀ s time counted i c ms z) where
+    abbrev here : State
+    here = whole o depth bytes c ms (smallWith s z x)
+
+    abbrev turn : Turn
+    turn = turnAt x old s time counted i (z .sum) 0
+
+    stands-now : Stands s refreshes (smallWith s z x) z
+    stands-now =
+        record {
+          records = sym (getD-set-same (x .records) s (z .n) 0 (omega (arith, low, q .on .sound .lent .books .records)));
+          on = q .stands .on;
+          stamp = sym (getD-set-same (x .stamp) s (z .top) 0 (omega (arith, low, q .on .sound .lent .books .stamp)));
+          next = refl;
+        }
+
+    module _ (sp : Span) (less : i < length sps) (e : sp ≡ getD sps i noSpan) where
+      pub running-at : RunAt o (smallWith s z x) sp depth bytes c ms s refreshes z
+      running-at =
+          record {
+            stands = stands-now;
+            sound = v .on .sound;
+            store = v .on .less;
+            span = rw e (subst (λ (t : Tree). SpanIn t (getD sps i noSpan)) (sym (v .on .tree)) (v .on .inside i less));
+            sum = omega (arith, v .on .sum, v .on .few);
+          }
+
+      module _ (c′ : Ranges) (ms′ : List ℕ) (r : Run)
+          (w : Ran sp s time counted here z (whole o depth bytes c′ ms′ (smallWith s r (smallWith s z x))) r) where
+        abbrev there : State
+        there = whole o depth bytes c′ ms′ (smallWith s r x)
+
+        ran : Ran (getD sps i noSpan) s time counted here z there r
+        ran =
+            subst (λ (a : Small). Ran (getD sps i noSpan) s time counted here z (whole o depth bytes c′ ms′ a) r) (small-over s x z r)
+            (subst (λ (a : Span). Ran a s time counted here z (whole o depth bytes c′ ms′ (smallWith s r (smallWith s z x))) r) e w)
+
+        pub running-next : r .number ≡ 0 → Running o x sps depth bytes c₀ ms₀ s time counted (i + 1) c′ ms′ r
+        running-next n =
+            record {
+              on =
+                  on-next began s sps time counted i less here there turn (turnAt x old s time counted (i + 1) (r .sum) 0) (v .on)
+                  (record {
+                    store = refl;
+                    when = refl;
+                    counts = refl;
+                    number = sym n ∙ ran .number;
+                    stopped = λ l. absurd (omega arith);
+                    taken = λ a. record { state = ran .taken n; old = sym (v .kept); turns = refl; sum = ran .sum n };
+                  })
+                  refl;
+              kept = ap (λ (k : ℕ). keptOld k old s c′ ms′) (add-one i);
+            }
+
+        pub running-stop : (r .number ≡ 0 → ⊥) → Went began s sps time counted there r
+        running-stop n =
+            let l : 1 ≤ r .number = omega arith in
+            let f =
+            off-next began s sps time counted i less here (undone s (keptOld i old s c ms) here) turn (turnAt x old s time counted i (z .sum) (r .number)) (v .on)
+            (record {
+              store = refl;
+              when = refl;
+              counts = refl;
+              number = ran .number;
+              stopped = λ a. refl;
+              taken = λ a. absurd (n a);
+            })
+            n in
+            let k = ran .stopped l in
+            record {
+              first = f .first;
+              states = λ a. absurd (n a);
+              bytes = λ a. absurd (n a);
+              ranges =
+                  (λ j. backRanges (128 * s) 128 (oldRanges (sym (v .kept) j)) (k .0 j)) ∙ v .on .ranges;
+              marks = (λ j. back (256 * s) 256 (sym (v .kept) j .marks) (k .1 j)) ∙ v .on .marks;
+            }
+
+    pub running-end : length sps ≤ i → i ≤ length sps → z .number ≡ 0 → Went began s sps time counted here z
+    running-end over high n =
+        let l = none-left sps i over high in
+        let k = ap (λ (a : List Span). firstOf (turnRefusals here s a time counted)) l in
+        let m = ap (λ (a : List Span). bytesTouched here s a time counted) l ∙ no-bytes here s time counted in
+        record {
+          first = n ∙ sym k ∙ v .on .first;
+          states = λ a. sym (no-spans here s time counted) ∙ ap (λ (b : List Span). touchSpans here s b time counted) (sym l) ∙ v .on .states;
+          bytes = λ a. omega (arith, v .on .bytes, m);
+          ranges = (λ j. backRanges (128 * s) 128 (oldRanges (sym (v .kept) j)) c) ∙ v .on .ranges;
+          marks = (λ j. back (256 * s) 256 (sym (v .kept) j .marks) ms) ∙ v .on .marks;
+        }
+
+  -- ---- the answer
+
+  abbrev all : Outcome (Unit {0}) ℕ
+  all = record { state = touchSpans began s sps time counted; lists = tt; answer = done (bytesTouched began s sps time counted) }
+
+  module _ (c : Ranges) (ms : List ℕ) (r : Run) (w : Went began s sps time counted (whole o depth bytes c ms (smallWith s r x)) r) where
+    pub went-done : (a : Counted) → a ≡ runDone x s r → r .number ≡ 0 → Outcomes began s sps time counted (whole o depth bytes c ms (a .small)) a
+    unfolding storeUsed
+    went-done a is n =
+        ap (λ (p : Counted). outcome (whole o depth bytes c ms (p .small)) tt (countOf (p .answer))) is
+        ∙ outcome-done (number began s sps time counted) (touchSpans began s sps time counted) (whole o depth bytes c ms (smallWith s r x)) (r .sum) (bytesTouched began s sps time counted)
+        (sym (w .first) ∙ n) (w .states n) (w .bytes n) began all refl
+
+    pub went-refused : (kept : Old) (c′ : Ranges) (ms′ : List ℕ) → (r .number ≡ 0 → ⊥) → kept ≡ old
+        → c′ ≡ backRanges (128 * s) 128 (oldRanges kept) c → ms′ ≡ back (256 * s) 256 (kept .marks) ms
+        → Outcomes began s sps time counted (whole o depth bytes c′ ms′ x) (record { small = x; answer = Refused (r .number) })
+    unfolding storeUsed
+    went-refused kept c′ ms′ n k ec em =
+        let a = ec ∙ ap (λ (p : Old). backRanges (128 * s) 128 (oldRanges p) c) k ∙ w .ranges in
+        let b = em ∙ ap (λ (p : Old). back (256 * s) 256 (p .marks) ms) k ∙ w .marks in
+        (λ j. outcome (whole o depth bytes (a j) (b j) x) tt (refused (w .first j)))
+        ∙ outcome-refused (number began s sps time counted) began all (λ (e : number began s sps time counted ≡ 0). n (w .first ∙ e))
+
+    -- with room for all, none is refused
+    pub roomy-none : Roomy (y .n) (y .top) (y .next) (length sps) → r .number ≡ 0
+    roomy-none room =
+        w .first ∙ sym (q .on .first)
+        ∙ turns-fine began s sps time counted (q .on .sound) (q .on .less) (q .on .inside) (q .on .finite)
+        (rw (q .stands .records, q .stands .stamp, q .stands .next) at room)
+
+-- ---- the columns after the turns
+
+pub lent-still : {s : ℕ} {c₀ c : Ranges} {ms₀ ms : List ℕ} → AsLong c₀ ms₀ c ms → (s < 8) × RangesLent c₀ × (2048 ≤ length ms₀)
+    → (s < 8) × RangesLent c × (2048 ≤ length ms)
+lent-still a l = (
+  l .0,
+  record {
+    node = omega (arith, a .node, l .1 .node);
+    start = omega (arith, a .start, l .1 .start);
+    end = omega (arith, a .end, l .1 .end);
+    id = omega (arith, a .id, l .1 .id);
+    stamp = omega (arith, a .stamp, l .1 .stamp);
+    touched = omega (arith, a .touched, l .1 .touched);
+    write = omega (arith, a .write, l .1 .write);
+  },
+  omega (arith, a .marks, l .2),
+)
+
+pub room-array : {n top next count : ℕ} (l : List Span) → Roomy n top next count → Roomy n top next (length (take count l))
+room-array {n} {top} {next} {count} l r =
+    let e = length-take count l in
+    record { records = omega (arith, e, r .records); stamps = omega (arith, e, r .stamps); ids = omega (arith, e, r .ids) }
+
+-- ---- a look at the spans, with nothing kept of it
+
+-- the first i spans are of every tree with these lengths
+abbrev pub Fine : List ℕ → ℕ → List Span → ℕ → Type 0
+Fine len nodes sps i = (t : Tree) → t .len ≡ len → t .nodes ≡ nodes → any i (bad t sps) ≡ false
+
+some-at : (n : ℕ) (p : ℕ → Bool) (i : ℕ) → i < n → p i ≡ true → any n p ≡ true
+unfolding any
+some-at zero p i h e = absurd (omega arith)
+some-at (suc n) p i h e =
+    ⊎-elim (λ (f : i ≡ n). ap (λ (b : Bool). b || any n p) (ap p (sym f) ∙ e)) (λ (l : i < n). go (p n) (some-at n p i l e)) (eq-or-lt-of-le (le-of-suc-le-suc h))
+  where
+    go : (b : Bool) → any n p ≡ true → (b || any n p) ≡ true
+    go true g = refl
+    go false g = g
+
+module _ (len : List ℕ) (nodes : ℕ) (sps : List Span) where
+  pub fine-none : Fine len nodes sps 0
+  unfolding any
+  fine-none t l n = refl
+
+  module _ (i : ℕ) (r : Bool) (sp : Span) (e : sp ≡ getD sps i noSpan) (f : (t : Tree) → t .len ≡ len → t .nodes ≡ nodes → r ≡ spanIn t sp) where
+    bad-is : (t : Tree) → t .len ≡ len → t .nodes ≡ nodes → bad t sps i ≡ not r
+    bad-is t l n = ap (λ (q : Span). not (spanIn t q)) (sym e) ∙ ap not (sym (f t l n))
+
+    pub fine-more : not r ≡ false → Fine len nodes sps i → Fine len nodes sps (i + 1)
+    unfolding any
+    fine-more g h t l n = ap (λ (k : ℕ). any k (bad t sps)) (add-one i) ∙ rw (bad-is t l n, g, h t l n) refl
+
+    pub fine-not : i < length sps → not r ≡ true → (k a b : ℕ) → a ≡ b → k ≡ four a
+        → (t : Tree) → t .len ≡ len → t .nodes ≡ nodes → k ≡ refusedBy (any (length sps) (bad t sps)) b
+    fine-not less g k a b ab h t l n =
+        h ∙ ap four ab ∙ ap (λ (q : Bool). refusedBy q b) (sym (some-at (length sps) (bad t sps) i less (bad-is t l n ∙ g)))
+
+  pub fine-all : (i : ℕ) → length sps ≤ i → i ≤ length sps → Fine len nodes sps i → (a b : ℕ) → a ≡ b
+      → (t : Tree) → t .len ≡ len → t .nodes ≡ nodes → a ≡ refusedBy (any (length sps) (bad t sps)) b
+  fine-all i over high h a b ab t l n =
+      let e : i ≡ length sps = omega arith in
+      ab ∙ ap (λ (q : Bool). refusedBy q b) (sym (ap (λ (k : ℕ). any k (bad t sps)) (sym e) ∙ h t l n))
+
+-- ---- before the turns
+
+module _ (o : Others) (x : Small) (sps : List Span) (depth bytes : List ℕ) (c : Ranges) (ms : List ℕ) (s : ℕ) (time : Float) (counted : Bool) (k : ℕ)
+    (h : Sound (whole o depth bytes c ms x)) (f : (t : Tree) → t .len ≡ o .len → t .nodes ≡ x .nodes → k ≡ refusedBy (any (length sps) (bad t sps)) (firstNumber (x .stores) s (length sps) time)) where
+  abbrev st₀ : State
+  st₀ = whole o depth bytes c ms x
+
+  abbrev first : ℕ
+  first = firstNumber (x .stores) s (length sps) time
+
+  abbrev turn₀ : ℕ → Turn
+  turn₀ n = turnAt x (oldFrom s c ms) s time counted 0 0 n
+
+  looked-is : (b : Bool) → lookedAt b (turn₀ first) ≡ turn₀ (refusedBy b first)
+  looked-is true = refl
+  looked-is false = refl
+
+  at-start : Going st₀ s sps time counted 0 st₀ (turn₀ k)
+  at-start =
+      let b = any (length sps) (bad (st₀ .tree) sps) in
+      subst (λ (y : Turn). Going st₀ s sps time counted 0 st₀ y) (looked-is b ∙ ap turn₀ (sym (f (st₀ .tree) refl refl)))
+      (going-start st₀ s sps time counted h x (turn₀ first) (lookedAt b (turn₀ first))
+      (record { small = refl; store = refl; when = refl; counts = refl; turns = refl; sum = refl; refused = refl }) refl refl)
+
+  pub start-refused : (k ≡ 0 → ⊥) → Outcomes st₀ s sps time counted st₀ (record { small = x; answer = Refused k })
+  unfolding storeUsed
+  start-refused n =
+      let f = at-start .off n .first in
+      ap (λ (j : ℕ). outcome st₀ tt (refused j)) f
+      ∙ outcome-refused (number st₀ s sps time counted) st₀ _ (λ (a : number st₀ s sps time counted ≡ 0). n (f ∙ a))
+
+  pub start-low : k ≡ 0 → s < 8
+  start-low n = omega (arith, at-start .on n .less, h .counts .stores)
+
+  pub start-counts : k ≡ 0 → (at (x .records) s ≤ 128) × (at (x .stamp) s ≤ 281474976710655) × (x .next ≤ 281474976710655)
+  start-counts n =
+      let e = h .counts .each s (omega arith) (at-start .on n .less) in
+      (e .records, e .stamp, h .counts .nextId)
+
+  pub start-runs : k ≡ 0 → (refreshes : Bool) (y : Run) → Stands s refreshes x y → y .sum ≡ 0 → y .number ≡ 0
+      → Starts o x sps depth bytes c ms s refreshes time counted y
+  start-runs n refreshes y a b d =
+      record { stands = a; sum = b; number = d; on = subst (λ (j : ℕ). On st₀ s sps time counted 0 st₀ (turn₀ j)) n (at-start .on n) }
