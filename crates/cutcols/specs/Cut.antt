@@ -1,53 +1,61 @@
--- A column cut in two at a place in each record: what stays, and behind it what moves. A record's kind is 0 where it stays, 1 where it moves, and
--- 2 + c where it is across, the c-th from 0 on: it stays and moves. Assumes nothing.
+-- What a cut of node j at k goes through; and one range of a store's part, cut: its tail goes behind the others. Assumes nothing.
 use Prim.Native.Nat.{ℕ, zero, suc, _+_, _-_}
-use mathlib.Core.Bool.{Bool, true, false, not}
-use mathlib.Core.List.{List, [], _∷_, _++_}
-use lib.ListN.{length, getD, drop}
+use mathlib.Core.Bool.{Bool, true, false, _&&_}
+use mathlib.Core.List.{List}
+use lib.ListN.{getD, set}
 use lib.Dec.{ltb, eqb}
+use lib.Ieee.{nan}
+use Rattle.model.specs.State.{Ranges, at}
+use Rattle.model.specs.Store.{plus}
+use Rattle.lent.specs.Lent.{rangesOf}
+use Rattle.cols.specs.Cols.{cutAt}
+use Rattle.cutcols.specs.declared.Place.{Place}
 
--- an element in front, or not
-abbrev pub front : {A : Type 0} → Bool → A → List A → List A
-front true x xs = x ∷ xs
-front false x xs = xs
+-- `across` and `pinAcross` of what stands on this node, with this start and end
+abbrev pub isAcross : ℕ → ℕ → ℕ → ℕ → ℕ → Bool
+isAcross j k node start end = eqb node j && (ltb start k && ltb k end)
 
-module _ {A : Type 0} where
-  -- of the n elements from place a on, those of a kind other than `none`, each as f makes it from its kind and itself
-  unfoldable pub picked : ℕ → (ℕ → A → A) → A → List ℕ → List A → ℕ → ℕ → List A
-  picked none f d kinds l a zero = []
-  picked none f d kinds l a (suc n) =
-      let q = getD kinds a 0 in
-      front (not (eqb q none)) (f q (getD l a d)) (picked none f d kinds l (suc a) n)
+module _ (j k : ℕ) (node start end : List ℕ) where
+  -- how many before place i are across
+  unfoldable pub acrossBefore : ℕ → ℕ
+  acrossBefore zero = 0
+  acrossBefore (suc i) = plus (isAcross j k (at node i) (at start i) (at end i)) (acrossBefore i)
 
-  -- of the first n elements what stays, by f, and behind it what moves, by g
-  abbrev pub parted : (ℕ → A → A) → (ℕ → A → A) → A → List ℕ → ℕ → List A → List A
-  parted f g d kinds n l = picked 1 f d kinds l 0 n ++ picked 0 g d kinds l 0 n
+-- the range at place p of n in two: what is below k stays, and what is from k on stands behind all, on node m
+unfoldable pub splitRange : ℕ → ℕ → ℕ → ℕ → ℕ → Ranges → Ranges
+splitRange n p k m id c =
+    rangesOf
+    (set (c .node) n m)
+    (set (c .start) n 0)
+    (set (set (c .end) p k) n (at (c .end) p - k))
+    (set (c .id) n id)
+    (set (c .stamp) n (at (c .stamp) p))
+    (set (c .touched) n (getD (c .touched) p nan))
+    (set (c .write) n (at (c .write) p))
 
-  -- the column with a list in its first places
-  abbrev pub laid : List A → List A → List A
-  laid xs l = xs ++ drop (length xs) l
+-- the range at place p of n behind the others, on node m, counted from k on
+unfoldable pub moveRange : ℕ → ℕ → ℕ → ℕ → Ranges → Ranges
+moveRange n p k m c =
+    rangesOf
+    (cutAt m p n (c .node))
+    (cutAt (at (c .start) p - k) p n (c .start))
+    (cutAt (at (c .end) p - k) p n (c .end))
+    (cutAt (at (c .id) p) p n (c .id))
+    (cutAt (at (c .stamp) p) p n (c .stamp))
+    (cutAt (getD (c .touched) p nan) p n (c .touched))
+    (cutAt (at (c .write) p) p n (c .write))
 
--- ---- what becomes of each column's value, by its record's kind
+-- `beyond` of a range on this node, with this end
+abbrev pub isBeyond : ℕ → ℕ → ℕ → ℕ → Bool
+isBeyond j k node end = eqb node j && ltb k end
 
-abbrev pub asIs : {A : Type 0} → ℕ → A → A
-asIs q x = x
+-- by whether the range at hand has blocks beyond, and whether it begins below: it stays, it is in two, or it moves
+abbrev pub stepRanges : Bool → Bool → Place → ℕ → ℕ → Ranges → Ranges
+stepRanges false below s k m c = c
+stepRanges true true s k m c = splitRange (s .n) (s .at) k m (s .next) c
+stepRanges true false s k m c = moveRange (s .n) (s .at) k m c
 
--- the new node
-abbrev pub always : ℕ → ℕ → ℕ → ℕ
-always m q x = m
-
--- a start or an end, counted from the cut on
-abbrev pub lessBy : ℕ → ℕ → ℕ → ℕ
-lessBy k q x = x - k
-
-abbrev pub either : Bool → ℕ → ℕ → ℕ
-either true a b = a
-either false a b = b
-
--- a record across the cut ends there
-abbrev pub endAt : ℕ → ℕ → ℕ → ℕ
-endAt k q x = either (ltb q 2) x k
-
--- the tail of a record across has a new id
-abbrev pub idFrom : ℕ → ℕ → ℕ → ℕ
-idFrom next q x = either (ltb q 2) x (next + (q - 2))
+abbrev pub stepPlace : Bool → Bool → Place → Place
+stepPlace false below s = record { at = s .at + 1; top = s .top; n = s .n; next = s .next }
+stepPlace true true s = record { at = s .at + 1; top = s .top; n = s .n + 1; next = s .next + 1 }
+stepPlace true false s = record { at = s .at; top = s .top - 1; n = s .n; next = s .next }

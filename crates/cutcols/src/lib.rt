@@ -1,53 +1,51 @@
 ghost use mathlib.Core.Path.{_≡_};
-ghost use Prim.Native.Nat.{_+_, _-_, _^_, _≤_, _<_};
+ghost use mathlib.Core.Bool.{true};
+ghost use Prim.Native.Nat.{_-_, _^_, _≤_, _<_};
 ghost use lib.ListN.{length};
-ghost use lib.Seq.{paste};
-ghost use lib.Ieee.{nan};
-ghost use Rattle.cutcols.specs.Cut.{parted, laid, asIs, always, lessBy, endAt, idFrom};
+ghost use lib.Dec.{ltb};
+ghost use Rattle.model.specs.State.{at};
+ghost use Rattle.lent.specs.Lent.{rangesOf};
+ghost use Rattle.recs.specs.Part.{Sized};
+ghost use Rattle.cutcols.specs.Cut.{isAcross, acrossBefore, isBeyond, splitRange, moveRange, stepRanges, stepPlace};
 
-// The first `n` of `from`, written from place `at` on; the same at each width.
-fn append_usize(col: &mut [usize], at: usize, from: &[usize], n: usize)
-    requires { ⌜ (n ≤ length (now from)) × (at + n ≤ length (now col)) ⌝ }
-    ensures { λ _. ⌜ now (col .exit) ≡ paste (now (col .entry)) at (now (from .entry)) n ⌝ }
+// Is what stands at place `i` across `k` on node `j`? Most places are on another node: then nothing else is read.
+fn is_across(node: &[usize], start: &[usize], end: &[usize], i: usize, j: usize, k: usize) -> bool
+    requires { ⌜ (i < length (now node)) × (i < length (now start)) × (i < length (now end)) ⌝ }
+    ensures { λ r. ⌜ r ≡ isAcross j k (at (now (node .entry)) i) (at (now (start .entry)) i) (at (now (end .entry)) i) ⌝ }
 {
-    let mut i = 0;
-    while i < n {
-        col[at + i] = from[i];
-        i += 1;
+    if node[i] != j {
+        return false;
     }
+    if k <= start[i] {
+        return false;
+    }
+    if end[i] <= k {
+        return false;
+    }
+    true
 }
 
-fn append_u64(col: &mut [u64], at: usize, from: &[u64], n: usize)
-    requires { ⌜ (n ≤ length (now from)) × (at + n ≤ length (now col)) ⌝ }
-    ensures { λ _. ⌜ now (col .exit) ≡ paste (now (col .entry)) at (now (from .entry)) n ⌝ }
+// How many of the first `n` are across `k` on node `j`.
+pub fn count_across(
+    node: &[usize],
+    start: &[usize],
+    end: &[usize],
+    n: usize,
+    j: usize,
+    k: usize,
+) -> usize
+    requires { ⌜ (n ≤ length (now node)) × (n ≤ length (now start)) × (n ≤ length (now end)) ⌝ }
+    ensures { λ r. ⌜ r ≡ acrossBefore j k (now (node .entry)) (now (start .entry)) (now (end .entry)) n ⌝ }
 {
+    let mut across = 0;
     let mut i = 0;
     while i < n {
-        col[at + i] = from[i];
+        if is_across(node, start, end, i, j, k) {
+            across += 1;
+        }
         i += 1;
     }
-}
-
-fn append_u32(col: &mut [u32], at: usize, from: &[u32], n: usize)
-    requires { ⌜ (n ≤ length (now from)) × (at + n ≤ length (now col)) ⌝ }
-    ensures { λ _. ⌜ now (col .exit) ≡ paste (now (col .entry)) at (now (from .entry)) n ⌝ }
-{
-    let mut i = 0;
-    while i < n {
-        col[at + i] = from[i];
-        i += 1;
-    }
-}
-
-fn append_f64(col: &mut [f64], at: usize, from: &[f64], n: usize)
-    requires { ⌜ (n ≤ length (now from)) × (at + n ≤ length (now col)) ⌝ }
-    ensures { λ _. ⌜ now (col .exit) ≡ paste (now (col .entry)) at (now (from .entry)) n ⌝ }
-{
-    let mut i = 0;
-    while i < n {
-        col[at + i] = from[i];
-        i += 1;
-    }
+    across
 }
 
 // A place counted from `k` on, or 0 where it stands before.
@@ -60,202 +58,143 @@ pub fn less(x: usize, k: usize) -> usize
     x - k
 }
 
-// The end of what stays: `k` where the range is across.
-fn head_end(kind: u8, x: usize, k: usize) -> usize
-    ensures { λ r. ⌜ r ≡ endAt k kind x ⌝ }
+// The range at place `p` of `n`, across `k`: its head stays, and its tail stands behind all, on node `m` with a new id.
+fn split_range(
+    node: &mut [usize],
+    start: &mut [usize],
+    end: &mut [usize],
+    id: &mut [u64],
+    stamp: &mut [u64],
+    touched: &mut [f64],
+    write: &mut [u32],
+    n: usize,
+    p: usize,
+    k: usize,
+    m: usize,
+    new: u64,
+)
+    requires { ⌜ (p < n) × (n < 128) × (k ≤ at (now end) p) × Sized 128 (rangesOf (now node) (now start) (now end) (now id) (now stamp) (now touched) (now write)) ⌝ }
+    ensures { λ _. ⌜ rangesOf (now (node .exit)) (now (start .exit)) (now (end .exit)) (now (id .exit)) (now (stamp .exit)) (now (touched .exit)) (now (write .exit)) ≡ splitRange n p k m new (rangesOf (now (node .entry)) (now (start .entry)) (now (end .entry)) (now (id .entry)) (now (stamp .entry)) (now (touched .entry)) (now (write .entry))) ⌝ }
 {
-    if kind < 2 {
-        return x;
-    }
-    k
+    let last = end[p];
+    node[n] = m;
+    start[n] = 0;
+    end[p] = k;
+    end[n] = last - k;
+    id[n] = new;
+    stamp[n] = stamp[p];
+    touched[n] = touched[p];
+    write[n] = write[p];
 }
 
-// The id of what moves: a new one where the range is across.
-fn tail_id(kind: u8, x: u64, next: u64) -> u64
-    requires { ⌜ next < 2 ^ 48 ⌝ }
-    ensures { λ r. ⌜ r ≡ idFrom next kind x ⌝ }
+// The range at place `p` of `n`, all from `k` on, moved behind the others, on node `m`. It takes one pass over each column: few ranges move.
+fn move_range(
+    node: &mut [usize],
+    start: &mut [usize],
+    end: &mut [usize],
+    id: &mut [u64],
+    stamp: &mut [u64],
+    touched: &mut [f64],
+    write: &mut [u32],
+    n: usize,
+    p: usize,
+    k: usize,
+    m: usize,
+)
+    requires { ⌜ (p < n) × (n ≤ 128) × (k ≤ at (now start) p) × (k ≤ at (now end) p) × Sized 128 (rangesOf (now node) (now start) (now end) (now id) (now stamp) (now touched) (now write)) ⌝ }
+    ensures { λ _. ⌜ rangesOf (now (node .exit)) (now (start .exit)) (now (end .exit)) (now (id .exit)) (now (stamp .exit)) (now (touched .exit)) (now (write .exit)) ≡ moveRange n p k m (rangesOf (now (node .entry)) (now (start .entry)) (now (end .entry)) (now (id .entry)) (now (stamp .entry)) (now (touched .entry)) (now (write .entry))) ⌝ }
 {
-    if kind < 2 {
-        return x;
-    }
-    next + (kind - 2) as u64
+    let first = start[p] - k;
+    let last = end[p] - k;
+    let own = id[p];
+    let used = stamp[p];
+    let time = touched[p];
+    let to = write[p];
+    cols::cut_usize(node, n, p, m);
+    cols::cut_usize(start, n, p, first);
+    cols::cut_usize(end, n, p, last);
+    cols::cut_u64(id, n, p, own);
+    cols::cut_u64(stamp, n, p, used);
+    cols::cut_f64(touched, n, p, time);
+    cols::cut_u32(write, n, p, to);
 }
 
-// The nodes: those that move are on node `m`.
-pub fn cut_nodes(col: &mut [usize], kinds: &[u8; 128], n: usize, m: usize)
-    requires { ⌜ (n ≤ 128) × (length (now col) ≡ 128) × (length (parted asIs (always m) 0 (now kinds) n (now col)) ≤ 128) ⌝ }
-    ensures { λ _. ⌜ now (col .exit) ≡ laid (parted asIs (always m) 0 (now (kinds .entry)) n (now (col .entry))) (now (col .entry)) ⌝ }
+// Has the range at place `i` blocks of node `j` from `k` on? Most ranges are on another node: then nothing else is read.
+fn is_beyond(node: &[usize], end: &[usize], i: usize, j: usize, k: usize) -> bool
+    requires { ⌜ (i < length (now node)) × (i < length (now end)) ⌝ }
+    ensures { λ r. ⌜ r ≡ isBeyond j k (at (now (node .entry)) i) (at (now (end .entry)) i) ⌝ }
 {
-    let mut tails = [0usize; 128];
-    let mut stay = 0;
-    let mut moved = 0;
-    let mut i = 0;
-    while i < n {
-        let kind = kinds[i];
-        let x = col[i];
-        if kind != 1 {
-            col[stay] = x;
-            stay += 1;
-        }
-        if kind != 0 {
-            tails[moved] = m;
-            moved += 1;
-        }
-        i += 1;
+    if node[i] != j {
+        return false;
     }
-    append_usize(col, stay, &tails, moved);
+    if end[i] <= k {
+        return false;
+    }
+    true
 }
 
-// The starts: those that move are counted from `k` on, and a tail starts at 0.
-pub fn cut_starts(col: &mut [usize], kinds: &[u8; 128], n: usize, k: usize)
-    requires { ⌜ (n ≤ 128) × (length (now col) ≡ 128) × (length (parted asIs (lessBy k) 0 (now kinds) n (now col)) ≤ 128) ⌝ }
-    ensures { λ _. ⌜ now (col .exit) ≡ laid (parted asIs (lessBy k) 0 (now (kinds .entry)) n (now (col .entry))) (now (col .entry)) ⌝ }
-{
-    let mut tails = [0usize; 128];
-    let mut stay = 0;
-    let mut moved = 0;
-    let mut i = 0;
-    while i < n {
-        let kind = kinds[i];
-        let x = col[i];
-        let later = less(x, k);
-        if kind != 1 {
-            col[stay] = x;
-            stay += 1;
-        }
-        if kind != 0 {
-            tails[moved] = later;
-            moved += 1;
-        }
-        i += 1;
-    }
-    append_usize(col, stay, &tails, moved);
+// How far a cut is: the place of the range at hand, the end of those still to come, how many ranges there are, and the next id.
+pub struct Place {
+    pub at: usize,
+    pub top: usize,
+    pub n: usize,
+    pub next: u64,
 }
 
-// The ends: a head ends at `k`, and those that move are counted from there on.
-pub fn cut_ends(col: &mut [usize], kinds: &[u8; 128], n: usize, k: usize)
-    requires { ⌜ (n ≤ 128) × (length (now col) ≡ 128) × (length (parted (endAt k) (lessBy k) 0 (now kinds) n (now col)) ≤ 128) ⌝ }
-    ensures { λ _. ⌜ now (col .exit) ≡ laid (parted (endAt k) (lessBy k) 0 (now (kinds .entry)) n (now (col .entry))) (now (col .entry)) ⌝ }
+// The range at hand, cut: it stays, it is in two, or it moves behind the others.
+pub fn cut_next(
+    node: &mut [usize],
+    start: &mut [usize],
+    end: &mut [usize],
+    id: &mut [u64],
+    stamp: &mut [u64],
+    touched: &mut [f64],
+    write: &mut [u32],
+    s: Place,
+    j: usize,
+    k: usize,
+    m: usize,
+) -> Place
+    requires { ⌜ (s .at < s .top) × (s .top ≤ s .n) × (s .n ≤ 128) × (isAcross j k (at (now node) (s .at)) (at (now start) (s .at)) (at (now end) (s .at)) ≡ true → s .n < 128) × (s .next < 2 ^ 63) × Sized 128 (rangesOf (now node) (now start) (now end) (now id) (now stamp) (now touched) (now write)) ⌝ }
+    ensures { λ r. ⌜ (rangesOf (now (node .exit)) (now (start .exit)) (now (end .exit)) (now (id .exit)) (now (stamp .exit)) (now (touched .exit)) (now (write .exit)) ≡ stepRanges (isBeyond j k (at (now (node .entry)) (s .at)) (at (now (end .entry)) (s .at))) (ltb (at (now (start .entry)) (s .at)) k) s k m (rangesOf (now (node .entry)) (now (start .entry)) (now (end .entry)) (now (id .entry)) (now (stamp .entry)) (now (touched .entry)) (now (write .entry)))) × (r ≡ stepPlace (isBeyond j k (at (now (node .entry)) (s .at)) (at (now (end .entry)) (s .at))) (ltb (at (now (start .entry)) (s .at)) k) s) ⌝ }
 {
-    let mut tails = [0usize; 128];
-    let mut stay = 0;
-    let mut moved = 0;
-    let mut i = 0;
-    while i < n {
-        let kind = kinds[i];
-        let x = col[i];
-        let sooner = head_end(kind, x, k);
-        let later = less(x, k);
-        if kind != 1 {
-            col[stay] = sooner;
-            stay += 1;
-        }
-        if kind != 0 {
-            tails[moved] = later;
-            moved += 1;
-        }
-        i += 1;
+    let p = s.at;
+    let n = s.n;
+    if !is_beyond(node, end, p, j, k) {
+        return Place {
+            at: p + 1,
+            top: s.top,
+            n,
+            next: s.next,
+        };
     }
-    append_usize(col, stay, &tails, moved);
-}
-
-// The ids: a head keeps its id, and the tails of those across get new ones, from `next` on.
-pub fn cut_ids(col: &mut [u64], kinds: &[u8; 128], n: usize, next: u64)
-    requires { ⌜ (n ≤ 128) × (length (now col) ≡ 128) × (length (parted asIs (idFrom next) 0 (now kinds) n (now col)) ≤ 128) × (next < 2 ^ 48) ⌝ }
-    ensures { λ _. ⌜ now (col .exit) ≡ laid (parted asIs (idFrom next) 0 (now (kinds .entry)) n (now (col .entry))) (now (col .entry)) ⌝ }
-{
-    let mut tails = [0u64; 128];
-    let mut stay = 0;
-    let mut moved = 0;
-    let mut i = 0;
-    while i < n {
-        let kind = kinds[i];
-        let own = col[i];
-        let new = tail_id(kind, own, next);
-        if kind != 1 {
-            col[stay] = own;
-            stay += 1;
-        }
-        if kind != 0 {
-            tails[moved] = new;
-            moved += 1;
-        }
-        i += 1;
+    if start[p] < k {
+        split_range(
+            node,
+            start,
+            end,
+            id,
+            stamp,
+            touched,
+            write,
+            n,
+            p,
+            k,
+            m,
+            s.next,
+        );
+        return Place {
+            at: p + 1,
+            top: s.top,
+            n: n + 1,
+            next: s.next + 1,
+        };
     }
-    append_u64(col, stay, &tails, moved);
-}
-
-// The stamps: as they are, for a head and its tail.
-pub fn cut_stamps(col: &mut [u64], kinds: &[u8; 128], n: usize)
-    requires { ⌜ (n ≤ 128) × (length (now col) ≡ 128) × (length (parted asIs asIs 0 (now kinds) n (now col)) ≤ 128) ⌝ }
-    ensures { λ _. ⌜ now (col .exit) ≡ laid (parted asIs asIs 0 (now (kinds .entry)) n (now (col .entry))) (now (col .entry)) ⌝ }
-{
-    let mut tails = [0u64; 128];
-    let mut stay = 0;
-    let mut moved = 0;
-    let mut i = 0;
-    while i < n {
-        let kind = kinds[i];
-        let x = col[i];
-        if kind != 1 {
-            col[stay] = x;
-            stay += 1;
-        }
-        if kind != 0 {
-            tails[moved] = x;
-            moved += 1;
-        }
-        i += 1;
+    move_range(node, start, end, id, stamp, touched, write, n, p, k, m);
+    Place {
+        at: p,
+        top: s.top - 1,
+        n,
+        next: s.next,
     }
-    append_u64(col, stay, &tails, moved);
-}
-
-// The times: as they are, for a head and its tail.
-pub fn cut_times(col: &mut [f64], kinds: &[u8; 128], n: usize)
-    requires { ⌜ (n ≤ 128) × (length (now col) ≡ 128) × (length (parted asIs asIs nan (now kinds) n (now col)) ≤ 128) ⌝ }
-    ensures { λ _. ⌜ now (col .exit) ≡ laid (parted asIs asIs nan (now (kinds .entry)) n (now (col .entry))) (now (col .entry)) ⌝ }
-{
-    let mut tails = [0.0; 128];
-    let mut stay = 0;
-    let mut moved = 0;
-    let mut i = 0;
-    while i < n {
-        let kind = kinds[i];
-        let x = col[i];
-        if kind != 1 {
-            col[stay] = x;
-            stay += 1;
-        }
-        if kind != 0 {
-            tails[moved] = x;
-            moved += 1;
-        }
-        i += 1;
-    }
-    append_f64(col, stay, &tails, moved);
-}
-
-// The writes: as they are, for a head and its tail.
-pub fn cut_writes(col: &mut [u32], kinds: &[u8; 128], n: usize)
-    requires { ⌜ (n ≤ 128) × (length (now col) ≡ 128) × (length (parted asIs asIs 0 (now kinds) n (now col)) ≤ 128) ⌝ }
-    ensures { λ _. ⌜ now (col .exit) ≡ laid (parted asIs asIs 0 (now (kinds .entry)) n (now (col .entry))) (now (col .entry)) ⌝ }
-{
-    let mut tails = [0u32; 128];
-    let mut stay = 0;
-    let mut moved = 0;
-    let mut i = 0;
-    while i < n {
-        let kind = kinds[i];
-        let x = col[i];
-        if kind != 1 {
-            col[stay] = x;
-            stay += 1;
-        }
-        if kind != 0 {
-            tails[moved] = x;
-            moved += 1;
-        }
-        i += 1;
-    }
-    append_u32(col, stay, &tails, moved);
 }

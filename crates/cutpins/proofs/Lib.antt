@@ -3,4 +3,5 @@ pub mod Placed
 pub mod Listed
 pub mod Fewer
 pub mod Across
+pub mod Staying
 pub mod Written

@@ -1,14 +1,14 @@
 -- A store's pin entries by value: the list that they make, and where an entry goes in it. Assumes nothing.
 use Prim.Native.Nat.{ℕ, _+_, _^_, _<_, _≤_}
 use mathlib.Core.Path.{_≡_}
-use mathlib.Core.Bool.{Bool, true, false, _&&_}
+use mathlib.Core.Bool.{Bool, true, false, not, _&&_}
 use mathlib.Core.List.{List, [], _∷_}
-use lib.Dec.{ltb, eqb}
 use lib.ListN.{length, getD, set}
-use Rattle.model.specs.State.{Pins, Pin}
+use lib.Dec.{ltb, eqb}
+use Rattle.model.specs.State.{Pins, Pin, at}
 use Rattle.model.specs.Store.{pins, layPins}
 use Rattle.model.specs.Insert.{cutPins, pinsAcross}
-use Rattle.model.specs.Pins.{sameSpan, counted, addPin}
+use Rattle.model.specs.Pins.{sameSpan, pinAhead, counted, addPin}
 use Rattle.lent.specs.Lent.{pinsOf}
 use Rattle.cols.specs.Cols.{insertAt}
 use Rattle.cutpins.specs.declared.Entry.{Entry}
@@ -48,13 +48,30 @@ pub record Found (p : Pin) (ps : List Pin) (r : ℕ) : Type 0 where
   pub joins : r < length ps → sameSpan p (getD ps r p) ≡ true → addPin p ps ≡ set ps r (counted (getD ps r p) (getD ps r p .count + p .count))
   pub enters : (r < length ps → sameSpan p (getD ps r p) ≡ false) → addPin p ps ≡ insertAt r p ps
 
--- `pinAcross` of an entry on this node, with this start and end
-abbrev pub acrossAt : ℕ → ℕ → ℕ → ℕ → ℕ → Bool
-acrossAt j k node start end = eqb node j && (ltb start k && ltb k end)
-
 -- how many of the first n entries are across k on node j
 abbrev pub pinsAcrossIn : ℕ → ℕ → ℕ → Pins → ℕ
 pinsAcrossIn j k n c = pinsAcross j k (pins c 0 n)
+
+-- p stands ahead of the next entry, where there is one
+abbrev pub leads : Pin → List Pin → Bool
+leads p [] = true
+leads p (q ∷ qs) = pinAhead p q
+
+-- no entry is on node j, and each stands ahead of the next: a cut of node j leaves them as they are
+unfoldable pub unmoved : ℕ → List Pin → Bool
+unmoved j [] = true
+unmoved j (p ∷ ps) = (not (eqb (p .node) j) && leads p ps) && unmoved j ps
+
+-- the same of one place of the columns, of which n are used
+abbrev pub spanAt : List ℕ → List ℕ → List ℕ → ℕ → Pin
+spanAt node start end i = record { node = at node i; start = at start i; end = at end i; count = 0 }
+
+abbrev pub leadsIf : Bool → Pin → Pin → Bool
+leadsIf true p q = pinAhead p q
+leadsIf false p q = true
+
+abbrev pub staysAt : ℕ → List ℕ → List ℕ → List ℕ → ℕ → ℕ → Bool
+staysAt j node start end n i = not (eqb (at node i) j) && leadsIf (ltb (i + 1) n) (spanAt node start end i) (spanAt node start end (i + 1))
 
 -- the columns with the first n entries cut; m is the new node
 abbrev pub cutEntries : ℕ → ℕ → ℕ → ℕ → Pins → Pins

@@ -1,5 +1,6 @@
 ghost use mathlib.Core.Path.{_≡_};
-ghost use Prim.Native.Nat.{_+_, _-_, _^_, _≤_, _<_};
+ghost use mathlib.Core.List.{List};
+ghost use Prim.Native.Nat.{ℕ, _+_, _-_, _^_, _≤_, _<_};
 ghost use lib.ListN.{length, set, take};
 ghost use Rattle.model.specs.State.{Pins, pinAt};
 ghost use Rattle.model.specs.Store.{pins, lay, layPins};
@@ -9,7 +10,7 @@ ghost use Rattle.model.specs.Pins.{sameSpan, pinAhead, counted, addPin};
 ghost use Rattle.model.specs.Insert.{putPin, pinHead, pinTail, pinPieces, cutPins};
 ghost use lib.Dec.{eqb};
 ghost use Rattle.cols.specs.Cols.{insertAt};
-ghost use Rattle.cutpins.specs.Entries.{pinFrom, columnsOf, pinsIn, counts, Small, Found, acrossAt, pinsAcrossIn, PinsSized, cutEntries};
+ghost use Rattle.cutpins.specs.Entries.{pinFrom, columnsOf, pinsIn, counts, Small, Found, pinsAcrossIn, PinsSized, unmoved, staysAt, cutEntries};
 
 // A pin entry; and up to 32 of them, in the first `n` places.
 pub struct Entry {
@@ -230,22 +231,6 @@ fn cut_list(
     l
 }
 
-// Is a pin of node `j` across `k`?
-fn is_across(node: usize, start: usize, end: usize, j: usize, k: usize) -> bool
-    ensures { λ r. ⌜ r ≡ acrossAt j k node start end ⌝ }
-{
-    if node != j {
-        return false;
-    }
-    if k <= start {
-        return false;
-    }
-    if end <= k {
-        return false;
-    }
-    true
-}
-
 // How many of the first `n` entries are across `k` on node `j`: the entries that a cut needs besides.
 pub fn pins_across(
     node: &[usize],
@@ -258,15 +243,7 @@ pub fn pins_across(
     requires { ⌜ (n ≤ length (now node)) × (n ≤ length (now start)) × (n ≤ length (now end)) ⌝ }
     ensures { λ r. ⌜ ((c : Pins) → c .node ≡ now (node .entry) → c .start ≡ now (start .entry) → c .end ≡ now (end .entry) → r ≡ pinsAcrossIn j k n c) ⌝ }
 {
-    let mut across = 0;
-    let mut i = 0;
-    while i < n {
-        if is_across(node[i], start[i], end[i], j, k) {
-            across += 1;
-        }
-        i += 1;
-    }
-    across
+    cutcols::count_across(node, start, end, n, j, k)
 }
 
 // The first `n` of `from`, and 0 in the places from there up to `k`; the same at each width.
@@ -323,6 +300,48 @@ pub fn lay_pins(
     lay_u64(count, &counts, n, k);
 }
 
+// Is the entry at place `i` of `n` on another node than `j`, and ahead of the next?
+fn stays(node: &[usize], start: &[usize], end: &[usize], n: usize, i: usize, j: usize) -> bool
+    requires { ⌜ (i < n) × (n ≤ length (now node)) × (n ≤ length (now start)) × (n ≤ length (now end)) ⌝ }
+    ensures { λ r. ⌜ r ≡ staysAt j (now (node .entry)) (now (start .entry)) (now (end .entry)) n i ⌝ }
+{
+    if node[i] == j {
+        return false;
+    }
+    let next = i + 1;
+    if n <= next {
+        return true;
+    }
+    let p = Entry {
+        node: node[i],
+        start: start[i],
+        end: end[i],
+        count: 0,
+    };
+    let q = Entry {
+        node: node[next],
+        start: start[next],
+        end: end[next],
+        count: 0,
+    };
+    is_ahead(p, q)
+}
+
+// Does a cut of node `j` leave the first `n` entries as they are? None is on the node, and they are in order: then no two add up.
+fn all_stay(node: &[usize], start: &[usize], end: &[usize], n: usize, j: usize) -> bool
+    requires { ⌜ (n ≤ length (now node)) × (n ≤ length (now start)) × (n ≤ length (now end)) ⌝ }
+    ensures { λ r. ⌜ ((count : List ℕ) → r ≡ unmoved j (pins (pinsOf (now (node .entry)) (now (start .entry)) (now (end .entry)) count) 0 n)) ⌝ }
+{
+    let mut i = 0;
+    while i < n {
+        if !stays(node, start, end, n, i, j) {
+            return false;
+        }
+        i += 1;
+    }
+    true
+}
+
 // The first `n` pin entries of a store's part, cut; equal entries add up, and the places that this frees are left blank. How many there are then.
 pub fn cut_pins(
     node: &mut [usize],
@@ -337,6 +356,9 @@ pub fn cut_pins(
     requires { ⌜ (n + pinsAcrossIn j k n (pinsOf (now node) (now start) (now end) (now count)) ≤ 32) × (counts (pins (pinsOf (now node) (now start) (now end) (now count)) 0 n) ≤ maxPinned) × PinsSized 32 (pinsOf (now node) (now start) (now end) (now count)) ⌝ }
     ensures { λ r. ⌜ (pinsOf (now (node .exit)) (now (start .exit)) (now (end .exit)) (now (count .exit)) ≡ cutEntries j k m n (pinsOf (now (node .entry)) (now (start .entry)) (now (end .entry)) (now (count .entry)))) × (r ≡ length (cutPins j k m (pins (pinsOf (now (node .entry)) (now (start .entry)) (now (end .entry)) (now (count .entry))) 0 n))) ⌝ }
 {
+    if all_stay(node, start, end, n, j) {
+        return n;
+    }
     let across = pins_across(node, start, end, n, j, k);
     let l = cut_list(node, start, end, count, n, j, k, m);
     let places = n + across;

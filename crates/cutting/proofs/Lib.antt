@@ -1,4 +1,5 @@
 -- The crate's laws that belong to no one function.
-pub mod Found
-pub mod Columns
+pub mod Across
+pub mod Over
+pub mod Steps
 pub mod Marks

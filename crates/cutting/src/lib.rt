@@ -1,3 +1,4 @@
+use cutcols::Place;
 ghost use mathlib.Core.Path.{_≡_};
 ghost use Prim.Native.Nat.{_+_, _-_, _≤_, _<_, min};
 ghost use lib.ListN.{length};
@@ -7,48 +8,7 @@ ghost use Rattle.model.specs.Store.{ranges, onNode};
 ghost use Rattle.model.specs.Insert.{ifHeld, cutMarks};
 ghost use Rattle.lent.specs.Lent.{rangesOf};
 ghost use Rattle.recs.specs.Part.{Sized};
-ghost use Rattle.cutting.specs.Cutting.{acrossIn, cutRanges, isAcross, isBeyond, kind, acrossBefore, KindsAre};
-
-// What a cut of node `j` at `k` makes of a range, as a number: 0 it stays, 1 it moves, 2 and more it is across, with how many `before` it are.
-fn kind_of(node: usize, start: usize, end: usize, j: usize, k: usize, before: usize) -> u8
-    requires { ⌜ before < 128 ⌝ }
-    ensures { λ r. ⌜ r ≡ kind before (isAcross j k node start end) (isBeyond j k node end) ⌝ }
-{
-    if node != j {
-        return 0;
-    }
-    if end <= k {
-        return 0;
-    }
-    if k <= start {
-        return 1;
-    }
-    2 + before as u8
-}
-
-// The kinds of a store's ranges, and how many are across.
-pub struct Kinds {
-    pub kind: [u8; 128],
-    pub across: usize,
-}
-
-fn kinds_of(node: &[usize], start: &[usize], end: &[usize], n: usize, j: usize, k: usize) -> Kinds
-    requires { ⌜ (n ≤ 128) × (n ≤ length (now node)) × (n ≤ length (now start)) × (n ≤ length (now end)) ⌝ }
-    ensures { λ r. ⌜ KindsAre j k (now (node .entry)) (now (start .entry)) (now (end .entry)) n (r .kind) × (r .across ≡ acrossBefore j k (now (node .entry)) (now (start .entry)) (now (end .entry)) n) ⌝ }
-{
-    let mut kind = [0u8; 128];
-    let mut across = 0;
-    let mut i = 0;
-    while i < n {
-        let q = kind_of(node[i], start[i], end[i], j, k, across);
-        kind[i] = q;
-        if 1 < q {
-            across += 1;
-        }
-        i += 1;
-    }
-    Kinds { kind, across }
-}
+ghost use Rattle.cutting.specs.Cutting.{acrossIn, cutRanges};
 
 // How many of the first `n` ranges are across `k` on node `j`: the records that a cut needs besides.
 pub fn ranges_across(
@@ -62,8 +22,7 @@ pub fn ranges_across(
     requires { ⌜ (n ≤ 128) × (n ≤ length (now node)) × (n ≤ length (now start)) × (n ≤ length (now end)) ⌝ }
     ensures { λ r. ⌜ ((c : Ranges) → c .node ≡ now (node .entry) → c .start ≡ now (start .entry) → c .end ≡ now (end .entry) → r ≡ acrossIn j k n c) ⌝ }
 {
-    let kinds = kinds_of(node, start, end, n, j, k);
-    kinds.across
+    cutcols::count_across(node, start, end, n, j, k)
 }
 
 // How many ranges there are after a cut, and the next id.
@@ -90,19 +49,30 @@ pub fn cut_ranges(
     requires { ⌜ (n + acrossIn j k n (rangesOf (now node) (now start) (now end) (now id) (now stamp) (now touched) (now write)) ≤ 128) × (next ≤ maxStamp) × Sized 128 (rangesOf (now node) (now start) (now end) (now id) (now stamp) (now touched) (now write)) ⌝ }
     ensures { λ r. ⌜ (rangesOf (now (node .exit)) (now (start .exit)) (now (end .exit)) (now (id .exit)) (now (stamp .exit)) (now (touched .exit)) (now (write .exit)) ≡ cutRanges j k m next n (rangesOf (now (node .entry)) (now (start .entry)) (now (end .entry)) (now (id .entry)) (now (stamp .entry)) (now (touched .entry)) (now (write .entry)))) × (r .n ≡ n + acrossIn j k n (rangesOf (now (node .entry)) (now (start .entry)) (now (end .entry)) (now (id .entry)) (now (stamp .entry)) (now (touched .entry)) (now (write .entry)))) × (r .next ≡ next + acrossIn j k n (rangesOf (now (node .entry)) (now (start .entry)) (now (end .entry)) (now (id .entry)) (now (stamp .entry)) (now (touched .entry)) (now (write .entry)))) ⌝ }
 {
-    let kinds = kinds_of(node, start, end, n, j, k);
-    let kind = kinds.kind;
-    let across = kinds.across;
-    cutcols::cut_nodes(node, &kind, n, m);
-    cutcols::cut_starts(start, &kind, n, k);
-    cutcols::cut_ends(end, &kind, n, k);
-    cutcols::cut_ids(id, &kind, n, next);
-    cutcols::cut_stamps(stamp, &kind, n);
-    cutcols::cut_times(touched, &kind, n);
-    cutcols::cut_writes(write, &kind, n);
+    let mut s = Place {
+        at: 0,
+        top: n,
+        n,
+        next,
+    };
+    while s.at < s.top {
+        s = cutcols::cut_next(
+            &mut *node,
+            &mut *start,
+            &mut *end,
+            &mut *id,
+            &mut *stamp,
+            &mut *touched,
+            &mut *write,
+            s,
+            j,
+            k,
+            m,
+        );
+    }
     After {
-        n: n + across,
-        next: next + across as u64,
+        n: s.n,
+        next: s.next,
     }
 }
 

@@ -1,127 +1,76 @@
--- `cutting::cut_ranges` meets its contract: each column is cut by the same kinds, and the seven are the heads and the tails. Assumes nothing.
-use Prim.Native.Nat.{ℕ, _+_}
-use mathlib.Core.Path.{_≡_, ap, _∙_}
-use native.Mathlib.Omega.{arith}
+-- `cutting::cut_ranges` meets its contract, by the law of `Cutting`. Assumes nothing.
+use Prim.Native.Nat.{_-_}
+use mathlib.Core.Path.{sym, _∙_}
 use Rattle.model.specs.State.{Ranges}
 use Rattle.lent.specs.Lent.{rangesOf}
-use Rattle.cutting.specs.Cutting.{acrossIn}
-use Rattle.cutting.proofs.Found.{across-is}
-use Rattle.cutting.proofs.Columns.{Ready, ready, cut-is, part-of, within, few-fits, next-fits}
+use Rattle.cutting.proofs.Steps.{Cutting, cut-start, cut-few, cut-sized, cut-end, cut-room, cut-top, cut-id, cut-turn, cut-less}
 use Rattle.cutting.proofs.cut_ranges.Statement.{statement}
 use Rattle.cutting.proofs.cut_ranges.Tie as tie
 
--- the columns at entry, and how many of their ranges are across
-abbrev orig : tie.Start → Ranges
+abbrev Inv-loop : tie.InvT-loop
+Inv-loop node₀ start₀ end₀ id₀ stamp₀ touched₀ write₀ n j k m next s₀ node start end id stamp touched write s = Cutting j k m next n (rangesOf node₀ start₀ end₀ id₀ stamp₀ touched₀ write₀) (rangesOf node start end id stamp touched write) s
+
+abbrev μ-loop : tie.MeasureT-loop
+μ-loop node₀ start₀ end₀ id₀ stamp₀ touched₀ write₀ n j k m next s₀ node start end id stamp touched write s = s .top - s .at
+
+-- the columns at entry
+abbrev orig : tie.Start Inv-loop μ-loop → Ranges
 orig z = rangesOf (z .args .node .now) (z .args .start .now) (z .args .end .now) (z .args .id .now) (z .args .stamp .now) (z .args .touched .now) (z .args .write .now)
 
-abbrev extra : tie.Start → ℕ
-extra z = acrossIn (z .args .j) (z .args .k) (z .args .n) (orig z)
+loop-holds : tie.Need-loop-holds Inv-loop μ-loop
+loop-holds c = let z = c .before .before .before .before .before .before .before in cut-start (z .args .j) (z .args .k) (z .args .m) (z .args .next) (z .args .n) (orig z) (z .pre .0) (z .pre .2)
 
-kinds-of-requires : tie.Need-kinds-of-requires
-kinds-of-requires c κs =
-    let z = c .before .before .before .before .before .before .before .before .before .before in
-    let p = z .pre in
-    (part-of (extra z) (p .0), within (extra z) (p .0) (p .2 .node), within (extra z) (p .0) (p .2 .start), within (extra z) (p .0) (p .2 .end))
+cut-next-requires : tie.Need-cut-next-requires Inv-loop μ-loop
+cut-next-requires c κs =
+    let z = c .before .before .before .before .before .before .before .before .before .before .before .before .before .before .before .before .before in
+    (c .before .before .before .before .before .before .before .if1 .taken, cut-top (z .args .j) (z .args .k) (z .args .m) (z .args .next) (z .args .n) (orig z) (rangesOf (c .before .before .before .before .before .before .before .before .before .loop .node) (c .before .before .before .before .before .before .before .before .before .loop .start) (c .before .before .before .before .before .before .before .before .before .loop .end) (c .before .before .before .before .before .before .before .before .before .loop .id) (c .before .before .before .before .before .before .before .before .before .loop .stamp) (c .before .before .before .before .before .before .before .before .before .loop .touched) (c .before .before .before .before .before .before .before .before .before .loop .write)) (c .before .before .before .before .before .before .before .before .before .loop .s) (z .pre .0) (z .pre .2) (c .before .before .before .before .before .before .before .before .before .loop .inv) (c .before .before .before .before .before .before .before .if1 .taken), cut-few (z .args .j) (z .args .k) (z .args .m) (z .args .next) (z .args .n) (orig z) (rangesOf (c .before .before .before .before .before .before .before .before .before .loop .node) (c .before .before .before .before .before .before .before .before .before .loop .start) (c .before .before .before .before .before .before .before .before .before .loop .end) (c .before .before .before .before .before .before .before .before .before .loop .id) (c .before .before .before .before .before .before .before .before .before .loop .stamp) (c .before .before .before .before .before .before .before .before .before .loop .touched) (c .before .before .before .before .before .before .before .before .before .loop .write)) (c .before .before .before .before .before .before .before .before .before .loop .s) (z .pre .0) (z .pre .2) (c .before .before .before .before .before .before .before .before .before .loop .inv), cut-room (z .args .j) (z .args .k) (z .args .m) (z .args .next) (z .args .n) (orig z) (rangesOf (c .before .before .before .before .before .before .before .before .before .loop .node) (c .before .before .before .before .before .before .before .before .before .loop .start) (c .before .before .before .before .before .before .before .before .before .loop .end) (c .before .before .before .before .before .before .before .before .before .loop .id) (c .before .before .before .before .before .before .before .before .before .loop .stamp) (c .before .before .before .before .before .before .before .before .before .loop .touched) (c .before .before .before .before .before .before .before .before .before .loop .write)) (c .before .before .before .before .before .before .before .before .before .loop .s) (z .pre .0) (z .pre .2) (c .before .before .before .before .before .before .before .before .before .loop .inv) (c .before .before .before .before .before .before .before .if1 .taken), cut-id (z .args .j) (z .args .k) (z .args .m) (z .args .next) (z .args .n) (orig z) (rangesOf (c .before .before .before .before .before .before .before .before .before .loop .node) (c .before .before .before .before .before .before .before .before .before .loop .start) (c .before .before .before .before .before .before .before .before .before .loop .end) (c .before .before .before .before .before .before .before .before .before .loop .id) (c .before .before .before .before .before .before .before .before .before .loop .stamp) (c .before .before .before .before .before .before .before .before .before .loop .touched) (c .before .before .before .before .before .before .before .before .before .loop .write)) (c .before .before .before .before .before .before .before .before .before .loop .s) (z .pre .0) (z .pre .2) (c .before .before .before .before .before .before .before .before .before .loop .inv) (c .before .before .before .before .before .before .before .if1 .taken) (z .pre .1), cut-sized (z .args .j) (z .args .k) (z .args .m) (z .args .next) (z .args .n) (orig z) (rangesOf (c .before .before .before .before .before .before .before .before .before .loop .node) (c .before .before .before .before .before .before .before .before .before .loop .start) (c .before .before .before .before .before .before .before .before .before .loop .end) (c .before .before .before .before .before .before .before .before .before .loop .id) (c .before .before .before .before .before .before .before .before .before .loop .stamp) (c .before .before .before .before .before .before .before .before .before .loop .touched) (c .before .before .before .before .before .before .before .before .before .loop .write)) (c .before .before .before .before .before .before .before .before .before .loop .s) (z .pre .0) (z .pre .2) (c .before .before .before .before .before .before .before .before .before .loop .inv))
 
--- after the kinds are found: the entry, what the columns' functions ask, and the count
-abbrev entry : tie.After-kinds-of → tie.Start
-entry c = c .before .before .before .before .before .before .before .before .before .before .before
+loop-less : tie.Need-loop-less Inv-loop μ-loop
+loop-less c =
+    let z = c .before .before .before .before .before .before .before .before .before .before .before .before .before .before .before .before .before .before .before .before .before .before .before .before .before .before .before .before .before .before .before .before in
+    cut-less (z .args .j) (z .args .k) (z .args .m) (z .args .next) (z .args .n) (orig z) (rangesOf (c .before .before .before .before .before .before .before .before .before .before .before .before .before .before .before .before .before .before .before .before .before .before .before .before .loop .node) (c .before .before .before .before .before .before .before .before .before .before .before .before .before .before .before .before .before .before .before .before .before .before .before .before .loop .start) (c .before .before .before .before .before .before .before .before .before .before .before .before .before .before .before .before .before .before .before .before .before .before .before .before .loop .end) (c .before .before .before .before .before .before .before .before .before .before .before .before .before .before .before .before .before .before .before .before .before .before .before .before .loop .id) (c .before .before .before .before .before .before .before .before .before .before .before .before .before .before .before .before .before .before .before .before .before .before .before .before .loop .stamp) (c .before .before .before .before .before .before .before .before .before .before .before .before .before .before .before .before .before .before .before .before .before .before .before .before .loop .touched) (c .before .before .before .before .before .before .before .before .before .before .before .before .before .before .before .before .before .before .before .before .before .before .before .before .loop .write)) (c .before .before .before .before .before .before .before .before .before .before .before .before .before .before .before .before .before .before .before .before .before .before .before .before .loop .s) (z .pre .0) (z .pre .2) (c .before .before .before .before .before .before .before .before .before .before .before .before .before .before .before .before .before .before .before .before .before .before .before .before .loop .inv) (c .before .before .before .before .before .before .before .before .before .before .before .before .before .before .before .before .before .before .before .before .before .before .if1 .taken) _ _ (c .before .before .before .before .before .before .before .before .before .before .before .before .before .before .cut-next .ensures)
 
-asked : (c : tie.After-kinds-of) → Ready ((entry c) .args .j) ((entry c) .args .k) ((entry c) .args .m) ((entry c) .args .next) (orig (entry c)) ((entry c) .args .n) (c .kinds-of .result .kind)
-asked c =
-    let z = entry c in
-    ready (z .args .j) (z .args .k) (z .args .m) (z .args .next) (orig z) (z .args .n) (c .kinds-of .result .kind) (c .kinds-of .ensures .0) (z .pre .0) (z .pre .2)
+loop-again : tie.Need-loop-again Inv-loop μ-loop
+loop-again c =
+    let z = c .before .before .before .before .before .before .before .before .before .before .before .before .before .before .before .before .before .before .before .before .before .before .before .before .before .before .before .before .before .before .before .before in
+    cut-turn (z .args .j) (z .args .k) (z .args .m) (z .args .next) (z .args .n) (orig z) (rangesOf (c .before .before .before .before .before .before .before .before .before .before .before .before .before .before .before .before .before .before .before .before .before .before .before .before .loop .node) (c .before .before .before .before .before .before .before .before .before .before .before .before .before .before .before .before .before .before .before .before .before .before .before .before .loop .start) (c .before .before .before .before .before .before .before .before .before .before .before .before .before .before .before .before .before .before .before .before .before .before .before .before .loop .end) (c .before .before .before .before .before .before .before .before .before .before .before .before .before .before .before .before .before .before .before .before .before .before .before .before .loop .id) (c .before .before .before .before .before .before .before .before .before .before .before .before .before .before .before .before .before .before .before .before .before .before .before .before .loop .stamp) (c .before .before .before .before .before .before .before .before .before .before .before .before .before .before .before .before .before .before .before .before .before .before .before .before .loop .touched) (c .before .before .before .before .before .before .before .before .before .before .before .before .before .before .before .before .before .before .before .before .before .before .before .before .loop .write)) (c .before .before .before .before .before .before .before .before .before .before .before .before .before .before .before .before .before .before .before .before .before .before .before .before .loop .s) (z .pre .0) (z .pre .2) (c .before .before .before .before .before .before .before .before .before .before .before .before .before .before .before .before .before .before .before .before .before .before .before .before .loop .inv) (c .before .before .before .before .before .before .before .before .before .before .before .before .before .before .before .before .before .before .before .before .before .before .if1 .taken) _ _ (c .before .before .before .before .before .before .before .before .before .before .before .before .before .before .cut-next .ensures)
 
-count : (c : tie.After-kinds-of) → c .kinds-of .result .across ≡ extra (entry c)
-count c =
-    let z = entry c in
-    c .kinds-of .ensures .1 ∙ across-is (z .args .j) (z .args .k) (z .args .n) (orig z)
+same-length : tie.Need-same-length Inv-loop μ-loop
+same-length c = let z = c .before .before .before .before .before .before .before .before .before .before in cut-sized (z .args .j) (z .args .k) (z .args .m) (z .args .next) (z .args .n) (orig z) (rangesOf (c .before .before .loop .node) (c .before .before .loop .start) (c .before .before .loop .end) (c .before .before .loop .id) (c .before .before .loop .stamp) (c .before .before .loop .touched) (c .before .before .loop .write)) (c .before .before .loop .s) (z .pre .0) (z .pre .2) (c .before .before .loop .inv) .node ∙ sym (z .pre .2 .node)
 
-cut-nodes-requires : tie.Need-cut-nodes-requires
-cut-nodes-requires c κs = asked (c .before .before .before) .node
+same-length-2 : tie.Need-same-length-2 Inv-loop μ-loop
+same-length-2 c = let z = c .before .before .before .before .before .before .before .before .before .before in cut-sized (z .args .j) (z .args .k) (z .args .m) (z .args .next) (z .args .n) (orig z) (rangesOf (c .before .before .loop .node) (c .before .before .loop .start) (c .before .before .loop .end) (c .before .before .loop .id) (c .before .before .loop .stamp) (c .before .before .loop .touched) (c .before .before .loop .write)) (c .before .before .loop .s) (z .pre .0) (z .pre .2) (c .before .before .loop .inv) .start ∙ sym (z .pre .2 .start)
 
-cut-starts-requires : tie.Need-cut-starts-requires
-cut-starts-requires c κs = asked (c .before .before .before .before .before .before .before .before) .start
+same-length-3 : tie.Need-same-length-3 Inv-loop μ-loop
+same-length-3 c = let z = c .before .before .before .before .before .before .before .before .before .before in cut-sized (z .args .j) (z .args .k) (z .args .m) (z .args .next) (z .args .n) (orig z) (rangesOf (c .before .before .loop .node) (c .before .before .loop .start) (c .before .before .loop .end) (c .before .before .loop .id) (c .before .before .loop .stamp) (c .before .before .loop .touched) (c .before .before .loop .write)) (c .before .before .loop .s) (z .pre .0) (z .pre .2) (c .before .before .loop .inv) .end ∙ sym (z .pre .2 .end)
 
-cut-ends-requires : tie.Need-cut-ends-requires
-cut-ends-requires c κs = asked (c .before .before .before .before .before .before .before .before .before .before .before .before .before) .end
+same-length-4 : tie.Need-same-length-4 Inv-loop μ-loop
+same-length-4 c = let z = c .before .before .before .before .before .before .before .before .before .before in cut-sized (z .args .j) (z .args .k) (z .args .m) (z .args .next) (z .args .n) (orig z) (rangesOf (c .before .before .loop .node) (c .before .before .loop .start) (c .before .before .loop .end) (c .before .before .loop .id) (c .before .before .loop .stamp) (c .before .before .loop .touched) (c .before .before .loop .write)) (c .before .before .loop .s) (z .pre .0) (z .pre .2) (c .before .before .loop .inv) .id ∙ sym (z .pre .2 .id)
 
-cut-ids-requires : tie.Need-cut-ids-requires
-cut-ids-requires c κs =
-    let a = asked (c .before .before .before .before .before .before .before .before .before .before .before .before .before .before .before .before .before .before) .id in
-    (a .0, a .1, a .2, omega (arith, c .before .before .before .before .before .before .before .before .before .before .before .before .before .before .before .before .before .before .before .before .before .before .before .before .before .before .before .before .before .pre .1))
+same-length-5 : tie.Need-same-length-5 Inv-loop μ-loop
+same-length-5 c = let z = c .before .before .before .before .before .before .before .before .before .before in cut-sized (z .args .j) (z .args .k) (z .args .m) (z .args .next) (z .args .n) (orig z) (rangesOf (c .before .before .loop .node) (c .before .before .loop .start) (c .before .before .loop .end) (c .before .before .loop .id) (c .before .before .loop .stamp) (c .before .before .loop .touched) (c .before .before .loop .write)) (c .before .before .loop .s) (z .pre .0) (z .pre .2) (c .before .before .loop .inv) .stamp ∙ sym (z .pre .2 .stamp)
 
-cut-stamps-requires : tie.Need-cut-stamps-requires
-cut-stamps-requires c κs = asked (c .before .before .before .before .before .before .before .before .before .before .before .before .before .before .before .before .before .before .before .before .before .before .before) .stamp
+same-length-6 : tie.Need-same-length-6 Inv-loop μ-loop
+same-length-6 c = let z = c .before .before .before .before .before .before .before .before .before .before in cut-sized (z .args .j) (z .args .k) (z .args .m) (z .args .next) (z .args .n) (orig z) (rangesOf (c .before .before .loop .node) (c .before .before .loop .start) (c .before .before .loop .end) (c .before .before .loop .id) (c .before .before .loop .stamp) (c .before .before .loop .touched) (c .before .before .loop .write)) (c .before .before .loop .s) (z .pre .0) (z .pre .2) (c .before .before .loop .inv) .touched ∙ sym (z .pre .2 .touched)
 
-cut-times-requires : tie.Need-cut-times-requires
-cut-times-requires c κs = asked (c .before .before .before .before .before .before .before .before .before .before .before .before .before .before .before .before .before .before .before .before .before .before .before .before .before .before .before .before) .touched
+same-length-7 : tie.Need-same-length-7 Inv-loop μ-loop
+same-length-7 c = let z = c .before .before .before .before .before .before .before .before .before .before in cut-sized (z .args .j) (z .args .k) (z .args .m) (z .args .next) (z .args .n) (orig z) (rangesOf (c .before .before .loop .node) (c .before .before .loop .start) (c .before .before .loop .end) (c .before .before .loop .id) (c .before .before .loop .stamp) (c .before .before .loop .touched) (c .before .before .loop .write)) (c .before .before .loop .s) (z .pre .0) (z .pre .2) (c .before .before .loop .inv) .write ∙ sym (z .pre .2 .write)
 
-cut-writes-requires : tie.Need-cut-writes-requires
-cut-writes-requires c κs = asked (c .before .before .before .before .before .before .before .before .before .before .before .before .before .before .before .before .before .before .before .before .before .before .before .before .before .before .before .before .before .before .before .before .before) .write
-
-add-t44 : tie.Need-add-t44
-add-t44 c =
-    let z = c .before .before .before .before .before .before .before .before .before .before .before .before .before .before .before .before .before .before .before .before .before .before .before .before .before .before .before .before .before .before .before .before .before .before .before .before .before .before .before .before .before .before .before .before .before .before .before in
-    rw (count (c .before .before .before .before .before .before .before .before .before .before .before .before .before .before .before .before .before .before .before .before .before .before .before .before .before .before .before .before .before .before .before .before .before .before .before .before)) (few-fits (z .args .n) (extra z) (z .pre .0))
-
-add-t46 : tie.Need-add-t46
-add-t46 c =
-    let z = c .before .before .before .before .before .before .before .before .before .before .before .before .before .before .before .before .before .before .before .before .before .before .before .before .before .before .before .before .before .before .before .before .before .before .before .before .before .before .before .before .before .before .before .before .before .before .before in
-    rw (count (c .before .before .before .before .before .before .before .before .before .before .before .before .before .before .before .before .before .before .before .before .before .before .before .before .before .before .before .before .before .before .before .before .before .before .before .before)) (next-fits (z .args .next) (z .args .n) (extra z) (z .pre .1) (z .pre .0))
-
-same-length : tie.Need-same-length
-same-length c = c .before .before .before .before .before .before .before .before .before .before .before .before .before .before .before .before .before .before .before .before .before .before .before .before .before .before .before .before .before .before .before .before .cut-nodes .kept .0
-
-same-length-2 : tie.Need-same-length-2
-same-length-2 c = c .before .before .before .before .before .before .before .before .before .before .before .before .before .before .before .before .before .before .before .before .before .before .before .before .before .before .before .cut-starts .kept .0
-
-same-length-3 : tie.Need-same-length-3
-same-length-3 c = c .before .before .before .before .before .before .before .before .before .before .before .before .before .before .before .before .before .before .before .before .before .before .cut-ends .kept .0
-
-same-length-4 : tie.Need-same-length-4
-same-length-4 c = c .before .before .before .before .before .before .before .before .before .before .before .before .before .before .before .before .before .cut-ids .kept .0
-
-same-length-5 : tie.Need-same-length-5
-same-length-5 c = c .before .before .before .before .before .before .before .before .before .before .before .before .cut-stamps .kept .0
-
-same-length-6 : tie.Need-same-length-6
-same-length-6 c = c .before .before .before .before .before .before .before .cut-times .kept .0
-
-same-length-7 : tie.Need-same-length-7
-same-length-7 c = c .before .before .cut-writes .kept .0
-
-returns : tie.Need-returns
+returns : tie.Need-returns Inv-loop μ-loop
 returns c =
-    let z = c .before .before .before .before .before .before .before .before .before .before .before .before .before .before .before .before .before .before .before .before .before .before .before .before .before .before .before .before .before .before .before .before .before .before .before .before .before .before .before .before .before .before .before .before .before .before .before in
-    let f = c .before .before .before .before .before .before .before .before .before .before .before .before .before .before .before .before .before .before .before .before .before .before .before .before .before .before .before .before .before .before .before .before .before .before .before .before in (
-      cut-is (z .args .j) (z .args .k) (z .args .m) (z .args .next) (orig z) (z .args .n) (f .kinds-of .result .kind) (f .kinds-of .ensures .0)
-          _ _ _ _ _ _ _
-          (c .before .before .before .before .before .before .before .before .before .before .before .before .before .before .before .before .before .before .before .before .before .before .before .before .before .before .before .before .before .before .before .before .cut-nodes .ensures)
-          (c .before .before .before .before .before .before .before .before .before .before .before .before .before .before .before .before .before .before .before .before .before .before .before .before .before .before .before .cut-starts .ensures)
-          (c .before .before .before .before .before .before .before .before .before .before .before .before .before .before .before .before .before .before .before .before .before .before .cut-ends .ensures)
-          (c .before .before .before .before .before .before .before .before .before .before .before .before .before .before .before .before .before .cut-ids .ensures)
-          (c .before .before .before .before .before .before .before .before .before .before .before .before .cut-stamps .ensures)
-          (c .before .before .before .before .before .before .before .cut-times .ensures)
-          (c .before .before .cut-writes .ensures),
-      ap (λ (x : ℕ). z .args .n + x) (count f),
-      ap (λ (x : ℕ). z .args .next + x) (count f),
-    )
+    let z = c .before .before .before .before .before .before .before .before .before .before in
+    cut-end (z .args .j) (z .args .k) (z .args .m) (z .args .next) (z .args .n) (orig z) (rangesOf (c .before .before .loop .node) (c .before .before .loop .start) (c .before .before .loop .end) (c .before .before .loop .id) (c .before .before .loop .stamp) (c .before .before .loop .touched) (c .before .before .loop .write)) (c .before .before .loop .s) (z .pre .0) (z .pre .2) (c .before .before .loop .inv) (c .if1 .left)
 
 pub cut-ranges-spec : {M : Type 1} → statement M
 cut-ranges-spec =
     tie.close
     (tie.spec
-    kinds-of-requires
-    cut-nodes-requires
-    cut-starts-requires
-    cut-ends-requires
-    cut-ids-requires
-    cut-stamps-requires
-    cut-times-requires
-    cut-writes-requires
-    add-t44
-    add-t46
+    Inv-loop
+    μ-loop
+    loop-holds
+    cut-next-requires
+    loop-less
+    loop-again
     same-length
     same-length-2
     same-length-3
