@@ -197,7 +197,8 @@ pub looked-told : {st : State} {before after : LookupLists} {ts hs : List ℕ} (
     → LookedUp st before ts hs after (toldLooked n l′)
 looked-told {st} {before} {after} {ts} {hs} r {n} l {l′} u long p q lb ls =
     let same : lookedOf (length ts) r ≡ lookup st before ts hs .answer = ap (λ w. w .answer) (u .call) in
-    let told =
-    reading-told (length ts) (r .answer) (r .blocks) (r .bytes) l (omega arith) (λ z. lookup-numbered st before ts hs (z ∙ same))
-    (u .blocks ∙ ap blockSums (sym same)) (u .bytes ∙ ap byteSums (sym same)) lb ls in
+    let numbers : Numbered (lookedOf (length ts) r) = λ z. lookup-numbered st before ts hs (z ∙ same) in
+    let blocks : r .blocks ≡ blockSums (lookedOf (length ts) r) = u .blocks ∙ ap blockSums (sym same) in
+    let bytes : r .bytes ≡ byteSums (lookedOf (length ts) r) = u .bytes ∙ ap byteSums (sym same) in
+    let told = reading-told (length ts) (r .answer) (r .blocks) (r .bytes) l (omega arith) numbers blocks bytes lb ls in
     subst (LookedUp st before ts hs after) (sym (ap (λ (s : ℕ). toldLooked s l′) p ∙ ap (toldLooked (lookedNumber r)) q ∙ told)) u

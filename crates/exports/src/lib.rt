@@ -690,7 +690,7 @@ pub extern "C" fn scorebeetle_lookup(
     exported::told::looked(answer, r)
 }
 
-// A counter by its number.
+// The counter of a number.
 fn counter_of(x: Small, which: u8, s: usize) -> Count
     requires { ⌜ x .stores ≤ 8 ⌝ }
     ensures { λ r. ⌜ ((st : State) → Of x st → countOf r ≡ counterCall which st s .answer) ⌝ }
@@ -705,7 +705,7 @@ fn counter_of(x: Small, which: u8, s: usize) -> Count
     }
 }
 
-// A counter of store s by its number: blocks held, capacity, blocks pinned, blocks available, version, and the stalls of all stores.
+// A counter by its number: of store s, 0 blocks held, 1 capacity, 2 blocks pinned, 3 blocks available, 4 version; 5 and above the stalls of all stores.
 #[no_mangle]
 pub extern "C" fn scorebeetle_counter(
     books: &[u64; 69],

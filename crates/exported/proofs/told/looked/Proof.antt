@@ -38,14 +38,10 @@ eights c = (search needs, search needs)
 returns-2 : tie.Need-returns-2
 returns-2 c =
     let z = c .before .before .before .before .before .before .before .before .before in
-    let done = c .before .before .before .before .before .a2 .given .1 in (
-      sym (ap readingNumber done),
-      c .tell-bytes .ensures
-          ∙ ap (λ l. sets l 11 (eight (z .args .r .bytes))) (c .before .before .tell-blocks .ensures)
-          ∙ sym (ap (λ a. readingIn a (z .args .r .blocks) (z .args .r .bytes) (z .args .answer .now)) done),
-      eights z .0,
-      eights z .1,
-    )
+    let done = c .before .before .before .before .before .a2 .given .1 in
+    let blocks = ap (λ l. sets l 11 (eight (z .args .r .bytes))) (c .before .before .tell-blocks .ensures) in
+    let list = ap (λ a. readingIn a (z .args .r .blocks) (z .args .r .bytes) (z .args .answer .now)) done in
+    (sym (ap readingNumber done), c .tell-bytes .ensures ∙ blocks ∙ sym list, eights z .0, eights z .1)
 
 pub looked-spec : {M : Type 1} → statement M
 looked-spec =
