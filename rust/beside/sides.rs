@@ -90,7 +90,7 @@ impl Side for Ours {
         let r = &mut self.0;
         match call {
             Call::SetUp => {
-                *r = Radix::new(bytes, &STORES).unwrap();
+                r.set_up(bytes, &STORES).unwrap();
                 Vec::new()
             }
             Call::Insert(list, _) => ours_path(r.insert(list).unwrap()),

@@ -18,24 +18,26 @@ impl Radix {
     /// A tree with the root only, and a store for each capacity and policy.
     /// Block `k` of a path starts at byte `bytes(k)`.
     pub fn new(bytes: impl Fn(u32) -> u64, stores: &[(u32, EvictionPolicy)]) -> Answer<Self> {
-        let table: Vec<u64> = (0..TABLE as u32).map(bytes).collect();
-        let capacity: Vec<u64> = stores.iter().map(|s| s.0 as u64).collect();
-        let refreshes: Vec<bool> = stores
-            .iter()
-            .map(|s| s.1 == EvictionPolicy::Refresh)
-            .collect();
         let mut radix = Self {
             pools: Pools::empty(),
             lists: Lists::empty(),
             books: [0; BOOKS],
             spans: Spans::default(),
         };
-        radix.set_up(&table, &capacity, &refreshes)?;
+        radix.set_up(bytes, stores)?;
         Ok(radix)
     }
 
-    /// Begins anew on the same pools.
-    pub fn set_up(&mut self, table: &[u64], capacity: &[u64], refreshes: &[bool]) -> Answer<()> {
+    /// Begins anew, on the same memory.
+    pub fn set_up(
+        &mut self,
+        bytes: impl Fn(u32) -> u64,
+        stores: &[(u32, EvictionPolicy)],
+    ) -> Answer<()> {
+        let table: [u64; TABLE] = std::array::from_fn(|k| bytes(k as u32));
+        let capacity: Vec<u64> = stores.iter().map(|s| s.0 as u64).collect();
+        let refreshes = stores.iter().map(|s| s.1 == EvictionPolicy::Refresh);
+        let refreshes: Vec<bool> = refreshes.collect();
         accepted(call!(
             self.scorebeetle_set_up,
             table.as_ptr(),
