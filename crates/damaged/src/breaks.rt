@@ -1,7 +1,8 @@
 // Each clause of the sound state broken, where it can be so that every other clause holds; and places that no clause looks at.
 use crate::edit;
 use crate::show;
-use trials::calls;
+use trials::reading;
+use trials::storing;
 use trials::world::Short;
 use trials::world::World;
 
@@ -12,23 +13,30 @@ fn short_pool(w: World, k: usize) {
     let short = Short { pool: k, list: 0 };
     let hashes = [11u64, 12, 13, 24];
     let tiers = [0usize, 1];
+    let sp = show::span(1, 0, 3);
     show::line(
         b"pool-short",
         b"resolve",
         w,
-        calls::resolve(w, lists, short, &hashes),
+        reading::resolve(w, lists, short, &hashes),
     );
     show::line(
         b"pool-short",
         b"lookup",
         w,
-        calls::lookup(w, lists, short, &tiers, &hashes),
+        reading::lookup(w, lists, short, &tiers, &hashes),
     );
     show::line(
         b"pool-short",
         b"store_insert",
         w,
-        calls::store_insert(w, lists, short, 0, show::span(5, 0, 2), 50.0, 3),
+        storing::store_insert(w, lists, short, 0, show::span(5, 0, 2), 50.0, 3),
+    );
+    show::line(
+        b"pool-short",
+        b"store_used",
+        w,
+        storing::store_used(w, short, 0, show::spans(sp, sp), 1, 60.0, true),
     );
 }
 

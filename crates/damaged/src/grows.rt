@@ -1,9 +1,9 @@
 // The refusals of insert at their limits, where it is accepted, and one past them.
 use crate::edit;
-use crate::growing;
 use crate::limits;
 use crate::lively;
 use crate::show;
+use trials::growing;
 use trials::world::Short;
 use trials::world::World;
 

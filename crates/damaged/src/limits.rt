@@ -3,7 +3,11 @@ use crate::edit;
 use crate::lively;
 use crate::show;
 use radix::Span;
-use trials::calls;
+use trials::growing;
+use trials::pinning;
+use trials::reading;
+use trials::reading::Counter;
+use trials::storing;
 use trials::world::Short;
 use trials::world::World;
 
@@ -15,7 +19,7 @@ fn bring(name: &[u8], w: World, s: usize, sp: Span, time: f64) {
         name,
         b"store_insert",
         w,
-        calls::store_insert(w, lists, show::whole(), s, sp, time, 3),
+        storing::store_insert(w, lists, show::whole(), s, sp, time, 3),
     );
 }
 
@@ -25,7 +29,7 @@ fn expire(name: &[u8], w: World, s: usize, time: f64, seconds: f64) {
         name,
         b"store_expire",
         w,
-        calls::store_expire(w, lists, show::whole(), s, time, seconds),
+        storing::store_expire(w, lists, show::whole(), s, time, seconds),
     );
 }
 
@@ -35,16 +39,16 @@ fn remove(name: &[u8], w: World, s: usize, sp: Span) {
         name,
         b"store_remove",
         w,
-        calls::store_remove(w, lists, show::whole(), s, sp),
+        storing::store_remove(w, lists, show::whole(), s, sp),
     );
 }
 
 fn pin(name: &[u8], w: World, s: usize, sp: Span) {
-    show::line(name, b"pin_source", w, calls::pin_source(w, s, sp));
+    show::line(name, b"pin_source", w, pinning::pin_source(w, s, sp));
 }
 
 fn unpin(name: &[u8], w: World, s: usize, sp: Span) {
-    show::line(name, b"unpin_source", w, calls::unpin_source(w, s, sp));
+    show::line(name, b"unpin_source", w, pinning::unpin_source(w, s, sp));
 }
 
 fn look(name: &[u8], w: World, tiers: &[usize], hashes: &[u64]) {
@@ -53,7 +57,7 @@ fn look(name: &[u8], w: World, tiers: &[usize], hashes: &[u64]) {
         name,
         b"lookup",
         w,
-        calls::lookup(w, lists, show::whole(), tiers, hashes),
+        reading::lookup(w, lists, show::whole(), tiers, hashes),
     );
 }
 
@@ -63,7 +67,7 @@ fn find(name: &[u8], w: World, hashes: &[u64]) {
         name,
         b"resolve",
         w,
-        calls::resolve(w, lists, show::whole(), hashes),
+        reading::resolve(w, lists, show::whole(), hashes),
     );
 }
 
@@ -74,27 +78,32 @@ fn store_counters(name: &[u8], w: World, s: usize) {
         name,
         b"store_held_blocks",
         w,
-        calls::store_held_blocks(w, s),
+        reading::count(w, Counter::Held, s),
     );
     show::line(
         name,
         b"store_capacity_blocks",
         w,
-        calls::store_capacity_blocks(w, s),
+        reading::count(w, Counter::Capacity, s),
     );
     show::line(
         name,
         b"store_pinned_blocks",
         w,
-        calls::store_pinned_blocks(w, s),
+        reading::count(w, Counter::Pinned, s),
     );
     show::line(
         name,
         b"store_available_for_stage",
         w,
-        calls::store_available_for_stage(w, s),
+        reading::count(w, Counter::Available, s),
     );
-    show::line(name, b"source_version", w, calls::source_version(w, s));
+    show::line(
+        name,
+        b"source_version",
+        w,
+        reading::count(w, Counter::Version, s),
+    );
 }
 
 fn last_store(w: World) {
@@ -318,7 +327,7 @@ fn set_up(name: &[u8], w: World, pool: usize, table: &[u64], capacity: &[u64], r
         name,
         b"set_up",
         w,
-        calls::set_up(w, short, table, capacity, refreshes),
+        growing::set_up(w, short, table, capacity, refreshes),
     );
 }
 
@@ -387,7 +396,7 @@ fn short_path(w: World, k: usize) {
         b"14-path-short",
         b"resolve",
         w,
-        calls::resolve(w, lists, short, &hashes),
+        reading::resolve(w, lists, short, &hashes),
     );
 }
 
@@ -400,7 +409,7 @@ fn short_reading(w: World, k: usize) {
         b"14-reading-short",
         b"lookup",
         w,
-        calls::lookup(w, lists, short, &tiers, &hashes),
+        reading::lookup(w, lists, short, &tiers, &hashes),
     );
 }
 
@@ -411,13 +420,13 @@ fn short_outs(w: World, k: usize) {
         b"14-outs-short",
         b"store_insert",
         w,
-        calls::store_insert(w, lists, short, 0, show::span(5, 0, 2), 50.0, 3),
+        storing::store_insert(w, lists, short, 0, show::span(5, 0, 2), 50.0, 3),
     );
     show::line(
         b"14-outs-short",
         b"store_expire",
         w,
-        calls::store_expire(w, lists, short, 0, 100.0, 65.0),
+        storing::store_expire(w, lists, short, 0, 100.0, 65.0),
     );
 }
 
@@ -428,7 +437,7 @@ fn short_writes(w: World) {
         b"14-writes-short",
         b"store_remove",
         w,
-        calls::store_remove(w, lists, short, 1, show::span(3, 0, 2)),
+        storing::store_remove(w, lists, short, 1, show::span(3, 0, 2)),
     );
 }
 

@@ -1,8 +1,9 @@
 // A lively sound state: five nodes, three stores with ranges, pins and read marks, brought in by the public calls.
 use crate::edit;
-use crate::growing;
 use crate::show;
-use trials::calls;
+use trials::growing;
+use trials::pinning;
+use trials::storing;
 use trials::world::World;
 
 // 100 bytes for each block.
@@ -23,7 +24,7 @@ pub fn fresh() -> World {
     let t = table();
     let capacity = [1000000u64, 6, 0];
     let refreshes = [true, false, true];
-    let r = calls::set_up(
+    let r = growing::set_up(
         trials::world::blank(),
         show::whole(),
         &t,
@@ -58,7 +59,7 @@ fn brought(
     time: f64,
     write: u32,
 ) -> World {
-    let r = calls::store_insert(
+    let r = storing::store_insert(
         w,
         show::answer_lists(),
         show::whole(),
@@ -72,7 +73,7 @@ fn brought(
 }
 
 fn pinned(w: World, s: usize, node: usize, start: usize, end: usize) -> World {
-    let r = calls::pin_source(w, s, show::span(node, start, end));
+    let r = pinning::pin_source(w, s, show::span(node, start, end));
     let after = r.world;
     after
 }

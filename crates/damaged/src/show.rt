@@ -1,15 +1,25 @@
 // A trial is written as a line: its name, the call, the number that came back, and whether a place of the state or of the answer lists changed.
-use crate::growing;
 use radix::Span;
-use trials::calls;
-use trials::calls::Tried;
+use trials::growing;
+use trials::pinning;
+use trials::reading;
+use trials::reading::Counter;
 use trials::same;
+use trials::storing;
+use trials::tried::Tried;
 use trials::world::Lists;
 use trials::world::Short;
 use trials::world::World;
 
 pub fn span(node: usize, start: usize, end: usize) -> Span {
     Span { node, start, end }
+}
+
+// A list of spans that starts with these two.
+pub fn spans(a: Span, b: Span) -> [Span; 65] {
+    let mut list = [a; 65];
+    list[1] = b;
+    list
 }
 
 // Every pool and list as long as 01 says.
@@ -53,13 +63,13 @@ fn each_reading(name: &[u8], w: World) {
         name,
         b"resolve",
         w,
-        calls::resolve(w, lists, whole(), &hashes),
+        reading::resolve(w, lists, whole(), &hashes),
     );
     line(
         name,
         b"lookup",
         w,
-        calls::lookup(w, lists, whole(), &tiers, &hashes),
+        reading::lookup(w, lists, whole(), &tiers, &hashes),
     );
 }
 
@@ -76,31 +86,45 @@ fn each_change(name: &[u8], w: World) {
         name,
         b"store_insert",
         w,
-        calls::store_insert(w, lists, whole(), 0, span(5, 0, 2), 50.0, 3),
+        storing::store_insert(w, lists, whole(), 0, span(5, 0, 2), 50.0, 3),
+    );
+    line(
+        name,
+        b"store_used",
+        w,
+        storing::store_used(
+            w,
+            whole(),
+            0,
+            spans(span(1, 0, 3), span(4, 1, 2)),
+            2,
+            60.0,
+            true,
+        ),
     );
     line(
         name,
         b"store_expire",
         w,
-        calls::store_expire(w, lists, whole(), 0, 100.0, 65.0),
+        storing::store_expire(w, lists, whole(), 0, 100.0, 65.0),
     );
     line(
         name,
         b"store_remove",
         w,
-        calls::store_remove(w, lists, whole(), 1, span(3, 0, 2)),
+        storing::store_remove(w, lists, whole(), 1, span(3, 0, 2)),
     );
     line(
         name,
         b"pin_source",
         w,
-        calls::pin_source(w, 0, span(5, 0, 2)),
+        pinning::pin_source(w, 0, span(5, 0, 2)),
     );
     line(
         name,
         b"unpin_source",
         w,
-        calls::unpin_source(w, 0, span(1, 0, 2)),
+        pinning::unpin_source(w, 0, span(1, 0, 2)),
     );
 }
 
@@ -109,28 +133,38 @@ fn each_counter(name: &[u8], w: World) {
         name,
         b"store_held_blocks",
         w,
-        calls::store_held_blocks(w, 0),
+        reading::count(w, Counter::Held, 0),
     );
     line(
         name,
         b"store_capacity_blocks",
         w,
-        calls::store_capacity_blocks(w, 0),
+        reading::count(w, Counter::Capacity, 0),
     );
     line(
         name,
         b"store_pinned_blocks",
         w,
-        calls::store_pinned_blocks(w, 0),
+        reading::count(w, Counter::Pinned, 0),
     );
     line(
         name,
         b"store_available_for_stage",
         w,
-        calls::store_available_for_stage(w, 0),
+        reading::count(w, Counter::Available, 0),
     );
-    line(name, b"source_version", w, calls::source_version(w, 0));
-    line(name, b"pin_stalls", w, calls::pin_stalls(w));
+    line(
+        name,
+        b"source_version",
+        w,
+        reading::count(w, Counter::Version, 0),
+    );
+    line(
+        name,
+        b"pin_stalls",
+        w,
+        reading::count(w, Counter::Stalls, 0),
+    );
 }
 
 // Every call but set-up, with arguments that a sound state accepts.
