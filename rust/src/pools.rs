@@ -8,7 +8,7 @@ pub const RECORDS: usize = 1024;
 pub const PINS: usize = 256;
 pub const MARKS: usize = 2048;
 pub const TABLE: usize = 1025;
-/// The small numbers: five of the whole, then eight of each kind.
+/// The small numbers: five of the whole, then eight of each store.
 pub const BOOKS: usize = 69;
 
 #[derive(Clone)]

@@ -3,7 +3,7 @@ use Prim.Native.Nat.{ℕ}
 use mathlib.Core.List.{List, [], _∷_}
 use lib.ListN.{take}
 use lib.Ieee.{Float}
-use Rattle.model.specs.State.{State}
+use Rattle.model.specs.State.{State, nodesIn, usedIn}
 use Rattle.model.specs.Insert.{Cut as CutAt}
 use Rattle.model.specs.Calls.{Outcome, Answer, refused, done, NoValue, Path as PathAt, InsertAnswer, LookupAnswer}
 use Rattle.lent.specs.declared.Small.{Small}
@@ -29,8 +29,8 @@ abbrev pub stateFrom :
     → List ℕ → List ℕ → List ℕ → List ℕ
     → List ℕ → List ℕ → Small → State
 stateFrom parent depth len run words node start end id stamp touched write pinNode pinStart pinEnd pinCount marks bytes x =
-    stateOf (treeOf parent depth len run words (x .nodes) (x .used)) (rangesOf node start end id stamp touched write)
-    (pinsOf pinNode pinStart pinEnd pinCount) marks bytes x
+    stateOf (treeOf parent depth len run words (nodesIn (x .books)) (usedIn (x .books))) (rangesOf node start end id stamp touched write)
+    (pinsOf pinNode pinStart pinEnd pinCount) marks bytes (x .books)
 
 abbrev pub outcome : {L A : Type 0} → State → L → Answer A → Outcome L A
 outcome st l a = record { state = st; lists = l; answer = a }

@@ -4,14 +4,13 @@ use mathlib.Core.Bool.{Bool, true, false, not}
 use mathlib.Core.Path.{_≡_, refl, sym, ap, subst, _∙_}
 use mathlib.Core.List.{List, [], _∷_}
 use native.Mathlib.Omega.{arith}
-use lib.ListN.{length, set}
+use lib.ListN.{length}
 use lib.Ieee.{Float}
-use mir.Val.{Fits}
-use mir.Syntax.{w64}
 use Rattle.model.specs.declared.Span.{Span}
+use Rattle.model.specs.declared.Book.{Book}
 use Rattle.model.specs.Sizes.{versions}
-use Rattle.model.specs.State.{Ranges, Range, Books, State, at}
-use Rattle.model.specs.Store.{ranges, pins, storeOf, total, withRanges, withNext}
+use Rattle.model.specs.State.{Ranges, Range, State, nodesIn, usedIn, nextIdIn, stallsIn, nextIdOf, stallsOf, bookOf, capacityOf, recordsOf, heldOf, stampOf, entriesOf}
+use Rattle.model.specs.Store.{ranges, pins, storeOf, total, ranged, layBook, layNext, withRanges, withNext}
 use Rattle.model.specs.Trim.{Out, Trimmed, trim, stallsAfter}
 use Rattle.model.specs.Bring.{Gap, Brought, gaps, fresh, fill, bringNeed, keep}
 use Rattle.model.specs.Refusals.{OutList, OutFits}
@@ -22,6 +21,7 @@ use Rattle.keptbring.proofs.Bring.{bring-cases}
 use Rattle.keptbring.proofs.Fill.{gaps-rising, gaps-clear, fill-sound}
 use Rattle.keptstate.proofs.Parts.{sound-parts}
 use Rattle.keptcalls.proofs.Stores.{store-sound}
+use Rattle.lent.specs.Lent.{treeOf, stateOf}
 use Rattle.parts.specs.Parts.{mid, midRanges}
 use Rattle.parts.proofs.Parts.{ranges-part, ranges-sized}
 use Rattle.tree.specs.Span.{onlyDepth}
@@ -37,7 +37,7 @@ use Rattle.trim.specs.Given.{Ready}
 use Rattle.trim.proofs.Laws.{sound-reach, sound-ready}
 use Rattle.trim.proofs.Trim.{trim-depth}
 use Rattle.bringpart.specs.Pool.{PoolReady, GivenOutAt}
-use Rattle.bring.specs.Settled.{settledBooks}
+use Rattle.bring.specs.Settled.{settled}
 use Rattle.bring.specs.Insert.{InsertReady, BroughtIn}
 
 -- ---- stalls
@@ -74,7 +74,7 @@ module _ {st : State} {l : OutList} {s : ℕ} {sp : Span} {g : Gaps} {time : Flo
   abbrev gs : List Gap
   gs = gaps (sp .node) (storeOf st s .ranges) (sp .start) (sp .end)
 
-  own : StoreSound (st .tree) (st .books .nextId) (storeOf st s)
+  own : StoreSound (st .tree) (nextIdOf st) (storeOf st s)
   own = store-sound st s (p .sound) (p .store)
 
   tree : TreeSound (st .tree)
@@ -83,7 +83,7 @@ module _ {st : State} {l : OutList} {s : ℕ} {sp : Span} {g : Gaps} {time : Flo
   pub in-stores : s < 8
   in-stores = omega (arith, p .store, p .sound .counts .stores)
 
-  few : at (st .books .records) s ≤ 128
+  few : recordsOf st s ≤ 128
   few = omega (arith, p .records)
 
   -- a span in its node ends where a node can
@@ -96,39 +96,39 @@ module _ {st : State} {l : OutList} {s : ℕ} {sp : Span} {g : Gaps} {time : Flo
   rising-gaps : All Filled (gapsOf g)
   rising-gaps = rw (p .gaps) (rising-filled (sp .start) (sp .end) gs low (gaps-rising (st .tree) (sp .node) (sp .end) (storeOf st s .ranges) (sp .start) (own .ranges .inside)))
 
-  filled-in : (w : ℕ) → All (Reach (st .tree .depth)) (fill (sp .node) gs (storeOf st s .stamp) (st .books .nextId) time w (storeOf st s .ranges))
+  filled-in : (w : ℕ) → All (Reach (st .tree .depth)) (fill (sp .node) gs (storeOf st s .book .stamp) (nextIdOf st) time w (storeOf st s .ranges))
   filled-in w =
       let h = own .ranges in
-      sound-reach tree (fill (sp .node) gs (storeOf st s .stamp) (st .books .nextId) time w (storeOf st s .ranges))
-      (fill-sound (sp .node) time w (st .tree) (sp .end) (p .span .node) (p .span .ends) (p .finite) gs (sp .start) (storeOf st s .stamp) (st .books .nextId)
+      sound-reach tree (fill (sp .node) gs (storeOf st s .book .stamp) (nextIdOf st) time w (storeOf st s .ranges))
+      (fill-sound (sp .node) time w (st .tree) (sp .end) (p .span .node) (p .span .ends) (p .finite) gs (sp .start) (storeOf st s .book .stamp) (nextIdOf st)
       (storeOf st s .ranges) (gaps-rising (st .tree) (sp .node) (sp .end) (storeOf st s .ranges) (sp .start) (h .inside))
       (gaps-clear (st .tree) (sp .node) (sp .end) (storeOf st s .ranges) (sp .start) (h .inside) (h .sorted)) (p .sound .counts .firstId) h .inside)
 
-  read : ranges (midRanges (128 * s) 128 (st .ranges)) 0 (at (st .books .records) s) ≡ storeOf st s .ranges
+  read : ranges (midRanges (128 * s) 128 (st .ranges)) 0 (recordsOf st s) ≡ storeOf st s .ranges
   unfolding storeOf
-  read = ranges-part (st .ranges) (128 * s) 128 (at (st .books .records) s) few
+  read = ranges-part (st .ranges) (128 * s) 128 (recordsOf st s) few
 
-  part-in : (rs : List Range) → rs ≡ storeOf st s .ranges → (top : ℕ) → top ≡ storeOf st s .stamp → (w : ℕ)
-      → All (Reach (st .tree .depth)) (fill (sp .node) (gapsOf g) top (st .books .nextId) time w rs)
+  part-in : (rs : List Range) → rs ≡ storeOf st s .ranges → (top : ℕ) → top ≡ storeOf st s .book .stamp → (w : ℕ)
+      → All (Reach (st .tree .depth)) (fill (sp .node) (gapsOf g) top (nextIdOf st) time w rs)
   part-in rs e top d w = rw (e, d, p .gaps) (filled-in w)
 
-  ready-in : Ready (st .tree .depth) (st .bytes) (at (st .books .records) s) (at (st .books .held) s) (midRanges (128 * s) 128 (st .ranges))
+  ready-in : Ready (st .tree .depth) (st .bytes) (recordsOf st s) (heldOf st s) (midRanges (128 * s) 128 (st .ranges))
       (mid (256 * s) 256 (st .marks)) l
   unfolding storeOf
   ready-in =
-      sound-ready {t = st .tree} {next = st .books .nextId} {top = storeOf st s .stamp} tree (p .sound .table) (p .sound .lent .bytes)
+      sound-ready {t = st .tree} {next = nextIdOf st} {top = storeOf st s .book .stamp} tree (p .sound .table) (p .sound .lent .bytes)
       (ranges-sized (128 * s) (st .ranges) (p .sound .lent .ranges) (omega (arith, in-stores))) few
-      (subst (λ (rs : List Range). RangesSound (st .tree) (st .books .nextId) (storeOf st s .stamp) rs) (sym read) (own .ranges))
+      (subst (λ (rs : List Range). RangesSound (st .tree) (nextIdOf st) (storeOf st s .book .stamp) rs) (sym read) (own .ranges))
       (own .held ∙ ap total (sym read))
       (subst (λ (rs : List Range). MarksSound (st .tree) rs (storeOf st s .marks)) (sym read) (own .marks)) (p .fits)
 
-  stamp-is : at (st .books .stamp) s ≡ storeOf st s .stamp
+  stamp-is : stampOf st s ≡ storeOf st s .book .stamp
   unfolding storeOf
   stamp-is = refl
 
-  pub pool-in : (w : ℕ)
-      → PoolReady (st .tree .depth) (st .bytes) s (at (st .books .records) s) (at (st .books .entries) s) (at (st .books .held) s) (st .ranges) (st .marks) l (st .pins .node) (st .pins .start) (st .pins .end) (sp .node) g (at (st .books .stamp) s) (st .books .nextId) time w
-  pool-in w =
+  pool-own : (w : ℕ)
+      → PoolReady (st .tree .depth) (st .bytes) s (recordsOf st s) (entriesOf st s) (heldOf st s) (st .ranges) (st .marks) l (st .pins .node) (st .pins .start) (st .pins .end) (sp .node) g (stampOf st s) (nextIdOf st) time w
+  pool-own w =
       record {
         store = in-stores;
         entries = p .sound .counts .each s (omega arith) (p .store) .entries;
@@ -145,90 +145,93 @@ module _ {st : State} {l : OutList} {s : ℕ} {sp : Span} {g : Gaps} {time : Flo
         };
       }
 
-  pub settle-in : (s < 8) × (g .n ≤ 128) × (at (st .books .stamp) s ≤ 281474976710656) × (st .books .nextId ≤ 281474976710656)
-  settle-in = (in-stores, omega (arith, p .records), omega (arith, p .stamps), omega (arith, p .ids))
+  -- where b are the store's own numbers
+  module _ (b : Book) (is : b ≡ bookOf st s) where
+    pub pool-in : (w : ℕ)
+        → PoolReady (st .tree .depth) (st .bytes) s (b .records) (b .entries) (b .held) (st .ranges) (st .marks) l (st .pins .node) (st .pins .start) (st .pins .end) (sp .node) g (b .stamp) (nextIdOf st) time w
+    pool-in w = rw is (pool-own w)
+
+    pub settle-in : (s < 8) × (g .n ≤ 128) × (b .stamp ≤ 281474976710656) × (nextIdOf st ≤ 281474976710656)
+    settle-in = (in-stores, omega (arith, p .records), rw is (omega (arith, p .stamps)), omega (arith, p .ids))
 
   -- ---- what is left
 
   -- a store with a capacity keeps
-  keeps : (w : ℕ) → (bringNeed (storeOf st s) sp ≡ length gs) × (brought st s sp time w ≡ keep (st .tree) (st .bytes) (storeOf st s) (st .books .nextId) sp time w)
+  keeps : (w : ℕ) → (bringNeed (storeOf st s) sp ≡ length gs) × (brought st s sp time w ≡ keep (st .tree) (st .bytes) (storeOf st s) (nextIdOf st) sp time w)
   unfolding brought storeOf
   keeps w =
-      bring-cases (st .tree) (st .bytes) (st .books .nextId) (storeOf st s) sp time w
-      (λ k b. (k ≡ length gs) × (b ≡ keep (st .tree) (st .bytes) (storeOf st s) (st .books .nextId) sp time w)) (λ e. absurd (p .some e)) (λ e. (refl, refl))
+      bring-cases (st .tree) (st .bytes) (nextIdOf st) (storeOf st s) sp time w
+      (λ k b. (k ≡ length gs) × (b ≡ keep (st .tree) (st .bytes) (storeOf st s) (nextIdOf st) sp time w)) (λ e. absurd (p .some e)) (λ e. (refl, refl))
 
   above : (c : ℕ) (a b : State) → (c ≡ 0 → ⊥) → elim c [ zero ↦ a | suc d ↦ b ] ≡ b
   above zero a b h = absurd (h refl)
   above (suc c) a b h = refl
 
-  kept-in : (w : ℕ) → let k = keep (st .tree) (st .bytes) (storeOf st s) (st .books .nextId) sp time w in
-      bringIn st s sp time w ≡ withNext (st .books .nextId + length gs) (stallsAfter (k .stalled) (st .books .stalls)) (withRanges s (length gs) (k .store) st)
+  kept-in : (w : ℕ) → let k = keep (st .tree) (st .bytes) (storeOf st s) (nextIdOf st) sp time w in
+      bringIn st s sp time w ≡ withNext (nextIdOf st + length gs) (stallsAfter (k .stalled) (stallsOf st)) (withRanges s (length gs) (k .store) st)
   unfolding bringIn
   kept-in w =
-      above (at (st .books .capacity) s) st _ (p .some)
-      ∙ (λ j. withNext (st .books .nextId + keeps w .0 j) (stallsAfter (keeps w .1 j .stalled) (st .books .stalls)) (withRanges s (keeps w .0 j) (keeps w .1 j .store) st))
+      above (capacityOf st s) st _ (p .some)
+      ∙ (λ j. withNext (nextIdOf st + keeps w .0 j) (stallsAfter (keeps w .1 j .stalled) (stallsOf st)) (withRanges s (keeps w .0 j) (keeps w .1 j .store) st))
 
-  -- the state by its columns, marks and books
-  abbrev stateWith : Ranges → List ℕ → Books → State
-  stateWith c ms b = record { tree = st .tree; ranges = c; pins = st .pins; marks = ms; bytes = st .bytes; books = b }
+  -- the state by the tree's counts, its columns, marks and books
+  abbrev stateWith : ℕ → ℕ → Ranges → List ℕ → List ℕ → State
+  stateWith nodes used c ms bs =
+      let t = st .tree in
+      stateOf (treeOf (t .parent) (t .depth) (t .len) (t .run) (t .words) nodes used) c (st .pins) ms (st .bytes) bs
 
   abbrev trimmedOf : ℕ → Trimmed
-  trimmedOf w = trim (st .tree) (st .bytes) (storeOf st s .pins) (storeOf st s .capacity) (fill (sp .node) gs (storeOf st s .stamp) (st .books .nextId) time w (storeOf st s .ranges)) (storeOf st s .marks)
+  trimmedOf w = trim (st .tree) (st .bytes) (storeOf st s .pins) (storeOf st s .book .capacity) (fill (sp .node) gs (storeOf st s .book .stamp) (nextIdOf st) time w (storeOf st s .ranges)) (storeOf st s .marks)
 
   outs-in : (w : ℕ) → trimmedOf w .outs ≡ brought st s sp time w .outs
   unfolding keep
   outs-in w = sym (ap (λ (k : Brought). k .outs) (keeps w .1))
 
-  module _ (w : ℕ) {c : Ranges} {ms : List ℕ} {lʹ : OutList} {n h o : ℕ} {b : Bool} where
-    laid-in : GivenOutAt s (trimmedOf w) (at (st .books .records) s + length gs) (st .ranges) (st .marks) l c ms lʹ n h o b
-        → stateWith c ms (settledBooks s (length gs) n h o b (st .books)) ≡ bringIn st s sp time w
+  -- the tree's counts stay in the books
+  counted-in : (c : Ranges) (ms : List ℕ) (need n h o : ℕ) (q : Bool) (bs : List ℕ) → st .tree .nodes ≡ nodesIn (st .books)
+      → st .tree .used ≡ usedIn (st .books) → bs ≡ settled s (bookOf st s) need n h o q (st .books)
+      → stateWith (nodesIn bs) (usedIn bs) c ms bs ≡ stateWith (st .tree .nodes) (st .tree .used) c ms (settled s (bookOf st s) need n h o q (st .books))
+  unfolding layNext layBook
+  counted-in c ms need n h o q bs a d e =
+      (λ j. stateWith (nodesIn (e j)) (usedIn (e j)) c ms (e j))
+      ∙ (λ j. stateWith (sym a j) (sym d j) c ms (settled s (bookOf st s) need n h o q (st .books)))
+
+  module _ (w : ℕ) {c : Ranges} {ms : List ℕ} {lʹ : OutList} {n h o : ℕ} {q : Bool} where
+    laid-in : GivenOutAt s (trimmedOf w) (recordsOf st s + length gs) (st .ranges) (st .marks) l c ms lʹ n h o q
+        → stateWith (st .tree .nodes) (st .tree .used) c ms (settled s (bookOf st s) (length gs) n h o q (st .books)) ≡ bringIn st s sp time w
     unfolding keep withNext withRanges storeOf
     laid-in u =
-        (λ j. stateWith (u .cols j) (u .marks j) (settledBooks s (length gs) (u .records j) (u .held j) (u .outs j) (u .stalled j) (st .books)))
+        (λ j. stateWith (st .tree .nodes) (st .tree .used) (u .cols j) (u .marks j)
+        (settled s (bookOf st s) (length gs) (u .records j) (u .held j) (u .outs j) (u .stalled j) (st .books)))
         ∙ sym (kept-in w)
 
-    given-in : GivenOutAt s (trim (onlyDepth (st .tree .depth)) (st .bytes) (pins (st .pins) (32 * s) (at (st .books .entries) s)) (at (st .books .capacity) s) (fill (sp .node) (gapsOf g) (at (st .books .stamp) s) (st .books .nextId) time w (ranges (st .ranges) (128 * s) (at (st .books .records) s))) (mid (256 * s) 256 (st .marks))) (at (st .books .records) s + length (gapsOf g)) (st .ranges) (st .marks) l c ms lʹ n h o b
-        → GivenOutAt s (trimmedOf w) (at (st .books .records) s + length gs) (st .ranges) (st .marks) l c ms lʹ n h o b
+    given-in : (b : Book) → b ≡ bookOf st s
+        → GivenOutAt s (trim (onlyDepth (st .tree .depth)) (st .bytes) (pins (st .pins) (32 * s) (b .entries)) (b .capacity) (fill (sp .node) (gapsOf g) (b .stamp) (nextIdOf st) time w (ranges (st .ranges) (128 * s) (b .records))) (mid (256 * s) 256 (st .marks))) (b .records + length (gapsOf g)) (st .ranges) (st .marks) l c ms lʹ n h o q
+        → GivenOutAt s (trimmedOf w) (recordsOf st s + length gs) (st .ranges) (st .marks) l c ms lʹ n h o q
     unfolding storeOf
-    given-in u = rw (p .gaps, trim-depth (st .tree)) at u
+    given-in b is u = rw (is, p .gaps, trim-depth (st .tree)) at u
 
-    pub brought-in : (stʹ : State) {bs : Books} → stʹ ≡ stateWith c ms bs → bs ≡ settledBooks s (g .n) n h o b (st .books)
-        → GivenOutAt s (trim (onlyDepth (st .tree .depth)) (st .bytes) (pins (st .pins) (32 * s) (at (st .books .entries) s)) (at (st .books .capacity) s) (fill (sp .node) (gapsOf g) (at (st .books .stamp) s) (st .books .nextId) time w (ranges (st .ranges) (128 * s) (at (st .books .records) s))) (mid (256 * s) 256 (st .marks))) (at (st .books .records) s + length (gapsOf g)) (st .ranges) (st .marks) l c ms lʹ n h o b
-        → BroughtIn st l s sp time w stʹ lʹ o
-    brought-in stʹ {bs} is e u =
-        let v = given-in u in
+    pub brought-in : (b : Book) → b ≡ bookOf st s → (bs : List ℕ) → st .tree .nodes ≡ nodesIn (st .books) → st .tree .used ≡ usedIn (st .books)
+        → bs ≡ settled s b (g .n) n h o q (st .books)
+        → GivenOutAt s (trim (onlyDepth (st .tree .depth)) (st .bytes) (pins (st .pins) (32 * s) (b .entries)) (b .capacity) (fill (sp .node) (gapsOf g) (b .stamp) (nextIdOf st) time w (ranges (st .ranges) (128 * s) (b .records))) (mid (256 * s) 256 (st .marks))) (b .records + length (gapsOf g)) (st .ranges) (st .marks) l c ms lʹ n h o q
+        → BroughtIn st l s sp time w (stateWith (nodesIn bs) (usedIn bs) c ms bs) lʹ o
+    brought-in b is bs a d e u =
+        let v = given-in b is u in
         let k : g .n ≡ length gs = sym (gaps-length (g .from) (g .upto) (g .n)) ∙ ap length (p .gaps) in
         record {
-          state = is ∙ ap (λ (y : Books). stateWith c ms y) (e ∙ ap (λ (y : ℕ). settledBooks s y n h o b (st .books)) k) ∙ laid-in v;
+          state = counted-in c ms (length gs) n h o q bs a d (e ∙ (λ j. settled s (is j) (k j) n h o q (st .books))) ∙ laid-in v;
           lists = v .lists ∙ ap (λ (y : List Out). layOuts y l) (outs-in w);
           outs = v .outs ∙ ap (λ (y : List Out). length y) (outs-in w);
         }
 
 -- ---- the small numbers
 
-pub index-fits : {s : ℕ} → s < 8 → Fits w64 (s * 8)
-index-fits h = omega arith
-
--- the books with this number of stalls, and this version of store s
-abbrev booksWith : ℕ → ℕ → ℕ → ℕ → Books → ℕ → ℕ → Books
-booksWith s need n h x stalls version =
-    record {
-      stores = x .stores;
-      nextId = x .nextId + need;
-      stalls = stalls;
-      capacity = x .capacity;
-      refreshes = x .refreshes;
-      records = set (x .records) s n;
-      held = set (x .held) s h;
-      stamp = set (x .stamp) s (at (x .stamp) s + need);
-      version = set (x .version) s version;
-      entries = x .entries;
-      pinned = x .pinned;
-    }
-
-pub books-settled : (s need n h o : ℕ) (b : Bool) (x : Books) (q v : ℕ) → q ≡ stallsAfter b (x .stalls) → v ≡ (at (x .version) s + o) % versions
-    → booksWith s need n h x q v ≡ settledBooks s need n h o b x
-books-settled s need n h o b x q v e d = λ j. booksWith s need n h x (e j) (d j)
+pub books-settled : (s need n h o : ℕ) (q : Bool) (b : Book) (l m r : List ℕ) (stalls version : ℕ) → stalls ≡ stallsAfter q (stallsIn l)
+    → version ≡ (b .version + o) % versions → m ≡ layBook s (ranged b n h (b .stamp + need) version) l → r ≡ layNext (nextIdIn l + need) stalls m
+    → r ≡ settled s b need n h o q l
+books-settled s need n h o q b l m r stalls version a d e f =
+    f ∙ (λ j. layNext (nextIdIn l + need) (a j) (e j))
+    ∙ (λ j. layNext (nextIdIn l + need) (stallsAfter q (stallsIn l)) (layBook s (ranged b n h (b .stamp + need) (d j)) l))
 
 pub whole-out : (o q : Out) (l lʹ : OutList) → OutFits l → lʹ ≡ setOut 0 o l → o ≡ q → lʹ ≡ layOuts (q ∷ []) l
 whole-out o q l lʹ h e d = one-out o l lʹ h e ∙ ap (λ (k : Out). layOuts (k ∷ []) l) d

@@ -5,7 +5,7 @@ use lib.ListN.{length}
 use lib.Ieee.{Float}
 use Rattle.model.specs.declared.Span.{Span}
 use Rattle.model.specs.Sizes.{storeRecords, maxStamp}
-use Rattle.model.specs.State.{State, at}
+use Rattle.model.specs.State.{State, storesOf, nextIdOf, capacityOf, recordsOf, stampOf}
 use Rattle.model.specs.Sound.{Sound, Finite}
 use Rattle.model.specs.Store.{storeOf}
 use Rattle.model.specs.Bring.{gaps}
@@ -17,14 +17,14 @@ use Rattle.gaps.specs.Gaps.{gapsOf}
 pub record InsertReady (st : State) (l : OutList) (s : ℕ) (sp : Span) (g : Gaps) (time : Float) : Type 0 where
   pub sound : Sound st
   pub fits : OutFits l
-  pub store : s < st .books .stores
+  pub store : s < storesOf st
   pub span : SpanIn (st .tree) sp
   pub finite : Finite time
-  pub some : at (st .books .capacity) s ≡ 0 → ⊥
+  pub some : capacityOf st s ≡ 0 → ⊥
   pub gaps : gapsOf g ≡ gaps (sp .node) (storeOf st s .ranges) (sp .start) (sp .end)
-  pub records : at (st .books .records) s + g .n ≤ storeRecords
-  pub stamps : at (st .books .stamp) s + g .n ≤ maxStamp
-  pub ids : st .books .nextId + g .n ≤ maxStamp
+  pub records : recordsOf st s + g .n ≤ storeRecords
+  pub stamps : stampOf st s + g .n ≤ maxStamp
+  pub ids : nextIdOf st + g .n ≤ maxStamp
 
 -- state and answer lists became stʹ and lʹ, and o spans were given out
 pub record BroughtIn (st : State) (l : OutList) (s : ℕ) (sp : Span) (time : Float) (w : ℕ) (stʹ : State) (lʹ : OutList) (o : ℕ) : Type 0 where

@@ -1,19 +1,20 @@
 use evicted::Evicted;
 use gaps::Gaps;
 use lent::Small;
+use model::Book;
 use model::Span;
 use trim::Trimming;
 ghost use mathlib.Core.Path.{_≡_};
 ghost use mathlib.Core.List.{[], _∷_};
 ghost use Prim.Native.Nat.{_+_, _≤_, _<_};
-ghost use Rattle.model.specs.State.{at};
+ghost use Rattle.model.specs.State.{nodesIn, usedIn, nextIdIn};
 ghost use Rattle.model.specs.Trim.{stallsAfter};
 ghost use Rattle.model.specs.Refusals.{OutFits};
 ghost use Rattle.model.specs.Calls.{layOuts};
 ghost use Rattle.lent.specs.Lent.{treeOf, rangesOf, pinsOf, stateOf};
 ghost use Rattle.tree.specs.Span.{Priced, onlyDepth};
 ghost use Rattle.evicted.specs.Evicted.{outList};
-ghost use Rattle.bring.specs.Settled.{Settled, whole};
+ghost use Rattle.bring.specs.Settled.{settled, whole};
 ghost use Rattle.bring.specs.Insert.{InsertReady, BroughtIn};
 
 // One stall more, up to 2^48.
@@ -29,20 +30,21 @@ fn stalls_after(stalled: bool, stalls: u64) -> u64
     281474976710656
 }
 
-// The small numbers after store s was trimmed; `need` is how many stamps and ids were given.
-fn settle(x: Small, s: usize, need: usize, t: Trimming) -> Small
-    requires { ⌜ (s < 8) × (need ≤ 128) × (at (x .stamp) s ≤ 281474976710656) × (x .next ≤ 281474976710656) ⌝ }
-    ensures { λ y. ⌜ Settled s need (t .n) (t .held) (t .outs) (t .stalled) x y ⌝ }
+// The small numbers after store s, whose own were b, was trimmed; `need` is how many stamps and ids were given.
+fn settle(books: &mut [u64; 69], s: usize, b: Book, need: usize, t: Trimming)
+    requires { ⌜ (s < 8) × (need ≤ 128) × (b .stamp ≤ 281474976710656) × (nextIdIn (now books) ≤ 281474976710656) ⌝ }
+    ensures { λ _. ⌜ now (books .exit) ≡ settled s b need (t .n) (t .held) (t .outs) (t .stalled) (now (books .entry)) ⌝ }
 {
-    let mut y = x;
     let given = need as u64;
-    y.next = x.next + given;
-    y.stalls = stalls_after(t.stalled, x.stalls);
-    y.records[s] = t.n;
-    y.held[s] = t.held;
-    y.stamp[s] = x.stamp[s] + given;
-    y.version[s] = std::num::wrapping_add_u64(x.version[s], t.outs as u64);
-    y
+    let next = books[3] + given;
+    let stalls = stalls_after(t.stalled, books[4]);
+    let mut c = b;
+    c.records = t.n;
+    c.held = t.held;
+    c.stamp = b.stamp + given;
+    c.version = std::num::wrapping_add_u64(b.version, t.outs as u64);
+    books::put_book(&mut *books, s, c);
+    books::put_next(books, next, stalls);
 }
 
 // The small numbers afterwards, and how many spans were given out.
@@ -84,14 +86,10 @@ pub fn bring_in(
     time: f64,
     w: u32,
 ) -> Brought
-    requires { ⌜ InsertReady (stateOf (treeOf (now parent) (now depth) (now len) (now run) (now words) (x .nodes) (x .used)) (rangesOf (now node) (now start) (now end) (now id) (now stamp) (now touched) (now write)) (pinsOf (now «pin_node») (now «pin_start») (now «pin_end») (now «pin_count»)) (now marks) (now bytes) x) (outList (now «out_node») (now «out_start») (now «out_end») (now «out_write») (now «out_bytes») (now «out_dead»)) s sp g time ⌝ }
-    ensures { λ r. ⌜ BroughtIn (stateOf (treeOf (now (parent .entry)) (now (depth .entry)) (now (len .entry)) (now (run .entry)) (now (words .entry)) (x .nodes) (x .used)) (rangesOf (now (node .entry)) (now (start .entry)) (now (end .entry)) (now (id .entry)) (now (stamp .entry)) (now (touched .entry)) (now (write .entry))) (pinsOf (now («pin_node» .entry)) (now («pin_start» .entry)) (now («pin_end» .entry)) (now («pin_count» .entry))) (now (marks .entry)) (now (bytes .entry)) x) (outList (now («out_node» .entry)) (now («out_start» .entry)) (now («out_end» .entry)) (now («out_write» .entry)) (now («out_bytes» .entry)) (now («out_dead» .entry))) s sp time w (stateOf (treeOf (now (parent .entry)) (now (depth .entry)) (now (len .entry)) (now (run .entry)) (now (words .entry)) (r .small .nodes) (r .small .used)) (rangesOf (now (node .exit)) (now (start .exit)) (now (end .exit)) (now (id .exit)) (now (stamp .exit)) (now (touched .exit)) (now (write .exit))) (pinsOf (now («pin_node» .entry)) (now («pin_start» .entry)) (now («pin_end» .entry)) (now («pin_count» .entry))) (now (marks .exit)) (now (bytes .entry)) (r .small)) (outList (now («out_node» .exit)) (now («out_start» .exit)) (now («out_end» .exit)) (now («out_write» .exit)) (now («out_bytes» .exit)) (now («out_dead» .exit))) (r .outs) ⌝ }
+    requires { ⌜ InsertReady (stateOf (treeOf (now parent) (now depth) (now len) (now run) (now words) (nodesIn (x .books)) (usedIn (x .books))) (rangesOf (now node) (now start) (now end) (now id) (now stamp) (now touched) (now write)) (pinsOf (now «pin_node») (now «pin_start») (now «pin_end») (now «pin_count»)) (now marks) (now bytes) (x .books)) (outList (now «out_node») (now «out_start») (now «out_end») (now «out_write») (now «out_bytes») (now «out_dead»)) s sp g time ⌝ }
+    ensures { λ r. ⌜ BroughtIn (stateOf (treeOf (now (parent .entry)) (now (depth .entry)) (now (len .entry)) (now (run .entry)) (now (words .entry)) (nodesIn (x .books)) (usedIn (x .books))) (rangesOf (now (node .entry)) (now (start .entry)) (now (end .entry)) (now (id .entry)) (now (stamp .entry)) (now (touched .entry)) (now (write .entry))) (pinsOf (now («pin_node» .entry)) (now («pin_start» .entry)) (now («pin_end» .entry)) (now («pin_count» .entry))) (now (marks .entry)) (now (bytes .entry)) (x .books)) (outList (now («out_node» .entry)) (now («out_start» .entry)) (now («out_end» .entry)) (now («out_write» .entry)) (now («out_bytes» .entry)) (now («out_dead» .entry))) s sp time w (stateOf (treeOf (now (parent .entry)) (now (depth .entry)) (now (len .entry)) (now (run .entry)) (now (words .entry)) (nodesIn (r .small .books)) (usedIn (r .small .books))) (rangesOf (now (node .exit)) (now (start .exit)) (now (end .exit)) (now (id .exit)) (now (stamp .exit)) (now (touched .exit)) (now (write .exit))) (pinsOf (now («pin_node» .entry)) (now («pin_start» .entry)) (now («pin_end» .entry)) (now («pin_count» .entry))) (now (marks .exit)) (now (bytes .entry)) (r .small .books)) (outList (now («out_node» .exit)) (now («out_start» .exit)) (now («out_end» .exit)) (now («out_write» .exit)) (now («out_bytes» .exit)) (now («out_dead» .exit))) (r .outs) ⌝ }
 {
-    let records = x.records;
-    let entries = x.entries;
-    let held = x.held;
-    let capacity = x.capacity;
-    let stamps = x.stamp;
+    let b = books::book_of(&x.books, s);
     let t = bringpart::bring_pools(
         node,
         start,
@@ -113,18 +111,19 @@ pub fn bring_in(
         pin_start,
         pin_end,
         s,
-        records[s],
-        entries[s],
-        held[s],
-        capacity[s],
+        b.records,
+        b.entries,
+        b.held,
+        b.capacity,
         sp.node,
         g,
-        stamps[s],
-        x.next,
+        b.stamp,
+        x.books[3],
         time,
         w,
     );
-    let y = settle(x, s, g.n, t);
+    let mut y = x;
+    settle(&mut y.books, s, b, g.n, t);
     Brought {
         small: y,
         outs: t.outs,

@@ -2,17 +2,18 @@
 use Prim.Native.Nat.{ℕ, _-_, _≤_, _<_}
 use mathlib.Core.Path.{_≡_, sym, ap, _∙_}
 use mathlib.Core.Bool.{Bool, true, false, not}
+use mathlib.Core.List.{List}
 use native.Mathlib.Omega.{arith}
 use lib.Dec.{leb}
 use borrow.Author.Tests.{le-leb, lt-leb}
-use Rattle.model.specs.State.{State, Books, at}
+use Rattle.model.specs.declared.Book.{Book}
+use Rattle.model.specs.State.{State, storesIn, stallsIn, bookIn, storesOf, stallsOf, bookOf}
 use Rattle.model.specs.Sound.{Sound}
 use Rattle.model.specs.SoundTest.{sound}
-use Rattle.model.specs.Calls.{Answer, refused, done, unless, NoList, storeCounter, heldCall, capacityCall, pinnedCall, availableCall, versionCall, stallsCall}
+use Rattle.model.specs.Calls.{Answer, refused, done, unless, NoList, storeCounter, stallsCall}
 use Rattle.sure.proofs.Says.{true-says}
 use Rattle.sure.proofs.Sound.{sound-says}
 use Rattle.lent.specs.declared.Small.{Small}
-use Rattle.lent.specs.Lent.{booksOf}
 use Rattle.counters.specs.Counted.{Of}
 
 -- the number by the tests of 1 and 2
@@ -29,67 +30,30 @@ value v = done v
 is-sound : (st : State) → Sound st → not (sound st) ≡ false
 is-sound st h = ap not (true-says (sound st) (sound-says st) h)
 
--- g is what is counted
-module _ (g : Books → ℕ → ℕ) (x : Small) (s : ℕ) where
-  missing : x .stores ≤ s → (st : State) → Of x st → refused 2 ≡ storeCounter (λ y k. g (y .books) k) st s .answer
+-- g is what is counted of a store's numbers
+module _ (g : Book → ℕ) (x : Small) (s : ℕ) where
+  pub missing : storesIn (x .books) ≤ s → (st : State) → Of x st → refused 2 ≡ storeCounter (λ y k. g (bookOf y k)) st s .answer
   missing l st o =
-      let b : leb (st .books .stores) s ≡ true = ap (λ (y : Books). leb (y .stores) s) (o .books) ∙ le-leb (x .stores) s l in
+      let b : leb (storesOf st) s ≡ true = ap (λ (y : List ℕ). leb (storesIn y) s) (o .books) ∙ le-leb (storesIn (x .books)) s l in
       let a = is-sound st (o .sound) in
-      sym (λ i. answered st (g (st .books) s) (chosen (a i) (b i)))
+      sym (λ i. answered st (g (bookOf st s)) (chosen (a i) (b i)))
 
-  counts : s < x .stores → (st : State) → Of x st → done (g (booksOf x) s) ≡ storeCounter (λ y k. g (y .books) k) st s .answer
-  counts l st o =
-      let b : leb (st .books .stores) s ≡ false = ap (λ (y : Books). leb (y .stores) s) (o .books) ∙ lt-leb (x .stores) s l in
+  pub counted : s < storesIn (x .books) → {k : Book} → k ≡ bookIn (x .books) s → {v : ℕ} → v ≡ g k → (st : State) → Of x st
+      → done v ≡ storeCounter (λ y j. g (bookOf y j)) st s .answer
+  counted l {k} e {v} f st o =
+      let b : leb (storesOf st) s ≡ false = ap (λ (y : List ℕ). leb (storesIn y) s) (o .books) ∙ lt-leb (storesIn (x .books)) s l in
       let a = is-sound st (o .sound) in
-      sym ((λ i. answered st (g (st .books) s) (chosen (a i) (b i))) ∙ ap (λ (y : Books). value (g y s)) (o .books))
-
-module _ (x : Small) (s : ℕ) where
-  pub held-none : x .stores ≤ s → (st : State) → Of x st → refused 2 ≡ heldCall st s .answer
-  unfolding heldCall
-  held-none = missing (λ b k. at (b .held) k) x s
-
-  pub held-is : s < x .stores → (st : State) → Of x st → done (at (x .held) s) ≡ heldCall st s .answer
-  unfolding heldCall
-  held-is = counts (λ b k. at (b .held) k) x s
-
-  pub capacity-none : x .stores ≤ s → (st : State) → Of x st → refused 2 ≡ capacityCall st s .answer
-  unfolding capacityCall
-  capacity-none = missing (λ b k. at (b .capacity) k) x s
-
-  pub capacity-is : s < x .stores → (st : State) → Of x st → done (at (x .capacity) s) ≡ capacityCall st s .answer
-  unfolding capacityCall
-  capacity-is = counts (λ b k. at (b .capacity) k) x s
-
-  pub pinned-none : x .stores ≤ s → (st : State) → Of x st → refused 2 ≡ pinnedCall st s .answer
-  unfolding pinnedCall
-  pinned-none = missing (λ b k. at (b .pinned) k) x s
-
-  pub pinned-is : s < x .stores → (st : State) → Of x st → done (at (x .pinned) s) ≡ pinnedCall st s .answer
-  unfolding pinnedCall
-  pinned-is = counts (λ b k. at (b .pinned) k) x s
-
-  pub version-none : x .stores ≤ s → (st : State) → Of x st → refused 2 ≡ versionCall st s .answer
-  unfolding versionCall
-  version-none = missing (λ b k. at (b .version) k) x s
-
-  pub version-is : s < x .stores → (st : State) → Of x st → done (at (x .version) s) ≡ versionCall st s .answer
-  unfolding versionCall
-  version-is = counts (λ b k. at (b .version) k) x s
-
-  pub available-none : x .stores ≤ s → (st : State) → Of x st → refused 2 ≡ availableCall st s .answer
-  unfolding availableCall
-  available-none = missing (λ b k. at (b .capacity) k - at (b .pinned) k) x s
-
-  pub available-is : s < x .stores → (v : ℕ) → v ≡ at (x .capacity) s - at (x .pinned) s → (st : State) → Of x st → done v ≡ availableCall st s .answer
-  unfolding availableCall
-  available-is l v e st o = ap (λ (k : ℕ). value k) e ∙ counts (λ b k. at (b .capacity) k - at (b .pinned) k) x s l st o
+      let n : g (bookOf st s) ≡ v = ap (λ (y : List ℕ). g (bookIn y s)) (o .books) ∙ ap g (sym e) ∙ sym f in
+      sym ((λ i. answered st (g (bookOf st s)) (chosen (a i) (b i))) ∙ ap (λ (j : ℕ). value j) n)
 
 -- capacity less pinned is 0 where no more is there
 pub none-left : {a b : ℕ} → a ≤ b → 0 ≡ a - b
 none-left h = omega arith
 
-pub stalls-is : (x : Small) (st : State) → Of x st → done (x .stalls) ≡ stallsCall st .answer
+pub stalls-is : (x : Small) (st : State) → Of x st → done (stallsIn (x .books)) ≡ stallsCall st .answer
 unfolding stallsCall
 stalls-is x st o =
     let a = is-sound st (o .sound) in
-    sym ((λ i. answered st (st .books .stalls) (elim (a i) as (λ z. ℕ) [ true ↦ 1 | false ↦ 0 ])) ∙ ap (λ (y : Books). value (y .stalls)) (o .books))
+    sym
+    ((λ i. answered st (stallsOf st) (elim (a i) as (λ z. ℕ) [ true ↦ 1 | false ↦ 0 ]))
+    ∙ ap (λ (y : List ℕ). value (stallsIn y)) (o .books))

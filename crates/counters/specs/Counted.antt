@@ -3,8 +3,7 @@ use mathlib.Core.Path.{_≡_}
 use Rattle.model.specs.State.{State}
 use Rattle.model.specs.Sound.{Sound}
 use Rattle.lent.specs.declared.Small.{Small}
-use Rattle.lent.specs.Lent.{booksOf}
 
 pub record Of (x : Small) (st : State) : Type 0 where
-  pub books : st .books ≡ booksOf x
+  pub books : st .books ≡ x .books
   pub sound : Sound st

@@ -1,10 +1,11 @@
+use books::put_counts;
 use grow::cut_tree;
 use insert::cut_store;
 use lent::Small;
 ghost use mathlib.Core.Path.{_≡_};
 ghost use mathlib.Core.List.{List};
 ghost use Prim.Native.Nat.{ℕ};
-ghost use Rattle.model.specs.State.{Tree};
+ghost use Rattle.model.specs.State.{Tree, storesIn};
 ghost use Rattle.model.specs.Insert.{cutStores, cut};
 ghost use Rattle.lent.specs.Lent.{rangesOf, pinsOf, stateOf};
 ghost use Rattle.answers.specs.Answers.{stateFrom};
@@ -29,10 +30,10 @@ fn cut_stores(
     k: usize,
     m: usize,
 ) -> Small
-    requires { ⌜ StoresCuttable j k m (rangesOf (now node) (now start) (now end) (now id) (now stamp) (now touched) (now write)) (pinsOf (now «pin_node») (now «pin_start») (now «pin_end») (now «pin_count»)) (now marks) x ⌝ }
-    ensures { λ r. ⌜ ((t : Tree) (bytes : List ℕ) → stateOf t (rangesOf (now (node .exit)) (now (start .exit)) (now (end .exit)) (now (id .exit)) (now (stamp .exit)) (now (touched .exit)) (now (write .exit))) (pinsOf (now («pin_node» .exit)) (now («pin_start» .exit)) (now («pin_end» .exit)) (now («pin_count» .exit))) (now (marks .exit)) bytes r ≡ cutStores j k m 0 (x .stores) (stateOf t (rangesOf (now (node .entry)) (now (start .entry)) (now (end .entry)) (now (id .entry)) (now (stamp .entry)) (now (touched .entry)) (now (write .entry))) (pinsOf (now («pin_node» .entry)) (now («pin_start» .entry)) (now («pin_end» .entry)) (now («pin_count» .entry))) (now (marks .entry)) bytes x)) ⌝ }
+    requires { ⌜ StoresCuttable j k m (rangesOf (now node) (now start) (now end) (now id) (now stamp) (now touched) (now write)) (pinsOf (now «pin_node») (now «pin_start») (now «pin_end») (now «pin_count»)) (now marks) (x .books) ⌝ }
+    ensures { λ r. ⌜ ((t : Tree) (bytes : List ℕ) → stateOf t (rangesOf (now (node .exit)) (now (start .exit)) (now (end .exit)) (now (id .exit)) (now (stamp .exit)) (now (touched .exit)) (now (write .exit))) (pinsOf (now («pin_node» .exit)) (now («pin_start» .exit)) (now («pin_end» .exit)) (now («pin_count» .exit))) (now (marks .exit)) bytes (r .books) ≡ cutStores j k m 0 (storesIn (x .books)) (stateOf t (rangesOf (now (node .entry)) (now (start .entry)) (now (end .entry)) (now (id .entry)) (now (stamp .entry)) (now (touched .entry)) (now (write .entry))) (pinsOf (now («pin_node» .entry)) (now («pin_start» .entry)) (now («pin_end» .entry)) (now («pin_count» .entry))) (now (marks .entry)) bytes (x .books))) ⌝ }
 {
-    let stores = x.stores;
+    let stores = x.books[2] as usize;
     let mut y = x;
     let mut s: usize = 0;
     while s < stores {
@@ -87,9 +88,12 @@ pub fn cut_all(
     requires { ⌜ Cuttable j k (stateFrom (now parent) (now depth) (now len) (now run) (now words) (now node) (now start) (now end) (now id) (now stamp) (now touched) (now write) (now «pin_node») (now «pin_start») (now «pin_end») (now «pin_count») (now marks) (now bytes) x) ⌝ }
     ensures { λ r. ⌜ stateFrom (now (parent .exit)) (now (depth .exit)) (now (len .exit)) (now (run .exit)) (now (words .entry)) (now (node .exit)) (now (start .exit)) (now (end .exit)) (now (id .exit)) (now (stamp .exit)) (now (touched .exit)) (now (write .exit)) (now («pin_node» .exit)) (now («pin_start» .exit)) (now («pin_end» .exit)) (now («pin_count» .exit)) (now (marks .exit)) (now (bytes .entry)) r ≡ cut j k (stateFrom (now (parent .entry)) (now (depth .entry)) (now (len .entry)) (now (run .entry)) (now (words .entry)) (now (node .entry)) (now (start .entry)) (now (end .entry)) (now (id .entry)) (now (stamp .entry)) (now (touched .entry)) (now (write .entry)) (now («pin_node» .entry)) (now («pin_start» .entry)) (now («pin_end» .entry)) (now («pin_count» .entry)) (now (marks .entry)) (now (bytes .entry)) x) ⌝ }
 {
-    let nodes = x.nodes;
+    let nodes = x.books[0] as usize;
+    let used = x.books[1] as usize;
     cut_tree(parent, depth, len, run, nodes, j, k);
-    let mut y = cut_stores(
+    let mut y = x;
+    put_counts(&mut y.books, nodes + 1, used);
+    cut_stores(
         node,
         start,
         end,
@@ -102,12 +106,9 @@ pub fn cut_all(
         pin_end,
         pin_count,
         marks,
-        x,
+        y,
         j,
         k,
         nodes,
-    );
-    y.nodes = nodes + 1;
-    y.used = x.used;
-    y
+    )
 }

@@ -67,6 +67,11 @@ fn counts_of_the_whole(w: World) {
 fn counts_of_a_store(w: World) {
     show::each(b"capacity-past", edit::with_capacity(w, 0, 1000001));
     show::each(b"last-capacity-past", edit::with_capacity(w, 2, 1000001));
+    show::each(b"policy-2", edit::with_policy(w, 0, 2));
+    show::each(
+        b"last-policy-most",
+        edit::with_policy(w, 2, 18446744073709551615),
+    );
     show::each(b"records-129", edit::with_records(w, 0, 129));
     show::each(
         b"records-most",
@@ -288,6 +293,7 @@ fn sound_ones(w: World) {
         edit::with_len(w, 6, 18446744073709551615),
     );
     show::each(b"sound-past-stores", edit::with_capacity(w, 3, 1000001));
+    show::each(b"sound-past-policies", edit::with_policy(w, 3, 2));
     show::each(b"sound-past-store-marks", edit::with_marks(w, 769, 5));
 }
 

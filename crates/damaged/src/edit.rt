@@ -1,5 +1,4 @@
 // The state with one number changed. A place past the end of its column changes nothing.
-use radix::Small;
 use trials::world::World;
 
 pub fn with_parent(w: World, i: usize, n: usize) -> World {
@@ -164,124 +163,75 @@ pub fn with_bytes(w: World, i: usize, n: u64) -> World {
     v
 }
 
-fn with_small(w: World, x: Small) -> World {
+// The small number at place i: five of the whole, then eight of each store.
+fn with_number(w: World, i: usize, n: u64) -> World {
+    if 69 <= i {
+        return w;
+    }
+    let mut x = w.small;
+    x.books[i] = n;
     let mut v = w;
     v.small = x;
     v
 }
 
+// Number k of store s's own.
+fn with_own(w: World, s: usize, k: usize, n: u64) -> World {
+    if 8 <= s {
+        return w;
+    }
+    if 8 <= k {
+        return w;
+    }
+    with_number(w, 5 + 8 * s + k, n)
+}
+
 pub fn with_nodes(w: World, n: usize) -> World {
-    let mut x = w.small;
-    x.nodes = n;
-    with_small(w, x)
+    with_number(w, 0, n as u64)
 }
 
 pub fn with_used(w: World, n: usize) -> World {
-    let mut x = w.small;
-    x.used = n;
-    with_small(w, x)
+    with_number(w, 1, n as u64)
 }
 
 pub fn with_stores(w: World, n: usize) -> World {
-    let mut x = w.small;
-    x.stores = n;
-    with_small(w, x)
+    with_number(w, 2, n as u64)
 }
 
 pub fn with_next(w: World, n: u64) -> World {
-    let mut x = w.small;
-    x.next = n;
-    with_small(w, x)
+    with_number(w, 3, n)
 }
 
 pub fn with_stalls(w: World, n: u64) -> World {
-    let mut x = w.small;
-    x.stalls = n;
-    with_small(w, x)
-}
-
-fn put_capacity(x: Small, s: usize, n: u64) -> Small {
-    if 8 <= s {
-        return x;
-    }
-    let mut y = x;
-    y.capacity[s] = n;
-    y
+    with_number(w, 4, n)
 }
 
 pub fn with_capacity(w: World, s: usize, n: u64) -> World {
-    let x = w.small;
-    with_small(w, put_capacity(x, s, n))
+    with_own(w, s, 0, n)
 }
 
-fn put_records(x: Small, s: usize, n: usize) -> Small {
-    if 8 <= s {
-        return x;
-    }
-    let mut y = x;
-    y.records[s] = n;
-    y
+pub fn with_policy(w: World, s: usize, n: u64) -> World {
+    with_own(w, s, 1, n)
 }
 
 pub fn with_records(w: World, s: usize, n: usize) -> World {
-    let x = w.small;
-    with_small(w, put_records(x, s, n))
-}
-
-fn put_held(x: Small, s: usize, n: u64) -> Small {
-    if 8 <= s {
-        return x;
-    }
-    let mut y = x;
-    y.held[s] = n;
-    y
+    with_own(w, s, 2, n as u64)
 }
 
 pub fn with_held(w: World, s: usize, n: u64) -> World {
-    let x = w.small;
-    with_small(w, put_held(x, s, n))
-}
-
-fn put_last_stamp(x: Small, s: usize, n: u64) -> Small {
-    if 8 <= s {
-        return x;
-    }
-    let mut y = x;
-    y.stamp[s] = n;
-    y
+    with_own(w, s, 3, n)
 }
 
 pub fn with_last_stamp(w: World, s: usize, n: u64) -> World {
-    let x = w.small;
-    with_small(w, put_last_stamp(x, s, n))
-}
-
-fn put_entries(x: Small, s: usize, n: usize) -> Small {
-    if 8 <= s {
-        return x;
-    }
-    let mut y = x;
-    y.entries[s] = n;
-    y
+    with_own(w, s, 4, n)
 }
 
 pub fn with_entries(w: World, s: usize, n: usize) -> World {
-    let x = w.small;
-    with_small(w, put_entries(x, s, n))
-}
-
-fn put_pinned(x: Small, s: usize, n: u64) -> Small {
-    if 8 <= s {
-        return x;
-    }
-    let mut y = x;
-    y.pinned[s] = n;
-    y
+    with_own(w, s, 6, n as u64)
 }
 
 pub fn with_pinned(w: World, s: usize, n: u64) -> World {
-    let x = w.small;
-    with_small(w, put_pinned(x, s, n))
+    with_own(w, s, 7, n)
 }
 
 pub fn with_node_at(

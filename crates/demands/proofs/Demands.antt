@@ -7,7 +7,7 @@ use mathlib.Core.List.{List, [], _∷_}
 use lib.ListN.{length}
 use lib.Ieee.{Float}
 use Rattle.model.specs.declared.Span.{Span}
-use Rattle.model.specs.State.{State, at}
+use Rattle.model.specs.State.{State, at, storesOf}
 use Rattle.model.specs.Sound.{Sound}
 use Rattle.model.specs.Tree.{blocks}
 use Rattle.model.specs.Tree as Trees
@@ -27,11 +27,11 @@ use Rattle.answers.specs.declared.Resolved.{Resolved}
 use Rattle.answers.specs.declared.Looked.{Looked}
 use Rattle.answers.specs.Answers.{outcome, plainOf, countOf, resolvedOf, lookedOf}
 use Rattle.outcomes.specs.Settled.{World, Left, stateIn, Allows}
-use Rattle.history.specs.History.{Call, setUp, resolve, insert, storeInsert, storeUsed, storeRemove, storeExpire, pinSource, unpinSource, lookup, storeHeld, storeCapacity, storePinned, storeAvailable, sourceVersion, pinStalls, after, since, run, nothing, Exactly}
+use Rattle.history.specs.History.{Call, setUp, resolve, insert, storeInsert, storeUsed, storeRemove, storeExpire, pinSource, unpinSource, lookup, storeHeld, storeCapacity, storePinned, storeAvailable, sourceVersion, pinStalls, after, run, Steps, runAll, sinceAll, nothing, Exactly}
 use Rattle.history.proofs.History.{history}
 use Rattle.room.specs.Room.{ButCapacity, Alike, blocksIn, MoreRoom}
 use Rattle.room.proofs.Room.{more-room}
-use Rattle.demands.specs.Calls.{Leaves, May, Ran, rest, call, RoomForReading, covered}
+use Rattle.demands.specs.Calls.{Leaves, May, Ran, rest, call, Made, end, made, RoomForReading, covered}
 
 -- ---- history (demand 2)
 
@@ -62,20 +62,25 @@ unfolding run
 ran-is rest = refl
 ran-is {st} (call {st₁ = st₁} {cs = cs} c k h) = ap (λ z. run z cs) (may-is c st st₁ k) ∙ ran-is h
 
+made-is : {st st′ : State} {cs : List Steps} → Made st cs st′ → runAll st cs ≡ st′
+unfolding runAll
+made-is end = refl
+made-is (made {cs = cs} c k h) = ap (λ z. runAll z cs) (ran-is k) ∙ made-is h
+
 -- "After any calls from set-up, each store's ranges are sorted and disjoint and hold exactly the blocks brought in and not since given out or removed; held
 -- is their number"
 pub history-of-calls : (pools : State) (table capacity : List ℕ) (refreshes : List Bool) (x : Left NoList Plain)
     → Allows plainOf (Calls.setUp pools table capacity refreshes) x
     → plainOf (x .answer) ≡ done tt
-    → (cs : List Call) (st : State)
-    → Ran (stateIn (x .world)) cs st
+    → (cs : List Steps) (st : State)
+    → Made (stateIn (x .world)) cs st
     → (q : ℕ)
-    → q < st .books .stores
-    → Exactly st (since nothing (stateIn (x .world)) cs) q
+    → q < storesOf st
+    → Exactly st (sinceAll nothing (stateIn (x .world)) cs) q
 history-of-calls pools table capacity refreshes x k e cs st h =
     let s : Calls.setUp pools table capacity refreshes .state ≡ stateIn (x .world) = sym (ap (λ z. z .state) k) in
-    subst (λ z. (q : ℕ) → q < z .books .stores → Exactly z (since nothing (stateIn (x .world)) cs) q) (ran-is h)
-    (subst (λ z. (q : ℕ) → q < run z cs .books .stores → Exactly (run z cs) (since nothing z cs) q) s
+    subst (λ z. (q : ℕ) → q < storesOf z → Exactly z (sinceAll nothing (stateIn (x .world)) cs) q) (made-is h)
+    (subst (λ z. (q : ℕ) → q < storesOf (runAll z cs) → Exactly (runAll z cs) (sinceAll nothing z cs) q) s
     (history pools table capacity refreshes (sym (ap (λ z. z .answer) k) ∙ e) cs))
 
 -- ---- the longest prefix (demand 2)
@@ -98,7 +103,7 @@ longest-prefix w hs x k p e c = resolved-longest (stateIn w) (stateIn (x .world)
 -- ---- more room (demand 3)
 
 -- "Take two equal sound states but for one store's capacity, C in one and D in the other, 0 < C <= D, and make the same insertion into that store"
-pub more-room-of-calls : (a b : State) (s C D : ℕ) → Sound a → Sound b → ButCapacity s C D a b → s < a .books .stores → 0 < C → C ≤ D
+pub more-room-of-calls : (a b : State) (s C D : ℕ) → Sound a → Sound b → ButCapacity s C D a b → s < storesOf a → 0 < C → C ≤ D
     → (l : OutList) (sp : Span) (time : Float) (write : ℕ) (x y : Left OutList Count)
     → Allows countOf (Calls.storeInsert a l s sp time write) x
     → Allows countOf (Calls.storeInsert b l s sp time write) y

@@ -14,7 +14,7 @@ use Rattle.answers.specs.declared.Count.{Count}
 use Rattle.answers.specs.declared.Looked.{Looked}
 use Rattle.answers.specs.Answers.{plainOf, countOf, resolvedOf, insertedOf, lookedOf}
 use Rattle.outcomes.specs.Settled.{Left, stateIn, Allows}
-use Rattle.history.specs.History.{Call, setUp, resolve, insert, storeInsert, storeUsed, storeRemove, storeExpire, pinSource, unpinSource, lookup, storeHeld, storeCapacity, storePinned, storeAvailable, sourceVersion, pinStalls}
+use Rattle.history.specs.History.{Call, setUp, resolve, insert, storeInsert, storeUsed, storeRemove, storeExpire, pinSource, unpinSource, lookup, storeHeld, storeCapacity, storePinned, storeAvailable, sourceVersion, pinStalls, Steps}
 
 -- a call whose outcome by the definitions is o may leave the state st
 pub record Leaves {L A B : Type 0} (f : B → Answer A) (o : Outcome L A) (st : State) : Type 0 where
@@ -45,6 +45,11 @@ May pinStalls st = Leaves countOf (Calls.stallsCall st)
 pub data Ran : State → List Call → State → Type 0 where
   rest : {st : State} → Ran st [] st
   call : {st st₁ st₂ : State} {cs : List Call} (c : Call) → May c st st₁ → Ran st₁ cs st₂ → Ran st (c ∷ cs) st₂
+
+-- calls of any number of steps each
+pub data Made : State → List Steps → State → Type 0 where
+  end : {st : State} → Made st [] st
+  made : {st st₁ st₂ : State} {cs : List Steps} (c : Steps) → Ran st c st₁ → Made st₁ cs st₂ → Made st (c ∷ cs) st₂
 
 -- "More room never shortens a reading", of what the calls may leave: x under C and y under D after the same insertion into store s; u and v are what any
 -- lookup may leave then

@@ -2,6 +2,7 @@
 use answers::Resolved;
 use lent::Small;
 ghost use mathlib.Core.Path.{_≡_};
+ghost use Rattle.model.specs.State.{nodesIn, usedIn};
 ghost use Rattle.model.specs.Calls.{done, Path};
 ghost use Rattle.model.specs.Chained.{Chained, LongestStored};
 ghost use Rattle.lent.specs.Lent.{treeOf};
@@ -33,7 +34,7 @@ pub fn resolve_longest(
     x: Small,
     hashes: &[u64],
 ) -> Resolved
-    ensures { λ r. ⌜ ((p : Path) → resolvedOf r ≡ done p → Chained (treeOf (now (parent .entry)) (now (depth .entry)) (now (len .entry)) (now (run .entry)) (now (words .entry)) (x .nodes) (x .used)) (now (hashes .entry)) → LongestStored (treeOf (now (parent .entry)) (now (depth .entry)) (now (len .entry)) (now (run .entry)) (now (words .entry)) (x .nodes) (x .used)) (now (hashes .entry)) (covered p)) ⌝ }
+    ensures { λ r. ⌜ ((p : Path) → resolvedOf r ≡ done p → Chained (treeOf (now (parent .entry)) (now (depth .entry)) (now (len .entry)) (now (run .entry)) (now (words .entry)) (nodesIn (x .books)) (usedIn (x .books))) (now (hashes .entry)) → LongestStored (treeOf (now (parent .entry)) (now (depth .entry)) (now (len .entry)) (now (run .entry)) (now (words .entry)) (nodesIn (x .books)) (usedIn (x .books))) (now (hashes .entry)) (covered p)) ⌝ }
 {
     radix::resolve(
         parent,

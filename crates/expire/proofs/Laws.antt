@@ -180,7 +180,7 @@ expired-depth t table now seconds rs ms = by-depth t table now seconds (length r
 pub record Expires (y : Store) (outs : List Out) (w : Trimmed) : Type 0 where
   pub ranges : y .ranges ≡ w .ranges
   pub marks : y .marks ≡ w .marks
-  pub held : y .held ≡ total (w .ranges)
+  pub held : y .book .held ≡ total (w .ranges)
   pub given : outs ≡ w .outs
 
 pub expire-is : (t : Tree) (table : List ℕ) (x : Store) (now seconds : Float)

@@ -26,8 +26,7 @@ use Rattle.answers.specs.declared.Reading.the-variants as L
 use Rattle.answers.specs.declared.Looked.{Looked}
 use Rattle.answers.specs.Answers.{outcome, plainOf, countOf, resolvedOf, insertedOf, readingOf, lookedOf}
 use Rattle.looking.specs.Looking.{LookedUp}
-use Rattle.exported.specs.Books.{eight}
-use Rattle.exported.specs.Told.{toldPlain, toldCount, toldPath, plainNumber, countNumber, countIn, toldInserted, pathNumber, pathIn, insertedNumber, insertedIn, toldLooked, readingNumber, readingIn, lookedNumber, lookedIn}
+use Rattle.exported.specs.Told.{eight, toldPlain, toldCount, toldPath, plainNumber, countNumber, countIn, toldInserted, pathNumber, pathIn, insertedNumber, insertedIn, toldLooked, readingNumber, readingIn, lookedNumber, lookedIn}
 use Rattle.exported.proofs.ReadBack.{eight-same}
 
 -- ---- no call refuses with 0

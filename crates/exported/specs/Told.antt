@@ -1,12 +1,11 @@
 -- An answer as a number and a lent list: 0 and the values, or the refusal's number. Assumes nothing.
-use Prim.Native.Nat.{ℕ, zero, suc}
+use Prim.Native.Nat.{ℕ, zero, suc, _+_}
 use mathlib.Core.List.{List, [], _∷_, _++_}
 use lib.ListN.{set}
 use lib.Seq.{sets}
 use Rattle.model.specs.State.{at}
-use Rattle.model.specs.SetUp.{zeros}
 use Rattle.model.specs.Insert.{Cut as CutAt}
-use Rattle.model.specs.Calls.{Answer, refused, done, NoValue, Path as PathAt, InsertAnswer}
+use Rattle.model.specs.Calls.{Answer, refused, done, NoValue, Path as PathAt, InsertAnswer, zeros}
 use Rattle.answers.specs.declared.Plain.{Plain}
 use Rattle.answers.specs.declared.Plain.the-variants as P
 use Rattle.answers.specs.declared.Count.{Count}
@@ -18,7 +17,13 @@ use Rattle.answers.specs.declared.Inserted.the-variants as I
 use Rattle.answers.specs.declared.Reading.{Reading}
 use Rattle.answers.specs.declared.Reading.the-variants as L
 use Rattle.answers.specs.declared.Looked.{Looked}
-use Rattle.exported.specs.Books.{eightAt, eight}
+
+abbrev pub eightAt : ℕ → List ℕ → List ℕ
+eightAt a l = at l a ∷ at l (a + 1) ∷ at l (a + 2) ∷ at l (a + 3) ∷ at l (a + 4) ∷ at l (a + 5) ∷ at l (a + 6) ∷ at l (a + 7) ∷ []
+
+-- the first eight of a tier's sums
+abbrev pub eight : List ℕ → List ℕ
+eight l = eightAt 0 l
 
 -- ---- what a number and a list tell
 

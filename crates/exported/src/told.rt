@@ -8,8 +8,7 @@ use answers::Resolved;
 ghost use mathlib.Core.Path.{_≡_};
 ghost use lib.ListN.{length};
 ghost use lib.Seq.{sets};
-ghost use Rattle.exported.specs.Books.{eight};
-ghost use Rattle.exported.specs.Told.{plainNumber, countNumber, countIn, pathNumber, pathIn, insertedNumber, insertedIn, lookedNumber, lookedIn};
+ghost use Rattle.exported.specs.Told.{eight, plainNumber, countNumber, countIn, pathNumber, pathIn, insertedNumber, insertedIn, lookedNumber, lookedIn};
 
 pub fn plain(a: Plain) -> u8
     ensures { λ r. ⌜ r ≡ plainNumber a ⌝ }

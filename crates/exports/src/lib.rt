@@ -8,7 +8,7 @@ ghost use Prim.Native.Nat.{_≤_};
 ghost use lib.ListN.{length};
 ghost use Rattle.model.specs.Words.{Says};
 ghost use Rattle.model.specs.Sizes.{outPlaces};
-ghost use Rattle.model.specs.State.{State};
+ghost use Rattle.model.specs.State.{State, storesIn};
 ghost use Rattle.model.specs.Sound.{Sound};
 ghost use Rattle.model.specs.Refusals.{PathFits, OutFits, TierFits};
 ghost use Rattle.model.specs.Calls.{setUp, resolveCall, insert as insertCall, storeInsert, storeUsed, storeRemove, storeExpire, pinSource, unpinSource};
@@ -53,7 +53,7 @@ pub extern "C" fn scorebeetle_set_up(
     ensures { λ r. ⌜ outcome (stateFrom (now (parent .exit)) (now (depth .exit)) (now (len .exit)) (now (run .exit)) (now (words .entry)) (now (node .entry)) (now (start .entry)) (now (end .entry)) (now (id .entry)) (now (stamp .entry)) (now (touched .entry)) (now (write .entry)) (now («pin_node» .entry)) (now («pin_start» .entry)) (now («pin_end» .entry)) (now («pin_count» .entry)) (now (marks .exit)) (now (bytes .exit)) (smallFrom (now (books .exit)))) tt (toldPlain r) ≡ setUp (stateFrom (now (parent .entry)) (now (depth .entry)) (now (len .entry)) (now (run .entry)) (now (words .entry)) (now (node .entry)) (now (start .entry)) (now (end .entry)) (now (id .entry)) (now (stamp .entry)) (now (touched .entry)) (now (write .entry)) (now («pin_node» .entry)) (now («pin_start» .entry)) (now («pin_end» .entry)) (now («pin_count» .entry)) (now (marks .entry)) (now (bytes .entry)) (smallFrom (now (books .entry)))) (now (table .entry)) (now (capacity .entry)) (now (refreshes .entry)) ⌝ }
 {
     let x = exported::books::small_from(books);
-    let r = setup::set_up(
+    let r = known::set_up(
         parent,
         depth,
         len,
@@ -114,7 +114,7 @@ pub extern "C" fn scorebeetle_resolve(
     ensures { λ r. ⌜ outcome (stateFrom (now (parent .entry)) (now (depth .entry)) (now (len .entry)) (now (run .entry)) (now (words .entry)) (now (node .entry)) (now (start .entry)) (now (end .entry)) (now (id .entry)) (now (stamp .entry)) (now (touched .entry)) (now (write .entry)) (now («pin_node» .entry)) (now («pin_start» .entry)) (now («pin_end» .entry)) (now («pin_count» .entry)) (now (marks .entry)) (now (bytes .entry)) (smallFrom (now (books .entry)))) (pathListOf (now («path_node» .exit)) (now («path_len» .exit))) (toldPath r (now (answer .exit))) ≡ resolveCall (stateFrom (now (parent .entry)) (now (depth .entry)) (now (len .entry)) (now (run .entry)) (now (words .entry)) (now (node .entry)) (now (start .entry)) (now (end .entry)) (now (id .entry)) (now (stamp .entry)) (now (touched .entry)) (now (write .entry)) (now («pin_node» .entry)) (now («pin_start» .entry)) (now («pin_end» .entry)) (now («pin_count» .entry)) (now (marks .entry)) (now (bytes .entry)) (smallFrom (now (books .entry)))) (pathListOf (now («path_node» .entry)) (now («path_len» .entry))) (now (hashes .entry)) ⌝ }
 {
     let x = exported::books::small_from(books);
-    let r = resolving::resolve(
+    let r = known::resolve(
         parent,
         depth,
         len,
@@ -172,7 +172,7 @@ pub extern "C" fn scorebeetle_insert(
     ensures { λ r. ⌜ outcome (stateFrom (now (parent .exit)) (now (depth .exit)) (now (len .exit)) (now (run .exit)) (now (words .exit)) (now (node .exit)) (now (start .exit)) (now (end .exit)) (now (id .exit)) (now (stamp .exit)) (now (touched .exit)) (now (write .exit)) (now («pin_node» .exit)) (now («pin_start» .exit)) (now («pin_end» .exit)) (now («pin_count» .exit)) (now (marks .exit)) (now (bytes .entry)) (smallFrom (now (books .exit)))) (pathListOf (now («path_node» .exit)) (now («path_len» .exit))) (toldInserted r (now (answer .exit))) ≡ insertCall (stateFrom (now (parent .entry)) (now (depth .entry)) (now (len .entry)) (now (run .entry)) (now (words .entry)) (now (node .entry)) (now (start .entry)) (now (end .entry)) (now (id .entry)) (now (stamp .entry)) (now (touched .entry)) (now (write .entry)) (now («pin_node» .entry)) (now («pin_start» .entry)) (now («pin_end» .entry)) (now («pin_count» .entry)) (now (marks .entry)) (now (bytes .entry)) (smallFrom (now (books .entry)))) (pathListOf (now («path_node» .entry)) (now («path_len» .entry))) (now (hashes .entry)) ⌝ }
 {
     let x = exported::books::small_from(books);
-    let r = inserting::insert(
+    let r = known::insert(
         parent,
         depth,
         len,
@@ -247,7 +247,7 @@ pub extern "C" fn scorebeetle_store_insert(
         start: from,
         end: upto,
     };
-    let r = storeinsert::store_insert(
+    let r = known::store_insert(
         parent,
         depth,
         len,
@@ -389,7 +389,7 @@ pub extern "C" fn scorebeetle_store_remove(
         start: from,
         end: upto,
     };
-    let r = storeremove::store_remove(
+    let r = known::store_remove(
         parent,
         depth,
         len,
@@ -456,7 +456,7 @@ pub extern "C" fn scorebeetle_store_expire(
     ensures { λ r. ⌜ outcome (stateFrom (now (parent .entry)) (now (depth .entry)) (now (len .entry)) (now (run .entry)) (now (words .entry)) (now (node .exit)) (now (start .exit)) (now (end .exit)) (now (id .exit)) (now (stamp .exit)) (now (touched .exit)) (now (write .exit)) (now («pin_node» .entry)) (now («pin_start» .entry)) (now («pin_end» .entry)) (now («pin_count» .entry)) (now (marks .exit)) (now (bytes .entry)) (smallFrom (now (books .exit)))) (outList (now («out_node» .exit)) (now («out_start» .exit)) (now («out_end» .exit)) (now («out_write» .exit)) (now («out_bytes» .exit)) (now («out_dead» .exit))) (toldCount r (now (answer .exit))) ≡ storeExpire (stateFrom (now (parent .entry)) (now (depth .entry)) (now (len .entry)) (now (run .entry)) (now (words .entry)) (now (node .entry)) (now (start .entry)) (now (end .entry)) (now (id .entry)) (now (stamp .entry)) (now (touched .entry)) (now (write .entry)) (now («pin_node» .entry)) (now («pin_start» .entry)) (now («pin_end» .entry)) (now («pin_count» .entry)) (now (marks .entry)) (now (bytes .entry)) (smallFrom (now (books .entry)))) (outList (now («out_node» .entry)) (now («out_start» .entry)) (now («out_end» .entry)) (now («out_write» .entry)) (now («out_bytes» .entry)) (now («out_dead» .entry))) s time seconds ⌝ }
 {
     let x = exported::books::small_from(books);
-    let r = storeexpire::store_expire(
+    let r = known::store_expire(
         parent,
         depth,
         len,
@@ -528,7 +528,7 @@ pub extern "C" fn scorebeetle_pin_source(
         start: from,
         end: upto,
     };
-    let r = pinning::pin_source(
+    let r = known::pin_source(
         parent,
         depth,
         len,
@@ -593,7 +593,7 @@ pub extern "C" fn scorebeetle_unpin_source(
         start: from,
         end: upto,
     };
-    let r = pinning::unpin_source(
+    let r = known::unpin_source(
         parent,
         depth,
         len,
@@ -658,7 +658,7 @@ pub extern "C" fn scorebeetle_lookup(
     ensures { λ r. ⌜ LookedUp (stateFrom (now (parent .entry)) (now (depth .entry)) (now (len .entry)) (now (run .entry)) (now (words .entry)) (now (node .entry)) (now (start .entry)) (now (end .entry)) (now (id .entry)) (now (stamp .entry)) (now (touched .entry)) (now (write .entry)) (now («pin_node» .entry)) (now («pin_start» .entry)) (now («pin_end» .entry)) (now («pin_count» .entry)) (now (marks .entry)) (now (bytes .entry)) (smallFrom (now (books .entry)))) (listsOf (pathListOf (now («path_node» .entry)) (now («path_len» .entry))) (tierListOf (now («span_tier» .entry)) (now («span_node» .entry)) (now («span_start» .entry)) (now («span_end» .entry)))) (now (tiers .entry)) (now (hashes .entry)) (listsOf (pathListOf (now («path_node» .exit)) (now («path_len» .exit))) (tierListOf (now («span_tier» .exit)) (now («span_node» .exit)) (now («span_start» .exit)) (now («span_end» .exit)))) (toldLooked r (now (answer .exit))) ⌝ }
 {
     let x = exported::books::small_from(books);
-    let r = looking::lookup(
+    let r = known::lookup(
         parent,
         depth,
         len,
@@ -692,16 +692,16 @@ pub extern "C" fn scorebeetle_lookup(
 
 // The counter of a number.
 fn counter_of(x: Small, which: u8, s: usize) -> Count
-    requires { ⌜ x .stores ≤ 8 ⌝ }
+    requires { ⌜ storesIn (x .books) ≤ 8 ⌝ }
     ensures { λ r. ⌜ ((st : State) → Of x st → countOf r ≡ counterCall which st s .answer) ⌝ }
 {
     match which {
-        0 => counters::store_held_blocks(x, s),
-        1 => counters::store_capacity_blocks(x, s),
-        2 => counters::store_pinned_blocks(x, s),
-        3 => counters::store_available_for_stage(x, s),
-        4 => counters::source_version(x, s),
-        _ => counters::pin_stalls(x),
+        0 => known::store_held_blocks(x, s),
+        1 => known::store_capacity_blocks(x, s),
+        2 => known::store_pinned_blocks(x, s),
+        3 => known::store_available_for_stage(x, s),
+        4 => known::source_version(x, s),
+        _ => known::pin_stalls(x),
     }
 }
 
@@ -713,7 +713,7 @@ pub extern "C" fn scorebeetle_counter(
     which: u8,
     s: usize,
 ) -> u8
-    requires { ⌜ (smallFrom (now books) .stores ≤ 8) × (length (now answer) ≡ 19) ⌝ }
+    requires { ⌜ (storesIn (now books) ≤ 8) × (length (now answer) ≡ 19) ⌝ }
     ensures { λ r. ⌜ ((st : State) → Of (smallFrom (now (books .entry))) st → toldCount r (now (answer .exit)) ≡ counterCall which st s .answer) ⌝ }
 {
     let x = exported::books::small_from(books);
@@ -747,7 +747,7 @@ pub extern "C" fn scorebeetle_sound_state(
     ensures { λ r. ⌜ Says r (Sound (stateFrom (now (parent .entry)) (now (depth .entry)) (now (len .entry)) (now (run .entry)) (now (words .entry)) (now (node .entry)) (now (start .entry)) (now (end .entry)) (now (id .entry)) (now (stamp .entry)) (now (touched .entry)) (now (write .entry)) (now («pin_node» .entry)) (now («pin_start» .entry)) (now («pin_end» .entry)) (now («pin_count» .entry)) (now (marks .entry)) (now (bytes .entry)) (smallFrom (now (books .entry))))) ⌝ }
 {
     let x = exported::books::small_from(books);
-    sound::sound_state(
+    known::sound_state(
         parent,
         depth,
         len,

@@ -9,61 +9,34 @@ use native.Mathlib.Decide.{ℕ-discrete}
 use lib.ListN.{length}
 use Rattle.model.specs.Words.{Each}
 use Rattle.model.specs.Sizes.{maxNodes, maxStamp, storeRecords, storePins}
-use Rattle.model.specs.State.{Tree, State, Range, at}
+use Rattle.model.specs.State.{Tree, State, Range, at, storesOf, nextIdOf, stallsOf, recordsOf, entriesOf}
 use Rattle.model.specs.Store.{Store, storeOf, withRanges, withPins, withNext}
 use Rattle.model.specs.Insert.{nextNode, cutTree, heads, tails, cutStore, cutStoreIn, cutStores, rangesAcross, pinsAcross, withTree, cut}
-use Rattle.laid.proofs.Store.{RangesFit, PinsFit, rangesFrom, pinsFrom, records-length, entries-length}
+use Rattle.laid.proofs.Store.{records-length, entries-length}
+use Rattle.kept.specs.Facts.{All}
 use Rattle.kept.specs.StoreSound.{TreeSound, StoreSound, Parts}
 use Rattle.keptcut.proofs.CutTree.{cutTree-sound}
-use Rattle.keptcut.proofs.CutStore.{cutStore-ids, cutStore-length, cutStore-pins, cutStore-sound}
+use Rattle.keptcut.proofs.CutStore.{cut-last, below-nodes, cutStore-ids, cutStore-length, cutStore-pins, cutStore-sound}
 use Rattle.keptstate.proofs.Laid.{Laid, laid-next, laid-both}
 use Rattle.keptstate.proofs.Changed.{midway-sizes}
-use Rattle.keptstate.proofs.Cut.{Room, StoreCut, needs, sumTo, Cutting, first-turn, cutIn-is, next-turn, inUse, fits}
+use Rattle.keptstate.proofs.Cut.{Room, StoreCut, needs, sumTo, Cutting, first-turn, cutIn-is, laid, next-turn, inUse}
 
 -- the ranges of store q are those it had, cut; new ids begin somewhere
 pub record WasCut (j k m : ℕ) (st₀ : State) (q : ℕ) (st : State) : Type 0 where
   pub next : ℕ
   pub ranges : storeOf st q .ranges ≡ heads j k (storeOf st₀ q .ranges) ++ tails j k m next (storeOf st₀ q .ranges)
 
-sides : (j k m next : ℕ) (x : Store) → pinsFrom (cutStore j k m next x) (rangesFrom (cutStore j k m next x) x) ≡ cutStore j k m next x
-unfolding cutStore
-sides j k m next x = refl
-
-cut-ranges : (j k m next : ℕ) (x : Store) → cutStore j k m next x .ranges ≡ heads j k (x .ranges) ++ tails j k m next (x .ranges)
-unfolding cutStore
-cut-ranges j k m next x = refl
-
 module _ (j k m : ℕ) (st₀ : State) (u : Tree)
     (kept : (next : ℕ) (x : Store) → 1 ≤ next → StoreSound (st₀ .tree) next x → Room j k x → StoreCut j k m u next x)
-    (room : (q : ℕ) → q < st₀ .books .stores → Room j k (storeOf st₀ q))
-    (last : st₀ .books .nextId + sumTo (needs j k st₀) (st₀ .books .stores) ≤ maxStamp) where
-  module _ (s : ℕ) (st : State) (h : Cutting j k st₀ u s st) (less : s < st₀ .books .stores) where
-    has : s < st .books .stores
-    has = inUse j k m st₀ u kept room last s st h less
+    (room : (q : ℕ) → q < storesOf st₀ → Room j k (storeOf st₀ q))
+    (last : nextIdOf st₀ + sumTo (needs j k st₀) (storesOf st₀) ≤ maxStamp) (new : m ≡ st₀ .tree .nodes) where
+  module _ (s : ℕ) (st : State) (h : Cutting j k st₀ u s st) (less : s < storesOf st₀) where
+    here : Laid s (cutStore j k m (nextIdOf st) (storeOf st s)) st (cutStoreIn j k m s st)
+    here = subst (Laid s (cutStore j k m (nextIdOf st) (storeOf st s)) st) (cutIn-is j k m s st) (laid j k m st₀ u kept room last s st h less)
 
-    room-here : Room j k (storeOf st s)
-    room-here = fits j k m st₀ u kept room last s st h less
-
-    here : StoreCut j k m u (st .books .nextId) (storeOf st s)
-    here = kept (st .books .nextId) (storeOf st s) (h .way .frame .firstId) (h .way .from s (le-refl s) has) room-here
-
-    laid : Laid s (cutStore j k m (st .books .nextId) (storeOf st s)) st (cutStoreIn j k m s st)
-    unfolding cutStoreIn
-    laid =
-        let x = storeOf st s in
-        let y = cutStore j k m (st .books .nextId) x in
-        let fit : RangesFit st s (needs j k st s) y = record {
-          ranges = omega (arith, here .few, records-length st s);
-          room = omega (arith, room-here .records, records-length st s);
-          marks = here .sound .marks .long;
-        } in
-        let fitPins : PinsFit st s (pinsAcross j k (x .pins)) y = record {
-          pins = omega (arith, here .fewPins, entries-length st s);
-          room = omega (arith, room-here .entries, entries-length st s);
-        } in
-        laid-next (st .books .nextId + needs j k st s) (st .books .stalls)
-        (laid-both st s (needs j k st s) y (midway-sizes (st₀ .tree) s st (h .way)) has (pinsAcross j k (x .pins))
-        (sides j k m (st .books .nextId) x) fit fitPins)
+    -- the store's ranges are of nodes below the new one
+    under : All (λ r. r .node < st₀ .tree .nodes) (storeOf st s .ranges)
+    under = below-nodes (st₀ .tree) (storeOf st s .ranges) (h .way .from s (le-refl s) (inUse j k m st₀ u kept room last s st h less) .ranges .inside)
 
     -- the stores below s were cut, and store s is now
     one-more : ((q : ℕ) → q < s → WasCut j k m st₀ q st) → (q : ℕ) → q < suc s → WasCut j k m st₀ q (cutStoreIn j k m s st)
@@ -73,18 +46,18 @@ module _ (j k m : ℕ) (st₀ : State) (u : Tree)
         go (yes e) =
             rw e
             (record {
-              next = st .books .nextId;
+              next = nextIdOf st;
               ranges =
-                  ap (λ x. x .ranges) (laid .own)
-                  ∙ (cut-ranges j k m (st .books .nextId) (storeOf st s)
-                  ∙ ap (λ x. heads j k (x .ranges) ++ tails j k m (st .books .nextId) (x .ranges)) (h .rest s (le-refl s) less));
+                  ap (λ x. x .ranges) (here .own)
+                  ∙ (ap (λ (x : Store). x .ranges) (cut-last j k m (nextIdOf st) (storeOf st s) (rw new under))
+                  ∙ ap (λ x. heads j k (x .ranges) ++ tails j k m (nextIdOf st) (x .ranges)) (h .rest s (le-refl s) less));
             })
         go (no e) =
             let b = before q (omega arith) in
-            record { next = b .next; ranges = ap (λ x. x .ranges) (laid .other q e (omega (arith, h .stores))) ∙ b .ranges }
+            record { next = b .next; ranges = ap (λ x. x .ranges) (here .other q e (omega (arith, h .stores))) ∙ b .ranges }
 
-  turns : (n s : ℕ) (st : State) → Cutting j k st₀ u s st → s + n ≡ st₀ .books .stores → ((q : ℕ) → q < s → WasCut j k m st₀ q st)
-      → (q : ℕ) → q < st₀ .books .stores → WasCut j k m st₀ q (cutStores j k m s n st)
+  turns : (n s : ℕ) (st : State) → Cutting j k st₀ u s st → s + n ≡ storesOf st₀ → ((q : ℕ) → q < s → WasCut j k m st₀ q st)
+      → (q : ℕ) → q < storesOf st₀ → WasCut j k m st₀ q (cutStores j k m s n st)
   unfolding cutStores
   turns zero s st h e before q below = before q (omega arith)
   turns (suc n) s st h e before q below =
@@ -94,13 +67,13 @@ module _ (j k m : ℕ) (st₀ : State) (u : Tree)
 
 -- the cut of the whole state
 pub stores-cut : (j k : ℕ) (st : State) → Parts st → 1 ≤ j → j < st .tree .nodes → 0 < k → k < at (st .tree .len) j → st .tree .nodes < maxNodes
-    → Each 0 (st .books .stores) (λ s. at (st .books .records) s + needs j k st s ≤ storeRecords)
-    → Each 0 (st .books .stores) (λ s. at (st .books .entries) s + pinsAcross j k (storeOf st s .pins) ≤ storePins)
-    → st .books .nextId + sumTo (needs j k st) (st .books .stores) ≤ maxStamp
-    → (q : ℕ) → q < st .books .stores → WasCut j k (nextNode (st .tree)) st q (cut j k st)
+    → Each 0 (storesOf st) (λ s. recordsOf st s + needs j k st s ≤ storeRecords)
+    → Each 0 (storesOf st) (λ s. entriesOf st s + pinsAcross j k (storeOf st s .pins) ≤ storePins)
+    → nextIdOf st + sumTo (needs j k st) (storesOf st) ≤ maxStamp
+    → (q : ℕ) → q < storesOf st → WasCut j k (nextNode (st .tree)) st q (cut j k st)
 unfolding cut
 stores-cut j k st h low inUse some inside few records entries last =
-    turns j k m st u kept room last (st .books .stores) 0 (withTree u st) (first-turn j k st u h sound) (zero-add _) (λ q l. absurd (omega arith))
+    turns j k m st u kept room last refl (storesOf st) 0 (withTree u st) (first-turn j k st u h sound) (zero-add _) (λ q l. absurd (omega arith))
   where
     m : ℕ
     m = nextNode (st .tree)
@@ -115,10 +88,10 @@ stores-cut j k st h low inUse some inside few records entries last =
     kept next x first s r =
         record {
           sound = cutStore-sound j k (st .tree) (h .tree) low inUse few s (r .records) (r .entries);
-          ids = cutStore-ids j k m next x;
-          few = le-of-eq (cutStore-length j k m next x);
+          ids = cutStore-ids j k m next x (below-nodes (st .tree) (x .ranges) (s .ranges .inside));
+          few = le-of-eq (cutStore-length j k m next x (below-nodes (st .tree) (x .ranges) (s .ranges .inside)));
           fewPins = cutStore-pins j k m next x;
         }
 
-    room : (q : ℕ) → q < st .books .stores → Room j k (storeOf st q)
+    room : (q : ℕ) → q < storesOf st → Room j k (storeOf st q)
     room q less = record { records = rw records-length (records q zero-le less); entries = rw entries-length (entries q zero-le less) }

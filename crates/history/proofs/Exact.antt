@@ -6,7 +6,7 @@ use mathlib.Core.Logic.{_⊎_, inl, inr, ⊎-elim}
 use mathlib.Core.List.{List, [], _∷_}
 use native.Mathlib.Omega.{arith}
 use Rattle.model.specs.declared.Span.{Span}
-use Rattle.model.specs.State.{Tree, State, Range, at}
+use Rattle.model.specs.State.{Tree, State, Range, at, storesOf}
 use Rattle.model.specs.Sound.{Sound, Inside}
 use Rattle.model.specs.Store.{storeOf}
 use Rattle.model.specs.Refusals.{SpanIn}
@@ -37,10 +37,10 @@ held-in t h (r ∷ rs) a n o (inl w) =
     real t h n o (subst (λ k. k < t .nodes) e (a .0 .inUse)) (omega (arith, w .high, subst (λ k. r .end ≤ at (t .len) k) e (a .0 .ends)))
 held-in t h (r ∷ rs) a n o (inr w) = held-in t h rs (a .1) n o w
 
-pub real-parts : (st : State) (q : ℕ) → Parts st → q < st .books .stores → (n o : ℕ) → Holds (storeOf st q .ranges) n o → Real (st .tree) n o
+pub real-parts : (st : State) (q : ℕ) → Parts st → q < storesOf st → (n o : ℕ) → Holds (storeOf st q .ranges) n o → Real (st .tree) n o
 real-parts st q h less = held-in (st .tree) (h .tree) (storeOf st q .ranges) (h .each q zero-le less .ranges .inside)
 
-pub real-held : (st : State) (q : ℕ) → Sound st → q < st .books .stores → (n o : ℕ) → Holds (storeOf st q .ranges) n o → Real (st .tree) n o
+pub real-held : (st : State) (q : ℕ) → Sound st → q < storesOf st → (n o : ℕ) → Holds (storeOf st q .ranges) n o → Real (st .tree) n o
 real-held st q h less = real-parts st q (sound-parts st h) less
 
 pub real-span : (st : State) (sp : Span) → Sound st → SpanIn (st .tree) sp → (n o : ℕ) → InSpan sp n o → Real (st .tree) n o
@@ -55,24 +55,24 @@ same-block st h n o m p a b e =
 -- ---- exact
 
 pub record Exact (st : State) (h : History) : Type 0 where
-  pub only : (q : ℕ) (w : List ℕ) → q < st .books .stores → Stored st q w → h q w
-  pub all : (q : ℕ) (w : List ℕ) → h q w → (q < st .books .stores) × Stored st q w
+  pub only : (q : ℕ) (w : List ℕ) → q < storesOf st → Stored st q w → h q w
+  pub all : (q : ℕ) (w : List ℕ) → h q w → (q < storesOf st) × Stored st q w
 
 -- what a call that leaves the tree does to the blocks of each store
 pub record Changes (c : Call) (a b : State) : Type 0 where
   pub tree : b .tree ≡ a .tree
-  pub stores : b .books .stores ≡ a .books .stores
-  pub came : (q n o : ℕ) → q < a .books .stores → Holds (storeOf b q .ranges) n o → Holds (storeOf a q .ranges) n o ⊎ BroughtIn c a q n o
-  pub stayed : (q n o : ℕ) → q < a .books .stores → Holds (storeOf b q .ranges) n o → Gone c a q n o → ⊥
+  pub stores : storesOf b ≡ storesOf a
+  pub came : (q n o : ℕ) → q < storesOf a → Holds (storeOf b q .ranges) n o → Holds (storeOf a q .ranges) n o ⊎ BroughtIn c a q n o
+  pub stayed : (q n o : ℕ) → q < storesOf a → Holds (storeOf b q .ranges) n o → Gone c a q n o → ⊥
   pub kept :
-      (q n o : ℕ) → q < a .books .stores → Holds (storeOf a q .ranges) n o ⊎ BroughtIn c a q n o → (Gone c a q n o → ⊥) → Holds (storeOf b q .ranges) n o
-  pub inUse : (q n o : ℕ) → BroughtIn c a q n o → q < a .books .stores
+      (q n o : ℕ) → q < storesOf a → Holds (storeOf a q .ranges) n o ⊎ BroughtIn c a q n o → (Gone c a q n o → ⊥) → Holds (storeOf b q .ranges) n o
+  pub inUse : (q n o : ℕ) → BroughtIn c a q n o → q < storesOf a
   pub goneReal : (q n o : ℕ) → Gone c a q n o → Real (a .tree) n o
 
 module _ (c : Call) (a b : State) (h : History) (s : Sound a) (t : Sound b) (k : Changes c a b) (e : Exact a h) where
-  only-of : (q : ℕ) (w : List ℕ) → q < b .books .stores → Stored b q w → next c a h q w
+  only-of : (q : ℕ) (w : List ℕ) → q < storesOf b → Stored b q w → next c a h q w
   only-of q w l x =
-      let less : q < a .books .stores = rw (k .stores) at l in
+      let less : q < storesOf a = rw (k .stores) at l in
       let n = x .node in
       let o = x .offset in
       let name : nameOf (a .tree) n o ≡ w = subst (λ z. nameOf z n o ≡ w) (k .tree) (x .name) in
@@ -84,8 +84,8 @@ module _ (c : Call) (a b : State) (h : History) (s : Sound a) (t : Sound b) (k :
             k .stayed q n o less (x .is) (subst (Gone c a q n) (same .1) (subst (λ z. Gone c a q z (g .offset)) (same .0) (g .is))),
       )
 
-  back : (q : ℕ) (w : List ℕ) (P : ℕ → ℕ → Type 0) → q < a .books .stores → ((n o : ℕ) → P n o → Holds (storeOf a q .ranges) n o ⊎ BroughtIn c a q n o)
-      → Named (a .tree) P w → (Named (a .tree) (Gone c a q) w → ⊥) → (q < b .books .stores) × Stored b q w
+  back : (q : ℕ) (w : List ℕ) (P : ℕ → ℕ → Type 0) → q < storesOf a → ((n o : ℕ) → P n o → Holds (storeOf a q .ranges) n o ⊎ BroughtIn c a q n o)
+      → Named (a .tree) P w → (Named (a .tree) (Gone c a q) w → ⊥) → (q < storesOf b) × Stored b q w
   back q w P less f x g = (
     rw (k .stores) less,
     record {
@@ -97,7 +97,7 @@ module _ (c : Call) (a b : State) (h : History) (s : Sound a) (t : Sound b) (k :
     },
   )
 
-  all-of : (q : ℕ) (w : List ℕ) → next c a h q w → (q < b .books .stores) × Stored b q w
+  all-of : (q : ℕ) (w : List ℕ) → next c a h q w → (q < storesOf b) × Stored b q w
   all-of q w (inl x, g) = let y = e .all q w x in back q w (Holds (storeOf a q .ranges)) (y .0) (λ n o z. inl z) (y .1) g
   all-of q w (inr x, g) = back q w (BroughtIn c a q) (k .inUse q (x .node) (x .offset) (x .is)) (λ n o z. inr z) x g
 
@@ -108,16 +108,16 @@ module _ (c : Call) (a b : State) (h : History) (s : Sound a) (t : Sound b) (k :
 pub record Moves (c : Call) (a b : State) : Type 0 where
   pub none : (q n o : ℕ) → BroughtIn c a q n o → ⊥
   pub nothing : (q n o : ℕ) → Gone c a q n o → ⊥
-  pub stores : b .books .stores ≡ a .books .stores
-  pub came : (q : ℕ) (w : List ℕ) → q < a .books .stores → Stored b q w → Stored a q w
-  pub kept : (q : ℕ) (w : List ℕ) → q < a .books .stores → Stored a q w → Stored b q w
+  pub stores : storesOf b ≡ storesOf a
+  pub came : (q : ℕ) (w : List ℕ) → q < storesOf a → Stored b q w → Stored a q w
+  pub kept : (q : ℕ) (w : List ℕ) → q < storesOf a → Stored a q w → Stored b q w
 
 pub moves-exact : (c : Call) (a b : State) (h : History) → Moves c a b → Exact a h → Exact b (next c a h)
 moves-exact c a b h k e =
     record {
       only =
           λ q w l x.
-          let less : q < a .books .stores = rw (k .stores) at l in
+          let less : q < storesOf a = rw (k .stores) at l in
           (inl (e .only q w less (k .came q w less x)), λ g. k .nothing q (g .node) (g .offset) (g .is));
       all =
           λ q w x.

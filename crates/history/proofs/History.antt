@@ -7,10 +7,13 @@ use mathlib.Core.Logic.{_⊎_, inl, inr, ⊎-elim}
 use mathlib.Core.List.{List, [], _∷_}
 use native.Mathlib.Omega.{arith}
 use lib.ListN.{length, replicate}
-use Rattle.model.specs.State.{State, Range, at}
+use Rattle.model.specs.State.{State, Range, at, storesOf, heldOf}
 use Rattle.model.specs.Sound.{Sound}
 use Rattle.model.specs.Store.{storeOf, ranges, total}
-use Rattle.model.specs.SetUp.{setUpState, zeros}
+use Rattle.model.specs.declared.Book.{Book}
+use Rattle.model.specs.Sizes.{maxStores}
+use Rattle.model.specs.SetUp.{SetUpFits, setUpState}
+use Rattle.laid.proofs.SetUp.{new-book}
 use Rattle.model.specs.Refusals.{firstOf, setUpRefusals}
 use Rattle.model.specs.Calls as Calls
 use Rattle.model.specs.Calls.{Answer, refused, done, Outcome, NoList, NoValue, unless}
@@ -22,28 +25,23 @@ use Rattle.keptcalls.proofs.Calls as Kept
 use Rattle.laid.proofs.SetUp as Set
 use Rattle.kepttouch.proofs.Holds.{Holds}
 use Rattle.history.specs.Names.{Named, Stored}
-use Rattle.history.specs.History.{Call, setUp, resolve, insert, storeInsert, storeUsed, storeRemove, storeExpire, pinSource, unpinSource, lookup, storeHeld, storeCapacity, storePinned, storeAvailable, sourceVersion, pinStalls, after, IfDone, BroughtIn, Gone, History, next, since, run, nothing, Exactly}
+use Rattle.history.specs.History.{Call, setUp, resolve, insert, storeInsert, storeUsed, storeRemove, storeExpire, pinSource, unpinSource, lookup, storeHeld, storeCapacity, storePinned, storeAvailable, sourceVersion, pinStalls, after, IfDone, BroughtIn, Gone, History, next, since, run, nothing, Exactly, Steps, runAll, sinceAll}
 use Rattle.history.proofs.Exact.{real-held, same-block, Exact}
 use Rattle.history.proofs.Steps.{still, unless-at, none-where, storeInsert-exact, storeRemove-exact, storeExpire-exact, storeUsed-exact, pin-exact, unpin-exact}
 use Rattle.history.proofs.Insert.{insert-exact}
 
 -- ---- set-up
 
-zero-at : (n q : ℕ) → at (replicate n 0) q ≡ 0
-zero-at zero q = refl
-zero-at (suc n) zero = refl
-zero-at (suc n) (suc q) = zero-at n q
-
 no-ranges : (st : State) (q n : ℕ) → n ≡ 0 → ranges (st .ranges) q n ≡ []
 unfolding ranges
 no-ranges st q zero e = refl
 no-ranges st q (suc n) e = absurd (omega arith)
 
-fresh-empty : (pools : State) (table capacity : List ℕ) (refreshes : List Bool) (q n o : ℕ)
-    → Holds (storeOf (setUpState pools table capacity refreshes) q .ranges) n o → ⊥
+fresh-empty : (pools : State) (table capacity : List ℕ) (refreshes : List Bool) → SetUpFits pools table capacity refreshes
+    → (q n o : ℕ) → q < maxStores → Holds (storeOf (setUpState pools table capacity refreshes) q .ranges) n o → ⊥
 unfolding setUpState storeOf Holds
-fresh-empty pools table capacity refreshes q n o h =
-    subst (λ rs. Holds rs n o) (no-ranges pools _ (at zeros q) (zero-at 8 q)) h
+fresh-empty pools table capacity refreshes fits q n o less h =
+    subst (λ rs. Holds rs n o) (no-ranges pools _ _ (ap (λ (b : Book). b .records) (new-book pools table capacity refreshes fits q less))) h
 
 module _ (a : State) (table capacity : List ℕ) (refreshes : List Bool) where
   abbrev n₀ : ℕ
@@ -56,11 +54,16 @@ module _ (a : State) (table capacity : List ℕ) (refreshes : List Bool) where
   unfolding Calls.setUp made
   outcome-is n e = unless-at n₀ n a tt made e
 
+  fits : n₀ ≡ 0 → SetUpFits a table capacity refreshes
+  unfolding Calls.setUp
+  fits e = set-up-fits a table capacity refreshes (none-where _ _ _ (setUp-kept a table capacity refreshes) e .0)
+
   -- what a fresh state holds
-  fresh-exact : (h : History) → ((q : ℕ) (w : List ℕ) → h q w → ⊥) → Exact (setUpState a table capacity refreshes) h
-  fresh-exact h none =
+  fresh-exact : SetUpFits a table capacity refreshes → (h : History) → ((q : ℕ) (w : List ℕ) → h q w → ⊥) → Exact (setUpState a table capacity refreshes) h
+  unfolding setUpState
+  fresh-exact fits h none =
       record {
-        only = λ q w l x. absurd (fresh-empty a table capacity refreshes q (x .node) (x .offset) (x .is));
+        only = λ q w l x. absurd (fresh-empty a table capacity refreshes fits q (x .node) (x .offset) (omega (arith, fits .stores)) (x .is));
         all = λ q w x. absurd (none q w x);
       }
 
@@ -89,7 +92,7 @@ module _ (a : State) (table capacity : List ℕ) (refreshes : List Bool) where
     set-accepted : n₀ ≡ 0 → Exact (Calls.setUp a table capacity refreshes .state) (next c a h)
     unfolding made
     set-accepted e =
-        subst (λ (z : Outcome NoList NoValue). Exact (z .state) (next c a h)) (sym (outcome-is 0 e)) (fresh-exact (next c a h) (emptied e))
+        subst (λ (z : Outcome NoList NoValue). Exact (z .state) (next c a h)) (sym (outcome-is 0 e)) (fresh-exact (fits e) (next c a h) (emptied e))
 
     setUp-exact : Exact (Calls.setUp a table capacity refreshes .state) (next c a h)
     setUp-exact = go n₀ refl
@@ -139,8 +142,8 @@ call-exact (storeInsert l k sp time write) a h s e = storeInsert-exact a l k sp 
 call-exact (storeUsed k sps time counted) a h s e = storeUsed-exact a k sps time counted h s e
 call-exact (storeRemove l k sp) a h s e = storeRemove-exact a l k sp h s e
 call-exact (storeExpire l k now seconds) a h s e = storeExpire-exact a l k now seconds h s e
-call-exact (pinSource k sp) a h s e = pin-exact a k sp h e
-call-exact (unpinSource k sp) a h s e = unpin-exact a k sp h e
+call-exact (pinSource k sp) a h s e = pin-exact a k sp h s e
+call-exact (unpinSource k sp) a h s e = unpin-exact a k sp h s e
 call-exact (lookup l ts hs) a h s e =
     still (lookup l ts hs) a (Calls.lookup a l ts hs .state) h (Kept.lookup-same a l ts hs) (λ q n o x. x) (λ q n o x. x) e
 call-exact (storeHeld k) a h s e = still (storeHeld k) a (Calls.heldCall a k .state) h (Kept.held-same a k) (λ q n o x. x) (λ q n o x. x) e
@@ -162,7 +165,18 @@ unfolding run since
 run-exact a [] h s e = e
 run-exact a (c ∷ cs) h s e = run-exact (after c a) cs (next c a h) (call-sound c a s) (call-exact c a h s e)
 
-held-is : (st : State) (q : ℕ) → at (st .books .held) q ≡ storeOf st q .held
+-- the same of calls of several steps
+run-all-sound : (a : State) (cs : List Steps) → Sound a → Sound (runAll a cs)
+unfolding runAll
+run-all-sound a [] s = s
+run-all-sound a (c ∷ cs) s = run-all-sound (run a c) cs (run-sound a c s)
+
+run-all-exact : (a : State) (cs : List Steps) (h : History) → Sound a → Exact a h → Exact (runAll a cs) (sinceAll h a cs)
+unfolding runAll sinceAll
+run-all-exact a [] h s e = e
+run-all-exact a (c ∷ cs) h s e = run-all-exact (run a c) cs (since h a c) (run-sound a c s) (run-exact a c h s e)
+
+held-is : (st : State) (q : ℕ) → heldOf st q ≡ storeOf st q .book .held
 unfolding storeOf
 held-is st q = refl
 
@@ -171,25 +185,25 @@ start-exact : (pools : State) (table capacity : List ℕ) (refreshes : List Bool
 unfolding Calls.setUp
 start-exact pools table capacity refreshes e =
     let a = unless-done _ _ _ (setUp-kept pools table capacity refreshes) tt e in
-    rw (a .state) (fresh-exact pools table capacity refreshes nothing (λ q w x. x))
+    rw (a .state) (fresh-exact pools table capacity refreshes (set-up-fits pools table capacity refreshes (a .none .0)) nothing (λ q w x. x))
 
 -- "After any calls from set-up"
 pub history : (pools : State) (table capacity : List ℕ) (refreshes : List Bool) → Calls.setUp pools table capacity refreshes .answer ≡ done tt
-    → (cs : List Call) (q : ℕ)
-    → q < run (Calls.setUp pools table capacity refreshes .state) cs .books .stores
-    → Exactly (run (Calls.setUp pools table capacity refreshes .state) cs) (since nothing (Calls.setUp pools table capacity refreshes .state) cs) q
+    → (cs : List Steps) (q : ℕ)
+    → q < storesOf (runAll (Calls.setUp pools table capacity refreshes .state) cs)
+    → Exactly (runAll (Calls.setUp pools table capacity refreshes .state) cs) (sinceAll nothing (Calls.setUp pools table capacity refreshes .state) cs) q
 history pools table capacity refreshes e cs q l =
     let s = Kept.setUp-sound pools table capacity refreshes e in
     let st = Calls.setUp pools table capacity refreshes .state in
-    let x = run-exact st cs nothing s (start-exact pools table capacity refreshes e) in
-    let own = store-sound (run st cs) q (run-sound st cs s) l in
+    let x = run-all-exact st cs nothing s (start-exact pools table capacity refreshes e) in
+    let own = store-sound (runAll st cs) q (run-all-sound st cs s) l in
     record {
       sorted = own .ranges .sorted;
-      held = held-is (run st cs) q ∙ own .held;
+      held = held-is (runAll st cs) q ∙ own .held;
       named =
           λ n o m p a b.
-          same-block (run st cs) (run-sound st cs s) n o m p (real-held (run st cs) q (run-sound st cs s) l n o a)
-          (real-held (run st cs) q (run-sound st cs s) l m p b);
+          same-block (runAll st cs) (run-all-sound st cs s) n o m p (real-held (runAll st cs) q (run-all-sound st cs s) l n o a)
+          (real-held (runAll st cs) q (run-all-sound st cs s) l m p b);
       only = λ w. x .only q w l;
       all = λ w y. x .all q w y .1;
     }

@@ -11,11 +11,11 @@ use lib.Dec.{ltb}
 use borrow.Author.Tests.{ltb-true, ltb-false}
 use Rattle.model.specs.Words.{Each}
 use Rattle.model.specs.Sizes.{maxNodes, maxWords, maxHashes, maxStamp, storeRecords, storePins}
-use Rattle.model.specs.State.{Tree, State, Range, at}
+use Rattle.model.specs.State.{Tree, State, Range, at, storesOf, nextIdOf, recordsOf, entriesOf, bookIn}
 use Rattle.model.specs.Sound.{Sound}
 use Rattle.model.specs.Tree.{Seg, blocks}
 use Rattle.model.specs.Tree as Trees
-use Rattle.model.specs.Store.{storeOf, lay, plus}
+use Rattle.model.specs.Store.{storeOf, lay, plus, layCounts}
 use Rattle.model.specs.Insert.{nextNode, heads, tails, pinsAcross, cutTree, addLeaf, matchEnd, adds, endsInside, withTree, withLeaf, cut, cutFirst, grow, insertPath}
 use Rattle.model.specs.Refusals.{firstOf, PathList, nodeNeed, newBlocks, cuts, cutRecords, cutEntries, cutIds, insertRefusals}
 use Rattle.model.specs.Calls as Calls
@@ -40,9 +40,9 @@ use Rattle.history.proofs.Steps.{none-where}
 
 -- every store has in b the names that it has in a
 pub record Renames (a b : State) : Type 0 where
-  pub stores : b .books .stores ≡ a .books .stores
-  pub came : (q : ℕ) (w : List ℕ) → q < a .books .stores → Stored b q w → Stored a q w
-  pub kept : (q : ℕ) (w : List ℕ) → q < a .books .stores → Stored a q w → Stored b q w
+  pub stores : storesOf b ≡ storesOf a
+  pub came : (q : ℕ) (w : List ℕ) → q < storesOf a → Stored b q w → Stored a q w
+  pub kept : (q : ℕ) (w : List ℕ) → q < storesOf a → Stored a q w → Stored b q w
 
 renames-same : (a : State) → Renames a a
 renames-same a = record { stores = refl; came = λ q w l x. x; kept = λ q w l x. x }
@@ -68,16 +68,17 @@ module _ (st : State) (h : Parts st) (p d : ℕ) (rest : List ℕ) (room : st .t
   unfolding addLeaf
   grown-words = refl
 
-  same-name : (q n o : ℕ) → q < st .books .stores → Holds (storeOf st q .ranges) n o → nameOf (addLeaf p d rest (st .tree)) n o ≡ nameOf (st .tree) n o
+  same-name : (q n o : ℕ) → q < storesOf st → Holds (storeOf st q .ranges) n o → nameOf (addLeaf p d rest (st .tree)) n o ≡ nameOf (st .tree) n o
   same-name q n o l x =
       let k = real-parts st q h l n o x in
       leaf-name (h .tree) (leaf-to p d rest (st .tree) (h .tree .lent) room words) grown-words words v n o (k .root) (k .node) (k .offset)
 
   same-store : (q : ℕ) → storeOf (withTree (addLeaf p d rest (st .tree)) st) q ≡ storeOf st q
-  unfolding storeOf
+  unfolding storeOf withTree layCounts bookIn
   same-store q = refl
 
   leaf-renames : Renames st (withTree (addLeaf p d rest (st .tree)) st)
+  unfolding withTree layCounts
   leaf-renames =
       record {
         stores = refl;
@@ -99,9 +100,9 @@ module _ (st : State) (h : Parts st) (p d : ℕ) (rest : List ℕ) (room : st .t
 
 module _ (st : State) (h : Parts st) (j k : ℕ) (low : 1 ≤ j) (inUse : j < st .tree .nodes) (some : 0 < k) (inside : k < at (st .tree .len) j)
     (room : st .tree .nodes < maxNodes)
-    (records : Each 0 (st .books .stores) (λ s. at (st .books .records) s + needs j k st s ≤ storeRecords))
-    (entries : Each 0 (st .books .stores) (λ s. at (st .books .entries) s + pinsAcross j k (storeOf st s .pins) ≤ storePins))
-    (last : st .books .nextId + sumTo (needs j k st) (st .books .stores) ≤ maxStamp) (stores : cut j k st .books .stores ≡ st .books .stores) where
+    (records : Each 0 (storesOf st) (λ s. recordsOf st s + needs j k st s ≤ storeRecords))
+    (entries : Each 0 (storesOf st) (λ s. entriesOf st s + pinsAcross j k (storeOf st s .pins) ≤ storePins))
+    (last : nextIdOf st + sumTo (needs j k st) (storesOf st) ≤ maxStamp) (stores : storesOf (cut j k st) ≡ storesOf st) where
   abbrev m : ℕ
   m = nextNode (st .tree)
 
@@ -111,19 +112,19 @@ module _ (st : State) (h : Parts st) (j k : ℕ) (low : 1 ≤ j) (inUse : j < st
   cut-sound : TreeSound (cutTree j k (st .tree))
   cut-sound = cutTree-sound j k (st .tree) (h .tree) low inUse some inside room
 
-  cut-store : (q : ℕ) → q < st .books .stores → WasCut j k m st q (cut j k st)
+  cut-store : (q : ℕ) → q < storesOf st → WasCut j k m st q (cut j k st)
   cut-store = stores-cut j k st h low inUse some inside room records entries last
 
-  stays : (q n o : ℕ) → q < st .books .stores → Holds (storeOf st q .ranges) n o → (n ≡ j → o < k) → nameOf (cut j k st .tree) n o ≡ nameOf (st .tree) n o
+  stays : (q n o : ℕ) → q < storesOf st → Holds (storeOf st q .ranges) n o → (n ≡ j → o < k) → nameOf (cut j k st .tree) n o ≡ nameOf (st .tree) n o
   stays q n o l x f =
       let y = real-parts st q h l n o x in
       rw (cut-tree j k st) (stay-name (h .tree) cut-sound low inUse some inside was-cut n o (y .root) (y .node) (y .offset) f)
 
-  moves : (q o : ℕ) → q < st .books .stores → Holds (storeOf st q .ranges) j (k + o) → nameOf (cut j k st .tree) m o ≡ nameOf (st .tree) j (k + o)
+  moves : (q o : ℕ) → q < storesOf st → Holds (storeOf st q .ranges) j (k + o) → nameOf (cut j k st .tree) m o ≡ nameOf (st .tree) j (k + o)
   moves q o l x =
       let y = real-parts st q h l j (k + o) x in rw (cut-tree j k st) (move-name (h .tree) cut-sound low inUse some inside was-cut o (y .offset))
 
-  came : (q : ℕ) (w : List ℕ) → q < st .books .stores → Stored (cut j k st) q w → Stored st q w
+  came : (q : ℕ) (w : List ℕ) → q < storesOf st → Stored (cut j k st) q w → Stored st q w
   came q w l x = go (cut-holds j k m (storeOf st q .ranges) (c .next) (x .node) (x .offset) (rw (c .ranges) at (x .is)))
     where
       c : WasCut j k m st q (cut j k st)
@@ -141,7 +142,7 @@ module _ (st : State) (h : Parts st) (j k : ℕ) (low : 1 ≤ j) (inUse : j < st
             name = sym (moves q (x .offset) l y) ∙ (ap (λ n. nameOf (cut j k st .tree) n (x .offset)) (sym e) ∙ x .name);
           }
 
-  kept : (q : ℕ) (w : List ℕ) → q < st .books .stores → Stored st q w → Stored (cut j k st) q w
+  kept : (q : ℕ) (w : List ℕ) → q < storesOf st → Stored st q w → Stored (cut j k st) q w
   kept q w l x = go (ℕ-discrete (x .node) j) (lt-or-le (x .offset) k)
     where
       c : WasCut j k m st q (cut j k st)
@@ -183,9 +184,9 @@ module _ (st : State) (h : Parts st) (j k : ℕ) (low : 1 ≤ j) (inUse : j < st
 
 path-renames : (st : State) (hs : List ℕ) → Parts st → length hs ≤ maxHashes → st .tree .nodes + nodeNeed st hs ≤ maxNodes
     → st .tree .used + newBlocks st hs ≤ maxWords
-    → Each 0 (st .books .stores) (λ s. at (st .books .records) s + cutRecords st hs s ≤ storeRecords)
-    → Each 0 (st .books .stores) (λ s. at (st .books .entries) s + cutEntries st hs s ≤ storePins)
-    → st .books .nextId + cutIds st hs (st .books .stores) ≤ maxStamp
+    → Each 0 (storesOf st) (λ s. recordsOf st s + cutRecords st hs s ≤ storeRecords)
+    → Each 0 (storesOf st) (λ s. entriesOf st s + cutEntries st hs s ≤ storePins)
+    → nextIdOf st + cutIds st hs (storesOf st) ≤ maxStamp
     → Renames st (insertPath hs (Trees.resolve (st .tree) hs) st .state)
 unfolding insertPath nodeNeed newBlocks withLeaf
 path-renames st hs h short nodes words records entries last = go (adds hs path) refl nodes
@@ -206,12 +207,12 @@ path-renames st hs h short nodes words records entries last = go (adds hs path) 
         let more : blocks path < length hs = ltb-true _ _ p in
         let within : e .len < at (t .len) (e .node) = ltb-true _ _ q in
         let i = ends .inNode within in
-        let r : Each 0 (st .books .stores) (λ s. at (st .books .records) s + needs (e .node) (e .len) st s ≤ storeRecords) =
+        let r : Each 0 (storesOf st) (λ s. recordsOf st s + needs (e .node) (e .len) st s ≤ storeRecords) =
         λ s low less. rw (records-counted st hs does s) at (records s low less) in
-        let n : Each 0 (st .books .stores) (λ s. at (st .books .entries) s + pinsAcross (e .node) (e .len) (storeOf st s .pins) ≤ storePins) =
+        let n : Each 0 (storesOf st) (λ s. entriesOf st s + pinsAcross (e .node) (e .len) (storeOf st s .pins) ≤ storePins) =
         λ s low less. rw (entries-counted st hs does s) at (entries s low less) in
-        let l : st .books .nextId + sumTo (needs (e .node) (e .len) st) (st .books .stores) ≤ maxStamp =
-        rw (ids-counted st hs does (st .books .stores)) at last in
+        let l : nextIdOf st + sumTo (needs (e .node) (e .len) st) (storesOf st) ≤ maxStamp =
+        rw (ids-counted st hs does (storesOf st)) at last in
         let c = cut-to (e .node) (e .len) t (h .tree .lent) (i .0) (ends .inUse) (omega arith) in
         let a = after-cut st hs (blocks path) e h ends more short words within (omega arith) r n l in
         renames-then (cut-renames st h (e .node) (e .len) (i .0) (ends .inUse) (i .1) within (omega arith) r n l (a .stores))
@@ -233,8 +234,8 @@ module _ (a : State) (l : PathList) (hs : List ℕ) (h : History) (sound : Sound
   path-of : NoneHolds (insertRefusals a l hs) → Renames a (insertPath hs (Trees.resolve (a .tree) hs) a .state)
   path-of (unsound, (short, (many, (fewNodes, (fewWords, (fewRecords, (fewEntries, (late, end)))))))) =
       path-renames a hs (sound-parts a sound) (omega arith) (omega arith) (omega arith)
-      (each-fits (λ s. at (a .books .records) s + cutRecords a hs s) (a .books .stores) storeRecords fewRecords)
-      (each-fits (λ s. at (a .books .entries) s + cutEntries a hs s) (a .books .stores) storePins fewEntries) (omega arith)
+      (each-fits (λ s. recordsOf a s + cutRecords a hs s) (storesOf a) storeRecords fewRecords)
+      (each-fits (λ s. entriesOf a s + cutEntries a hs s) (storesOf a) storePins fewEntries) (omega arith)
 
   insert-renames : Renames a (Calls.insert a l hs .state)
   unfolding Calls.insert

@@ -1,6 +1,6 @@
 -- Each public call keeps the history exact: a refused one and one that only reads leave all as it was; the others by what they do to the blocks of their
 -- store, and an insert by what it does to names. Assumes nothing.
-use Prim.Native.Nat.{ℕ, zero, suc, _+_, _-_, _≤_, _<_, zero-le}
+use Prim.Native.Nat.{ℕ, zero, suc, _+_, _-_, _*_, _≤_, _<_, zero-le}
 use mathlib.Core.Bool.{Bool, true, false}
 use mathlib.Core.Path.{_≡_, refl, sym, ap, subst, _∙_}
 use mathlib.Core.Logic.{_⊎_, inl, inr, ⊎-elim, _≢_}
@@ -11,26 +11,29 @@ use native.Mathlib.Decide.{ℕ-discrete}
 use lib.ListN.{length}
 use lib.Ieee.{Float}
 use Rattle.model.specs.declared.Span.{Span}
+use Rattle.model.specs.declared.Book.{Book}
 use Rattle.model.specs.Sizes.{storeRecords, maxStamp}
-use Rattle.model.specs.State.{State, Range, at}
+use Rattle.model.specs.State.{State, Range, Pin, at, storesOf, nextIdOf, stallsOf, recordsOf, stampOf}
 use Rattle.model.specs.Sound.{Sound, Finite}
-use Rattle.model.specs.Store.{Store, storeOf, withRanges, withPins, withNext}
+use Rattle.model.specs.Store.{Store, ranges, storeOf, layBook, layNext, withRanges, withPins, withNext}
 use Rattle.model.specs.Remove.{Removed, remove}
 use Rattle.model.specs.Expire.{Expired, expire, expireBy, oldest}
-use Rattle.model.specs.Pins.{pin, pinNeed, unpin}
+use Rattle.model.specs.Pins.{pinOf, addPin, takePin, repinned, pin, pinNeed, unpin}
 use Rattle.model.specs.Refusals.{Condition, firstOf, OutList, SpanIn, noSpan, touchedBy, touchSpan, turnRefusals, storeInsertRefusals, storeUsedRefusals, storeRemoveRefusals, storeExpireRefusals, pinRefusals, unpinRefusals}
 use Rattle.model.specs.Calls as Calls
 use Rattle.model.specs.Calls.{Outcome, Answer, refused, done, unless, layOuts, front, brought, bringIn, touchSpans, bytesTouched}
 use Rattle.sure.specs.Refused.{KeptWhenRefused}
 use Rattle.sure.proofs.Refused.{storeInsert-kept, storeUsed-kept, storeRemove-kept, storeExpire-kept, pin-kept, unpin-kept}
+use Rattle.laid.proofs.Books.{book-read, book-other}
 use Rattle.laid.proofs.Store.{Roomy, sound-roomy, RangesFit, records-length, ranges-read, ranges-other, next-store}
 use Rattle.kept.specs.Facts.{All}
 use Rattle.kept.specs.StoreSound.{StoreSound}
 use Rattle.keptbring.proofs.Facts.{all-from}
-use Rattle.keptbring.proofs.Expire.{expire-sound, expire-length}
+use Rattle.keptbring.proofs.Expire.{expire-sound, expire-length, expire-steady}
 use Rattle.kepttouch.proofs.Holds.{Holds, InSpan}
-use Rattle.kepttouch.proofs.Touch.{touch-holds, touch-length, touch-sound}
-use Rattle.kepttouch.proofs.Remove.{remove-holds, remove-length, remove-sound}
+use Rattle.kepttouch.proofs.Touch.{touch-holds, touch-length, touch-sound, touch-steady}
+use Rattle.kepttouch.proofs.Remove.{remove-holds, remove-length, remove-sound, remove-steady}
+use Rattle.keptstate.proofs.Changed.{ranges-fit}
 use Rattle.keptcalls.proofs.Accepted.{NoneHolds, unless-done, neither, span-in, is-finite}
 use Rattle.keptcalls.proofs.Stores.{store-sound, removedBy, touchSpan-sound}
 use Rattle.keptcalls.proofs.Calls.{storeInsert-sound, storeUsed-sound, storeRemove-sound, storeExpire-sound, pin-sound, unpin-sound, resolve-same, lookup-same, held-same}
@@ -51,7 +54,7 @@ still c a b h e f g =
     (record {
       none = f;
       nothing = g;
-      stores = ap (λ x. x .books .stores) e;
+      stores = ap (λ x. storesOf x) e;
       came = λ q w l x. subst (λ z. Stored z q w) e x;
       kept = λ q w l x. subst (λ z. Stored z q w) (sym e) x;
     })
@@ -65,17 +68,17 @@ pub none-where : {L A : Type 0} {cs : List Condition} {st : State} {l : L} (st�
 none-where {cs = cs} {st = st} {l = l} st′ l′ v k e =
     unless-done st′ l′ v k v (ap (λ (o : Outcome _ _). o .answer) (unless-at (firstOf cs) 0 st l (record { state = st′; lists = l′; answer = done v }) e)) .none
 
-stamp-is : (st : State) (s : ℕ) → storeOf st s .stamp ≡ at (st .books .stamp) s
+stamp-is : (st : State) (s : ℕ) → storeOf st s .book .stamp ≡ stampOf st s
 unfolding storeOf
 stamp-is st s = refl
 
 -- ---- a store of the state with other ranges
 
-module _ (st : State) (s need nextId stalls : ℕ) (y : Store) (h : Sound st) (less : s < st .books .stores) (fit : RangesFit st s need y) where
+module _ (st : State) (s need nextId stalls : ℕ) (y : Store) (h : Sound st) (less : s < storesOf st) (fit : RangesFit st s need y) where
   laid-own : storeOf (withNext nextId stalls (withRanges s need y st)) s .ranges ≡ y .ranges
   laid-own = ap (λ x. x .ranges) (next-store nextId stalls (withRanges s need y st) s ∙ ranges-read st s need y (sound-roomy st s h less) fit)
 
-  laid-other : (q : ℕ) → q ≢ s → q < st .books .stores → storeOf (withNext nextId stalls (withRanges s need y st)) q ≡ storeOf st q
+  laid-other : (q : ℕ) → q ≢ s → q < storesOf st → storeOf (withNext nextId stalls (withRanges s need y st)) q ≡ storeOf st q
   laid-other q other l =
       next-store nextId stalls (withRanges s need y st) q
       ∙ ranges-other st s need y (sound-roomy st s h less) fit q other (sound-roomy st q h l .records)
@@ -83,11 +86,11 @@ module _ (st : State) (s need nextId stalls : ℕ) (y : Store) (h : Sound st) (l
 -- ---- a call that changes the ranges of store s alone: it has rs then, `In` was brought in and `Out` given up
 
 record OneStore (c : Call) (a b : State) (s : ℕ) (rs : List Range) (In Out : ℕ → ℕ → Type 0) : Type 0 where
-  less : s < a .books .stores
+  less : s < storesOf a
   tree : b .tree ≡ a .tree
-  stores : b .books .stores ≡ a .books .stores
+  stores : storesOf b ≡ storesOf a
   own : storeOf b s .ranges ≡ rs
-  other : (q : ℕ) → q ≢ s → q < a .books .stores → storeOf b q ≡ storeOf a q
+  other : (q : ℕ) → q ≢ s → q < storesOf a → storeOf b q ≡ storeOf a q
   inOf : (q v o : ℕ) → q ≡ s → In v o → BroughtIn c a q v o
   ofIn : (q v o : ℕ) → BroughtIn c a q v o → (q ≡ s) × In v o
   goneOf : (q v o : ℕ) → q ≡ s → Out v o → Gone c a q v o
@@ -98,15 +101,15 @@ record OneStore (c : Call) (a b : State) (s : ℕ) (rs : List Range) (In Out : �
   outReal : (v o : ℕ) → Out v o → Real (a .tree) v o
 
 module _ {c : Call} {a b : State} {s : ℕ} {rs : List Range} {In Out : ℕ → ℕ → Type 0} (k : OneStore c a b s rs In Out) where
-  one-came : (q v o : ℕ) → q < a .books .stores → Dec (q ≡ s) → Holds (storeOf b q .ranges) v o → Holds (storeOf a q .ranges) v o ⊎ BroughtIn c a q v o
+  one-came : (q v o : ℕ) → q < storesOf a → Dec (q ≡ s) → Holds (storeOf b q .ranges) v o → Holds (storeOf a q .ranges) v o ⊎ BroughtIn c a q v o
   one-came q v o less (yes i) = rw (i, k .own) (λ x. ⊎-elim (λ y. inl y) (λ y. inr (k .inOf s v o refl y)) (k .came v o x))
   one-came q v o less (no i) = rw (k .other q i less) (λ x. inl x)
 
-  one-stayed : (q v o : ℕ) → q < a .books .stores → Dec (q ≡ s) → Holds (storeOf b q .ranges) v o → Gone c a q v o → ⊥
+  one-stayed : (q v o : ℕ) → q < storesOf a → Dec (q ≡ s) → Holds (storeOf b q .ranges) v o → Gone c a q v o → ⊥
   one-stayed q v o less (yes i) = rw (i, k .own) (λ x g. k .stayed v o x (k .ofGone s v o g .1))
   one-stayed q v o less (no i) = λ x g. i (k .ofGone q v o g .0)
 
-  one-kept : (q v o : ℕ) → q < a .books .stores → Dec (q ≡ s) → Holds (storeOf a q .ranges) v o ⊎ BroughtIn c a q v o → (Gone c a q v o → ⊥)
+  one-kept : (q v o : ℕ) → q < storesOf a → Dec (q ≡ s) → Holds (storeOf a q .ranges) v o ⊎ BroughtIn c a q v o → (Gone c a q v o → ⊥)
       → Holds (storeOf b q .ranges) v o
   one-kept q v o less (yes i) =
       rw (i, k .own)
@@ -121,7 +124,7 @@ module _ {c : Call} {a b : State} {s : ℕ} {rs : List Range} {In Out : ℕ → 
         came = λ q v o less. one-came q v o less (ℕ-discrete q s);
         stayed = λ q v o less. one-stayed q v o less (ℕ-discrete q s);
         kept = λ q v o less. one-kept q v o less (ℕ-discrete q s);
-        inUse = λ q v o x. subst (λ z. z < a .books .stores) (sym (k .ofIn q v o x .0)) (k .less);
+        inUse = λ q v o x. subst (λ z. z < storesOf a) (sym (k .ofIn q v o x .0)) (k .less);
         goneReal = λ q v o x. k .outReal v o (k .ofGone q v o x .1);
       }
 
@@ -185,7 +188,7 @@ module _ (a : State) (l : OutList) (s : ℕ) (sp : Span) (time : Float) (write :
     filled : (v o : ℕ) → Filled (storeOf a s) sp (brought a s sp time write) v o
     unfolding brought
     filled v o =
-        bring-filled (a .tree) (a .bytes) (a .books .nextId) (storeOf a s) sp time write (store-sound a s sound (took .store)) (took .span)
+        bring-filled (a .tree) (a .bytes) (nextIdOf a) (storeOf a s) sp time write (store-sound a s sound (took .store)) (took .span)
         (took .finite) (sound .counts .firstId) v o
 
     one-brought : OneStore c a (bringIn a s sp time write) s (brought a s sp time write .store .ranges) (InSpan sp) (InOuts (brought a s sp time write .outs))
@@ -235,7 +238,7 @@ module _ (a : State) (l : List ℕ) (s : ℕ) (sp : Span) (h : History) (sound :
   w = removedBy a s sp
 
   removed : State
-  removed = withNext (a .books .nextId + w .need) (a .books .stalls) (withRanges s (w .need) (w .store) a)
+  removed = withNext (nextIdOf a + w .need) (stallsOf a) (withRanges s (w .need) (w .store) a)
 
   unmade : Outcome (List ℕ) ℕ
   unmade = record { state = removed; lists = front (w .writes) l; answer = done (length (w .writes)) }
@@ -253,7 +256,7 @@ module _ (a : State) (l : List ℕ) (s : ℕ) (sp : Span) (h : History) (sound :
 
   -- what an accepted removal asks of the state
   removable : NoneHolds (storeRemoveRefusals a l s sp)
-      → (s < a .books .stores) × (SpanIn (a .tree) sp × (at (a .books .records) s + w .need ≤ storeRecords))
+      → (s < storesOf a) × (SpanIn (a .tree) sp × (recordsOf a s + w .need ≤ storeRecords))
   unfolding w
   removable (unsound, (short, (noStore, (badSpan, (fewRecords, (late, end)))))) = (omega arith, (span-in (a .tree) sp badSpan, omega arith))
 
@@ -261,46 +264,43 @@ module _ (a : State) (l : List ℕ) (s : ℕ) (sp : Span) (h : History) (sound :
     abbrev gone-is : Calls.storeRemove a l s sp ≡ unless 0 a l unmade
     gone-is = remove-is 0 e
 
-    asks : (s < a .books .stores) × (SpanIn (a .tree) sp × (at (a .books .records) s + w .need ≤ storeRecords))
+    asks : (s < storesOf a) × (SpanIn (a .tree) sp × (recordsOf a s + w .need ≤ storeRecords))
     unfolding Calls.storeRemove
     asks = removable (none-where _ _ _ (storeRemove-kept a l s sp) e)
 
-    abbrev here : s < a .books .stores
+    abbrev here : s < storesOf a
     here = asks .0
 
     abbrev inside : SpanIn (a .tree) sp
     inside = asks .1 .0
 
-    own-sound : StoreSound (a .tree) (a .books .nextId) (storeOf a s)
+    own-sound : StoreSound (a .tree) (nextIdOf a) (storeOf a s)
     own-sound = store-sound a s sound here
 
-    first-id : 1 ≤ a .books .nextId
+    first-id : 1 ≤ nextIdOf a
     first-id = sound .counts .firstId
 
     fit-removed : RangesFit a s (w .need) (w .store)
     unfolding w
     fit-removed =
-        record {
-          ranges = omega (arith, remove-length (storeOf a s) (a .books .nextId) sp own-sound inside first-id, records-length a s);
-          room = asks .1 .1;
-          marks =
-              remove-sound (storeOf a s) (a .books .nextId) sp own-sound inside first-id (omega (arith, asks .1 .1, records-length a s)) .marks .long;
-        }
+        ranges-fit a s (w .need) (nextIdOf a + w .need) (w .store) (remove-steady (storeOf a s) (nextIdOf a) sp)
+        (omega (arith, remove-length (storeOf a s) (nextIdOf a) sp own-sound inside first-id, records-length a s)) (asks .1 .1)
+        (remove-sound (storeOf a s) (nextIdOf a) sp own-sound inside first-id (omega (arith, asks .1 .1, records-length a s)))
 
     holds-removed : (v o : ℕ) → (Holds (w .store .ranges) v o → Holds (storeOf a s .ranges) v o × (InSpan sp v o → ⊥))
         × (Holds (storeOf a s .ranges) v o × (InSpan sp v o → ⊥) → Holds (w .store .ranges) v o)
     unfolding w
-    holds-removed v o = remove-holds (storeOf a s) (a .books .nextId) sp own-sound inside first-id v o
+    holds-removed v o = remove-holds (storeOf a s) (nextIdOf a) sp own-sound inside first-id v o
 
     one-removed : OneStore r a removed s (w .store .ranges) (λ v o. ⊥) (InSpan sp)
-    unfolding BroughtIn Gone unmade removed withNext withRanges
+    unfolding BroughtIn Gone unmade removed withNext withRanges layNext layBook
     one-removed =
         record {
           less = here;
           tree = refl;
           stores = refl;
-          own = laid-own a s (w .need) (a .books .nextId + w .need) (a .books .stalls) (w .store) sound here fit-removed;
-          other = laid-other a s (w .need) (a .books .nextId + w .need) (a .books .stalls) (w .store) sound here fit-removed;
+          own = laid-own a s (w .need) (nextIdOf a + w .need) (stallsOf a) (w .store) sound here fit-removed;
+          other = laid-other a s (w .need) (nextIdOf a + w .need) (stallsOf a) (w .store) sound here fit-removed;
           inOf = λ q v o x y. y;
           ofIn = λ q v o x. absurd x;
           goneOf =
@@ -355,28 +355,26 @@ module _ (a : State) (l : OutList) (s : ℕ) (now seconds : Float) (h : History)
       still x a (Calls.storeExpire a l s now seconds .state) h (ap (λ (z : Outcome OutList ℕ). z .state) is) (λ q v o y. y)
       (λ q v o y. subst (λ (z : Outcome OutList ℕ). IfDone (z .answer) (λ k. (q ≡ s) × Listed (z .lists) k v o)) is y) exact
 
-  expirable : NoneHolds (storeExpireRefusals a l s now seconds) → s < a .books .stores
+  expirable : NoneHolds (storeExpireRefusals a l s now seconds) → s < storesOf a
   expirable (unsound, (short, (noStore, (badTimes, end)))) = omega arith
 
   module _ (e : x₀ ≡ 0) where
     abbrev aged-is : Calls.storeExpire a l s now seconds ≡ unless 0 a l outlived
     aged-is = expire-is 0 e
 
-    used : s < a .books .stores
+    used : s < storesOf a
     unfolding Calls.storeExpire
     used = expirable (none-where _ _ _ (storeExpire-kept a l s now seconds) e)
 
-    store-is : StoreSound (a .tree) (a .books .nextId) (storeOf a s)
+    store-is : StoreSound (a .tree) (nextIdOf a) (storeOf a s)
     store-is = store-sound a s sound used
 
     fit-expired : RangesFit a s 0 (aged .store)
     unfolding aged
     fit-expired =
-        record {
-          ranges = omega (arith, expire-length (a .tree) (a .bytes) (storeOf a s) now seconds, records-length a s);
-          room = omega (arith, store-is .few, records-length a s);
-          marks = expire-sound (a .tree) (a .bytes) (storeOf a s) now seconds (a .books .nextId) store-is .marks .long;
-        }
+        ranges-fit a s 0 (nextIdOf a) (aged .store) (expire-steady (a .tree) (a .bytes) (storeOf a s) now seconds)
+        (omega (arith, expire-length (a .tree) (a .bytes) (storeOf a s) now seconds, records-length a s))
+        (omega (arith, store-is .few, records-length a s)) (expire-sound (a .tree) (a .bytes) (storeOf a s) now seconds (nextIdOf a) store-is)
 
     -- what is left and what was given out, as of any ranges and outs
     split-here : (v o : ℕ)
@@ -385,7 +383,7 @@ module _ (a : State) (l : OutList) (s : ℕ) (now seconds : Float) (h : History)
         × (InOuts (aged .outs) v o → Holds (storeOf a s .ranges) v o)))
     unfolding aged expire
     split-here v o =
-        let k = expire-filled (a .tree) (a .bytes) (a .books .nextId) (storeOf a s) now seconds store-is v o in
+        let k = expire-filled (a .tree) (a .bytes) (nextIdOf a) (storeOf a s) now seconds store-is v o in
         (k .was, (k .apart, (λ y g. ⊎-elim (λ z. z) (λ z. absurd (g z)) (k .held y), k .out)))
 
     gone-out : (q v o : ℕ) → q ≡ s → InOuts (aged .outs) v o → Gone x a q v o
@@ -400,7 +398,7 @@ module _ (a : State) (l : OutList) (s : ℕ) (now seconds : Float) (h : History)
         (z .0, listed-out (aged .outs) l v o (z .1))
 
     one-expired : OneStore x a expired s (aged .store .ranges) (λ v o. ⊥) (InOuts (aged .outs))
-    unfolding BroughtIn expired withRanges
+    unfolding BroughtIn expired withRanges layBook
     one-expired =
         record {
           less = used;
@@ -437,9 +435,9 @@ module _ (a : State) (l : OutList) (s : ℕ) (now seconds : Float) (h : History)
 -- every store of b holds what it holds in a
 record SameBlocks (a b : State) : Type 0 where
   tree : b .tree ≡ a .tree
-  stores : b .books .stores ≡ a .books .stores
-  came : (q n o : ℕ) → q < a .books .stores → Holds (storeOf b q .ranges) n o → Holds (storeOf a q .ranges) n o
-  kept : (q n o : ℕ) → q < a .books .stores → Holds (storeOf a q .ranges) n o → Holds (storeOf b q .ranges) n o
+  stores : storesOf b ≡ storesOf a
+  came : (q n o : ℕ) → q < storesOf a → Holds (storeOf b q .ranges) n o → Holds (storeOf a q .ranges) n o
+  kept : (q n o : ℕ) → q < storesOf a → Holds (storeOf a q .ranges) n o → Holds (storeOf b q .ranges) n o
 
 same-then : {a b c : State} → SameBlocks a b → SameBlocks b c → SameBlocks a c
 same-then {a} {b} {c} f g =
@@ -480,57 +478,51 @@ touch-tree : (st : State) (s : ℕ) (sp : Span) (time : Float) (counted : Bool) 
 unfolding touchSpan
 touch-tree st s sp time counted = refl
 
-touch-stores : (st : State) (s : ℕ) (sp : Span) (time : Float) (counted : Bool) → touchSpan st s sp time counted .books .stores ≡ st .books .stores
+touch-stores : (st : State) (s : ℕ) (sp : Span) (time : Float) (counted : Bool) → storesOf (touchSpan st s sp time counted) ≡ storesOf st
 unfolding touchSpan
 touch-stores st s sp time counted = refl
 
 -- one span of a touch
-module _ (st : State) (s : ℕ) (sp : Span) (time : Float) (counted : Bool) (h : Sound st) (less : s < st .books .stores) (inside : SpanIn (st .tree) sp)
-    (finite : Finite time) (room : at (st .books .records) s + touchedBy st s sp time counted .need ≤ storeRecords)
-    (top : at (st .books .stamp) s + touchedBy st s sp time counted .stamps ≤ maxStamp) where
+module _ (st : State) (s : ℕ) (sp : Span) (time : Float) (counted : Bool) (h : Sound st) (less : s < storesOf st) (inside : SpanIn (st .tree) sp)
+    (finite : Finite time) (room : recordsOf st s + touchedBy st s sp time counted .need ≤ storeRecords)
+    (top : stampOf st s + touchedBy st s sp time counted .stamps ≤ maxStamp) where
   abbrev y : Store
   y = touchedBy st s sp time counted .store
 
-  touched-store : StoreSound (st .tree) (st .books .nextId) (storeOf st s)
+  touched-store : StoreSound (st .tree) (nextIdOf st) (storeOf st s)
   touched-store = store-sound st s h less
 
   fit-touched : RangesFit st s (touchedBy st s sp time counted .need) y
   fit-touched =
-      record {
-        ranges =
-            omega (
-              arith,
-              touch-length (st .tree) (st .bytes) (storeOf st s) (st .books .nextId) sp time counted touched-store inside finite
-                  (h .counts .firstId),
-              records-length st s,
-            );
-        room = room;
-        marks =
-            touch-sound (st .tree) (st .bytes) (storeOf st s) (st .books .nextId) sp time counted touched-store inside finite (h .counts .firstId)
-            (omega (arith, records-length st s)) (omega (arith, stamp-is st s)) .marks .long;
-      }
+      let x = storeOf st s in
+      let first = h .counts .firstId in
+      let need = touchedBy st s sp time counted .need in
+      ranges-fit st s need (nextIdOf st + need) y (touch-steady (st .tree) (st .bytes) x (nextIdOf st) sp time counted)
+      (omega (arith, touch-length (st .tree) (st .bytes) x (nextIdOf st) sp time counted touched-store inside finite first, records-length st s)) room
+      (touch-sound (st .tree) (st .bytes) x (nextIdOf st) sp time counted touched-store inside finite first (omega (arith, records-length st s))
+      (omega (arith, stamp-is st s)))
 
   holds-touched : (n o : ℕ) → (Holds (y .ranges) n o → Holds (storeOf st s .ranges) n o) × (Holds (storeOf st s .ranges) n o → Holds (y .ranges) n o)
   holds-touched n o =
-      touch-holds (st .tree) (st .bytes) (storeOf st s) (st .books .nextId) sp time counted touched-store inside finite (h .counts .firstId) n o
+      touch-holds (st .tree) (st .bytes) (storeOf st s) (nextIdOf st) sp time counted touched-store inside finite (h .counts .firstId) n o
 
   next-id : ℕ
-  next-id = st .books .nextId + touchedBy st s sp time counted .need
+  next-id = nextIdOf st + touchedBy st s sp time counted .need
 
   touched-own : storeOf (touchSpan st s sp time counted) s .ranges ≡ y .ranges
   unfolding touchSpan next-id
-  touched-own = laid-own st s (touchedBy st s sp time counted .need) next-id (st .books .stalls) y h less fit-touched
+  touched-own = laid-own st s (touchedBy st s sp time counted .need) next-id (stallsOf st) y h less fit-touched
 
-  touched-other : (q : ℕ) → q ≢ s → q < st .books .stores → storeOf (touchSpan st s sp time counted) q ≡ storeOf st q
+  touched-other : (q : ℕ) → q ≢ s → q < storesOf st → storeOf (touchSpan st s sp time counted) q ≡ storeOf st q
   unfolding touchSpan next-id
-  touched-other = laid-other st s (touchedBy st s sp time counted .need) next-id (st .books .stalls) y h less fit-touched
+  touched-other = laid-other st s (touchedBy st s sp time counted .need) next-id (stallsOf st) y h less fit-touched
 
-  touched-came : (q n o : ℕ) → q < st .books .stores → Dec (q ≡ s) → Holds (storeOf (touchSpan st s sp time counted) q .ranges) n o
+  touched-came : (q n o : ℕ) → q < storesOf st → Dec (q ≡ s) → Holds (storeOf (touchSpan st s sp time counted) q .ranges) n o
       → Holds (storeOf st q .ranges) n o
   touched-came q n o l (yes i) = rw (i, touched-own) (holds-touched n o .0)
   touched-came q n o l (no i) = rw (touched-other q i l) (λ z. z)
 
-  touched-kept : (q n o : ℕ) → q < st .books .stores → Dec (q ≡ s) → Holds (storeOf st q .ranges) n o
+  touched-kept : (q n o : ℕ) → q < storesOf st → Dec (q ≡ s) → Holds (storeOf st q .ranges) n o
       → Holds (storeOf (touchSpan st s sp time counted) q .ranges) n o
   touched-kept q n o l (yes i) = rw (i, touched-own) (holds-touched n o .1)
   touched-kept q n o l (no i) = rw (touched-other q i l) (λ z. z)
@@ -552,13 +544,13 @@ same-or : {L A : Type 0} (a b : State) (l l′ : L) (v : A) (n : ℕ) → (n ≡
 same-or a b l l′ v zero k = k refl
 same-or a b l l′ v (suc n) k = same-start a
 
-spans-same : (st : State) (s : ℕ) (sps : List Span) (time : Float) (counted : Bool) → Sound st → s < st .books .stores → All (SpanIn (st .tree)) sps
+spans-same : (st : State) (s : ℕ) (sps : List Span) (time : Float) (counted : Bool) → Sound st → s < storesOf st → All (SpanIn (st .tree)) sps
     → Finite time → NoneHolds (turnRefusals st s sps time counted) → SameBlocks st (touchSpans st s sps time counted)
 unfolding touchSpans All
 spans-same st s [] time counted h less inside finite none = same-start st
 spans-same st s (sp ∷ sps) time counted h less inside finite none =
     let late = neither (none .1 .0) in
-    let room : at (st .books .records) s + touchedBy st s sp time counted .need ≤ storeRecords = omega (arith, none .0) in
+    let room : recordsOf st s + touchedBy st s sp time counted .need ≤ storeRecords = omega (arith, none .0) in
     same-then (touched-same st s sp time counted h less (inside .0) finite room (late .0))
     (spans-same (touchSpan st s sp time counted) s sps time counted
     (touchSpan-sound st s h less sp time counted (inside .0) finite room (late .0) (late .1)) (rw (touch-stores st s sp time counted) less)
@@ -588,21 +580,57 @@ module _ (a : State) (s : ℕ) (sps : List Span) (time : Float) (counted : Bool)
 
 -- ---- pins: no range moves
 
-pins-same : (a : State) (s need : ℕ) (x : Store) → SameBlocks a (withPins s need x a)
-unfolding withPins storeOf
-pins-same a s need x = record { tree = refl; stores = refl; came = λ q n o l z. z; kept = λ q n o l z. z }
+module _ (a : State) (s need : ℕ) (x : Store) (sound : Sound a) (less : s < storesOf a) (same : x .book .records ≡ recordsOf a s) where
+  pins-records : (q : ℕ) → recordsOf (withPins s need x a) q ≡ recordsOf a q
+  unfolding withPins
+  pins-records q = go (ℕ-discrete q s)
+    where
+      roomy : Roomy a s
+      roomy = sound-roomy a s sound less
 
-module _ (a : State) (s : ℕ) (sp : Span) (h : History) (exact : Exact a h) where
+      go : Dec (q ≡ s) → recordsOf (withPins s need x a) q ≡ recordsOf a q
+      go (yes e) = rw e (ap (λ (b : Book). b .records) (book-read s (a .books) (roomy .store) (roomy .books) (x .book)) ∙ same)
+      go (no other) = ap (λ (b : Book). b .records) (book-other s (a .books) (roomy .store) (roomy .books) (x .book) q other)
+
+  pins-ranges : (q : ℕ) → storeOf (withPins s need x a) q .ranges ≡ storeOf a q .ranges
+  unfolding withPins storeOf
+  pins-ranges q = ap (ranges (a .ranges) (storeRecords * q)) (pins-records q)
+
+  pins-same : SameBlocks a (withPins s need x a)
+  unfolding withPins layBook
+  pins-same =
+      record {
+        tree = refl;
+        stores = refl;
+        came = λ q n o l z. rw (pins-ranges q) at z;
+        kept = λ q n o l z. rw (pins-ranges q) z;
+      }
+
+-- the records of a store whose pins alone moved
+unmoved-records : (a : State) (s : ℕ) (ps : List Pin) → repinned (storeOf a s) ps .book .records ≡ recordsOf a s
+unfolding storeOf
+unmoved-records a s ps = refl
+
+module _ (a : State) (s : ℕ) (sp : Span) (h : History) (sound : Sound a) (exact : Exact a h) where
+  pin-there : NoneHolds (pinRefusals a s sp) → s < storesOf a
+  pin-there (unsound, (noStore, rest)) = omega arith
+
+  unpin-there : NoneHolds (unpinRefusals a s sp) → s < storesOf a
+  unpin-there (unsound, (noStore, rest)) = omega arith
+
   pinned-same : SameBlocks a (Calls.pinSource a s sp .state)
-  unfolding Calls.pinSource
+  unfolding Calls.pinSource pin
   pinned-same =
       same-or a (withPins s (pinNeed (storeOf a s) sp) (pin (storeOf a s) sp) a) _ _ _ (firstOf (pinRefusals a s sp))
-      (λ e. pins-same a s (pinNeed (storeOf a s) sp) (pin (storeOf a s) sp))
+      (λ e. pins-same a s (pinNeed (storeOf a s) sp) (pin (storeOf a s) sp) sound (pin-there (none-where _ _ _ (pin-kept a s sp) e))
+      (unmoved-records a s (addPin (pinOf sp 1) (storeOf a s .pins))))
 
   unpinned-same : SameBlocks a (Calls.unpinSource a s sp .state)
-  unfolding Calls.unpinSource
+  unfolding Calls.unpinSource unpin
   unpinned-same =
-      same-or a (withPins s 0 (unpin (storeOf a s) sp) a) _ _ _ (firstOf (unpinRefusals a s sp)) (λ e. pins-same a s 0 (unpin (storeOf a s) sp))
+      same-or a (withPins s 0 (unpin (storeOf a s) sp) a) _ _ _ (firstOf (unpinRefusals a s sp))
+      (λ e. pins-same a s 0 (unpin (storeOf a s) sp) sound (unpin-there (none-where _ _ _ (unpin-kept a s sp) e))
+      (unmoved-records a s (takePin (pinOf sp 1) (storeOf a s .pins))))
 
   pub pin-exact : Exact (Calls.pinSource a s sp .state) (next (pinSource s sp) a h)
   unfolding BroughtIn Gone

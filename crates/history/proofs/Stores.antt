@@ -45,7 +45,7 @@ pub record Filled (x : Store) (sp : Span) (w : Brought) (n o : ℕ) : Type 0 whe
 module _ (t : Tree) (table : List ℕ) (next : ℕ) (x : Store) (sp : Span) (time : Float) (write : ℕ) (h : StoreSound t next x) (i : SpanIn t sp)
     (f : Finite time) (first : 1 ≤ next) (n o : ℕ) where
   -- "the whole span is given out at once"
-  given-back : x .capacity ≡ 0 → Filled x sp (giveBack t table x sp write) n o
+  given-back : x .book .capacity ≡ 0 → Filled x sp (giveBack t table x sp write) n o
   unfolding giveBack InOuts
   given-back e =
       let empty : Holds (x .ranges) n o → ⊥ = none-held t (x .ranges) (h .ranges .inside) (sym (h .held) ∙ h .heldNone e) n o in
@@ -58,16 +58,16 @@ module _ (t : Tree) (table : List ℕ) (next : ℕ) (x : Store) (sp : Span) (tim
       }
 
   abbrev filled : List Range
-  filled = fill (sp .node) (gaps (sp .node) (x .ranges) (sp .start) (sp .end)) (x .stamp) next time write (x .ranges)
+  filled = fill (sp .node) (gaps (sp .node) (x .ranges) (sp .start) (sp .end)) (x .book .stamp) next time write (x .ranges)
 
   filled-came : Holds filled n o → Holds (x .ranges) n o ⊎ InSpan sp n o
   filled-came y =
       ⊎-elim
       (λ a. let b = gap-within (sp .node) (sp .end) (x .ranges) (sp .start) o (a .1) in inr (record { node = a .0; low = b .0; high = b .1 }))
-      (λ a. inl a) (fill-holds (sp .node) time write (gaps (sp .node) (x .ranges) (sp .start) (sp .end)) (x .stamp) next (x .ranges) n o y)
+      (λ a. inl a) (fill-holds (sp .node) time write (gaps (sp .node) (x .ranges) (sp .start) (sp .end)) (x .book .stamp) next (x .ranges) n o y)
 
   filled-kept : Holds (x .ranges) n o ⊎ InSpan sp n o → Holds filled n o
-  filled-kept y = holds-fill (sp .node) time write (gaps (sp .node) (x .ranges) (sp .start) (sp .end)) (x .stamp) next (x .ranges) n o (go y)
+  filled-kept y = holds-fill (sp .node) time write (gaps (sp .node) (x .ranges) (sp .start) (sp .end)) (x .book .stamp) next (x .ranges) n o (go y)
     where
       go : Holds (x .ranges) n o ⊎ InSpan sp n o → ((n ≡ sp .node) × InGaps (gaps (sp .node) (x .ranges) (sp .start) (sp .end)) o) ⊎ Holds (x .ranges) n o
       go (inl a) = inr a
@@ -80,12 +80,12 @@ module _ (t : Tree) (table : List ℕ) (next : ℕ) (x : Store) (sp : Span) (tim
   unfolding keep trim
   trimmed =
       let sound =
-      fill-sound (sp .node) time write t (sp .end) (i .node) (i .ends) f (gaps (sp .node) (x .ranges) (sp .start) (sp .end)) (sp .start) (x .stamp) next
+      fill-sound (sp .node) time write t (sp .end) (i .node) (i .ends) f (gaps (sp .node) (x .ranges) (sp .start) (sp .end)) (sp .start) (x .book .stamp) next
       (x .ranges) (gaps-rising t (sp .node) (sp .end) (x .ranges) (sp .start) (h .ranges .inside))
       (gaps-clear t (sp .node) (sp .end) (x .ranges) (sp .start) (h .ranges .inside) (h .ranges .sorted)) first (h .ranges)
       in
       let k =
-      trim-split t table asked (x .pins) (length filled) (total filled - x .capacity) (chosen (x .pins) (total filled - x .capacity) filled) filled
+      trim-split t table asked (x .pins) (length filled) (total filled - x .book .capacity) (chosen (x .pins) (total filled - x .book .capacity) filled) filled
       (x .marks) sound refl n o
       in
       record {

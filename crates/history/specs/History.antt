@@ -6,7 +6,7 @@ use mathlib.Core.Path.{_≡_}
 use mathlib.Core.List.{List, [], _∷_}
 use lib.Ieee.{Float}
 use Rattle.model.specs.declared.Span.{Span}
-use Rattle.model.specs.State.{State, Range, at}
+use Rattle.model.specs.State.{State, Range, at, heldOf}
 use Rattle.model.specs.Store.{Store, storeOf, total}
 use Rattle.model.specs.Refusals.{PathList, OutList}
 use Rattle.model.specs.Calls as Calls
@@ -125,6 +125,20 @@ unfolding after
 run st [] = st
 run st (c ∷ cs) = run (after c st) cs
 
+-- A call may be a sequence of steps, each judged in turn on what the earlier ones left: one step for each call above, several for a batch or a job
+abbrev pub Steps : Type 0
+Steps = List Call
+
+unfoldable pub runAll : State → List Steps → State
+unfolding run
+runAll st [] = st
+runAll st (c ∷ cs) = runAll (run st c) cs
+
+unfoldable pub sinceAll : History → State → List Steps → History
+unfolding since run
+sinceAll h st [] = h
+sinceAll h st (c ∷ cs) = sinceAll (since h st c) (run st c) cs
+
 -- before the first call nothing has been brought in
 abbrev pub nothing : History
 nothing q w = ⊥
@@ -137,7 +151,7 @@ number rs = total rs
 -- have two names, so that the named blocks are as many
 pub record Exactly (st : State) (h : History) (q : ℕ) : Type 0 where
   pub sorted : Sorted (storeOf st q .ranges)
-  pub held : at (st .books .held) q ≡ number (storeOf st q .ranges)
+  pub held : heldOf st q ≡ number (storeOf st q .ranges)
   pub named :
       (n o m p : ℕ) → Holds (storeOf st q .ranges) n o → Holds (storeOf st q .ranges) m p → nameOf (st .tree) n o ≡ nameOf (st .tree) m p
       → (n ≡ m) × (o ≡ p)

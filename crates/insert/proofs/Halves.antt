@@ -1,187 +1,161 @@
--- What the cut of a store's ranges and the cut of its marks leave is the first step of the store's cut: the marks look at the ranges as they were laid.
-use mathlib.Core.Path.{_≡_, refl, sym, ap, ap₂, _∙_}
-use mathlib.Core.Bool.{Bool, true}
-use mathlib.Core.List.{List, [], _∷_, _++_}
-use Prim.Native.Nat.{ℕ, zero, suc, _+_, _-_, _*_, _≤_, _<_, zero-le}
+-- What the cut of a store's ranges and the cut of its marks leave, for the marks look at the ranges as they were laid; and with the cut of its pin
+-- entries and its numbers written it is the cut of the store in the state. Assumes nothing.
+use mathlib.Core.Path.{_≡_, sym, ap, ap₂, subst, _∙_}
+use mathlib.Core.List.{List, []}
+use Prim.Native.Nat.{ℕ, _+_, _*_, _≤_, _<_}
 use native.Mathlib.Omega.{arith}
-use lib.ListN.{length, getD, take, drop, set}
-use lib.Seq.{set-getD}
-use Rattle.model.specs.Sizes.{storeRecords, storeMarks}
-use Rattle.model.specs.State.{Tree, Ranges, Pins, Range, Books, State, at}
-use Rattle.model.specs.Sound.{RangesLent}
-use Rattle.model.specs.Store.{Store, lay, ranges, layRanges, pins, layPins, storeOf, withRanges, withPins, withNext}
-use Rattle.model.specs.Insert.{heads, tails, rangesAcross, cutMarks, cutPins, pinsAcross, cutStore, cutStoreIn}
+use native.Mathlib.Nat.{le-refl}
+use lib.ListN.{length, take, drop, length-drop}
+use Rattle.model.specs.declared.Book.{Book}
+use Rattle.model.specs.Sizes.{maxStores, maxNumbers, maxPinned, storeNumbers}
+use Rattle.model.specs.State.{Tree, Ranges, Pins, Range, Pin, State, at, whole, nextIdIn, stallsIn, partsIn, numbers, bookIn}
+use Rattle.model.specs.Sound.{PinsLent}
+use Rattle.model.specs.Store.{Store, lay, ranges, layRanges, pins, layPins, layBook, layNext, changed, storeOf, withRanges, withPins, withNext}
+use Rattle.model.specs.Insert.{rangesAcross, cutMarks, cutPins, pinsAcross, cutStore, rangesFrom, cutStoreIn}
 use Rattle.model.specs.Pins.{pinnedIn}
-use Rattle.lent.specs.declared.Small.{Small}
-use Rattle.lent.specs.Lent.{booksOf, stateOf}
+use Rattle.lent.specs.Lent.{stateOf}
+use Rattle.laid.proofs.Books.{book-read}
+use Rattle.laid.proofs.Lay.{lay-lay}
 use Rattle.laid.proofs.Pools.{ranges-in}
 use Rattle.laid.proofs.Rows.{ranges-length}
-use Rattle.keptcut.proofs.CutStore.{cutStore-length, cutStore-pinned}
-use Rattle.insert.specs.Halves.{rangesCut, RangesRoom, pinsCut, PinsRoom}
+use Rattle.kept.specs.Facts.{All}
+use Rattle.keptcut.proofs.CutStore.{cutLast, cut-last, cutStore-length, cutStore-pinned}
+use Rattle.cutpins.specs.Entries.{counts}
+use Rattle.cutting.specs.declared.After.{After}
+use Rattle.insert.specs.Halves.{halves, cutBook, RangesRoom, RangesCut, StoreRoom}
 
--- the ranges of a store after the cut
-abbrev cutOf : ℕ → ℕ → ℕ → ℕ → List Range → List Range
-cutOf j k m next rs = heads j k rs ++ tails j k m next rs
+-- ---- the ranges and the marks
 
--- the small numbers with this count of records of store s and this next id
-abbrev pub counted : ℕ → ℕ → ℕ → Small → Small
-counted s n next x =
+-- a store of these ranges, whatever its numbers
+abbrev storeWith : List Range → Store
+storeWith rs =
     record {
-      nodes = x .nodes;
-      used = x .used;
-      stores = x .stores;
-      next = next;
-      stalls = x .stalls;
-      capacity = x .capacity;
-      refreshes = x .refreshes;
-      records = set (x .records) s n;
-      held = x .held;
-      stamp = x .stamp;
-      version = x .version;
-      entries = x .entries;
-      pinned = x .pinned;
+      book = record { capacity = 0; policy = 0; records = 0; held = 0; stamp = 0; version = 0; entries = 0; pinned = 0 };
+      ranges = rs;
+      pins = [];
+      marks = [];
     }
 
-cut-long : (j k m next a n : ℕ) (c : Ranges) → length (cutOf j k m next (ranges c a n)) ≡ n + rangesAcross j k (ranges c a n)
-unfolding cutStore
-cut-long j k m next a n c =
-    cutStore-length j k m next
-    (record { capacity = 0; refreshes = true; held = 0; stamp = 0; version = 0; pinned = 0; ranges = ranges c a n; pins = []; marks = [] })
-    ∙ ap (λ z. z + rangesAcross j k (ranges c a n)) (ranges-length c a n)
+cut-long : (j k m next : ℕ) (rs : List Range) → All (λ r. r .node < m) rs → length (halves j k m next rs) ≡ length rs + rangesAcross j k rs
+cut-long j k m next rs below =
+    sym (ap (λ (y : Store). length (y .ranges)) (cut-last j k m next (storeWith rs) below)) ∙ cutStore-length j k m next (storeWith rs) below
 
-module _ (j k m s : ℕ) (c : Ranges) (marks : List ℕ) (x : Small) (room : RangesRoom j k m s c marks x) where
-  pub half-is : (c′ : Ranges) (marks′ : List ℕ) (n next : ℕ)
-      → c′ ≡ layRanges (128 * s) (at (x .records) s + rangesAcross j k (ranges c (128 * s) (at (x .records) s))) (cutOf j k m (x .next) (ranges c (128 * s) (at (x .records) s))) c
-      → n ≡ at (x .records) s + rangesAcross j k (ranges c (128 * s) (at (x .records) s))
-      → next ≡ x .next + rangesAcross j k (ranges c (128 * s) (at (x .records) s))
-      → marks′ ≡ lay 0 (256 * s) 256 (cutMarks j k m (ranges c′ (128 * s) n) (take 256 (drop (256 * s) marks))) marks
-      → (t : Tree) (p : Pins) (bytes : List ℕ)
-      → stateOf t c′ p marks′ bytes (counted s n next x) ≡ rangesCut j k m s (stateOf t c p marks bytes x)
-  unfolding rangesCut withRanges withNext storeOf cutStore
-  half-is c′ marks′ n next a b d f t p bytes =
-      λ i.
-      record {
-        tree = t;
-        ranges = a i;
-        pins = p;
-        marks = (f ∙ ap (λ z. lay 0 (256 * s) 256 (cutMarks j k m z (take 256 (drop (256 * s) marks))) marks) read) i;
-        bytes = bytes;
-        books = record {
-          stores = x .stores;
-          nextId = d i;
-          stalls = x .stalls;
-          capacity = x .capacity;
-          refreshes = x .refreshes;
-          records = set (x .records) s (long i);
-          held = sym (set-getD (x .held) s 0) i;
-          stamp = sym (set-getD (x .stamp) s 0) i;
-          version = sym (set-getD (x .version) s 0) i;
-          entries = x .entries;
-          pinned = x .pinned;
-        };
-      }
-    where
-      rs : List Range
-      rs = cutOf j k m (x .next) (ranges c (128 * s) (at (x .records) s))
-
-      long : n ≡ length rs
-      long = b ∙ sym (cut-long j k m (x .next) (128 * s) (at (x .records) s) c)
-
-      read : ranges c′ (128 * s) n ≡ rs
-      read =
-          ap₂ (λ u v. ranges u (128 * s) v) a long
-          ∙ ranges-in (128 * s) (at (x .records) s + rangesAcross j k (ranges c (128 * s) (at (x .records) s))) rs c (room .lent) (omega (arith, long)) (omega (arith, room .records, room .store))
-
--- ---- the pin entries
-
--- the small numbers with this count of pin entries of store s
-abbrev pub pinnedBy : ℕ → ℕ → Small → Small
-pinnedBy s n x =
+pub half-is : (j k m s n next : ℕ) (c : Ranges) (ms : List ℕ) → RangesRoom j k m s n next c ms → (c′ : Ranges) (ms′ : List ℕ) (r : After)
+    → c′ ≡ layRanges (128 * s) (n + rangesAcross j k (ranges c (128 * s) n)) (halves j k m next (ranges c (128 * s) n)) c
+    → r .n ≡ n + rangesAcross j k (ranges c (128 * s) n)
+    → r .next ≡ next + rangesAcross j k (ranges c (128 * s) n)
+    → ms′ ≡ lay 0 (256 * s) 256 (cutMarks j k m (ranges c′ (128 * s) (r .n)) (take 256 (drop (256 * s) ms))) ms
+    → RangesCut j k m s n next c ms c′ ms′ r
+half-is j k m s n next c ms room c′ ms′ r a b d f =
     record {
-      nodes = x .nodes;
-      used = x .used;
-      stores = x .stores;
-      next = x .next;
-      stalls = x .stalls;
-      capacity = x .capacity;
-      refreshes = x .refreshes;
-      records = x .records;
-      held = x .held;
-      stamp = x .stamp;
-      version = x .version;
-      entries = set (x .entries) s n;
-      pinned = x .pinned;
+      laid = a;
+      marks = f ∙ ap (λ (rs : List Range). lay 0 (256 * s) 256 (cutMarks j k m rs (take 256 (drop (256 * s) ms))) ms) read;
+      count = long;
+      ids = d;
     }
+  where
+    long : r .n ≡ length (halves j k m next (ranges c (128 * s) n))
+    long =
+        b
+        ∙ sym (cut-long j k m next (ranges c (128 * s) n) (room .below) ∙ ap (λ (z : ℕ). z + rangesAcross j k (ranges c (128 * s) n)) (ranges-length c (128 * s) n))
+
+    read : ranges c′ (128 * s) (r .n) ≡ halves j k m next (ranges c (128 * s) n)
+    read =
+        ap₂ (λ (u : Ranges) (v : ℕ). ranges u (128 * s) v) a long
+        ∙ ranges-in (128 * s) (n + rangesAcross j k (ranges c (128 * s) n)) (halves j k m next (ranges c (128 * s) n)) c (room .lent)
+        (omega (arith, long)) (omega (arith, room .records, room .store))
+
+-- ---- the numbers
+
+-- a store's numbers laid twice
+book-twice : (s : ℕ) (l : List ℕ) → s < maxStores → maxNumbers ≤ length l → (a b : Book) → layBook s b (layBook s a l) ≡ layBook s b l
+unfolding layBook
+book-twice s l less long a b =
+    ap (λ (xs : List ℕ). whole (at l 0) (at l 1) (at l 2) (at l 3) (at l 4) xs)
+    (lay-lay 0 (storeNumbers * s) storeNumbers storeNumbers (numbers a) (numbers b) (partsIn l) (le-refl storeNumbers) (le-refl storeNumbers)
+    (rw length-drop (omega arith)))
+
+pub books-are : (s : ℕ) (b : Book) (r : After) (entries : ℕ) (l l₁ l₂ : List ℕ) → l₁ ≡ layBook s (cutBook b (r .n) entries) l
+    → l₂ ≡ layNext (r .next) (stallsIn l) l₁ → l₂ ≡ layNext (r .next) (stallsIn l) (layBook s (cutBook b (r .n) entries) l)
+books-are s b r entries l l₁ l₂ e f = f ∙ ap (λ (i : List ℕ). layNext (r .next) (stallsIn l) i) e
 
 same-pinned : (j k m next : ℕ) (x : Store) → pinnedIn (cutPins j k m (x .pins)) ≡ pinnedIn (x .pins)
 unfolding cutStore
 same-pinned j k m next x = cutStore-pinned j k m next x
 
-module _ (j k m s : ℕ) (p : Pins) (x : Small) (room : PinsRoom j k s p (booksOf x)) where
-  pub pins-half-is : (p′ : Pins) (n : ℕ)
-      → p′ ≡ layPins (32 * s) (at (x .entries) s + pinsAcross j k (pins p (32 * s) (at (x .entries) s))) (cutPins j k m (pins p (32 * s) (at (x .entries) s))) p
-      → n ≡ length (cutPins j k m (pins p (32 * s) (at (x .entries) s))) → (t : Tree) (c : Ranges) (marks bytes : List ℕ)
-      → stateOf t c p′ marks bytes (pinnedBy s n x) ≡ pinsCut j k m s (stateOf t c p marks bytes x)
-  unfolding pinsCut withPins storeOf cutStore
-  pins-half-is p′ n a b t c marks bytes =
-      λ i.
-      record {
-        tree = t;
-        ranges = c;
-        pins = a i;
-        marks = marks;
-        bytes = bytes;
-        books = record {
-          stores = x .stores;
-          nextId = x .next;
-          stalls = x .stalls;
-          capacity = x .capacity;
-          refreshes = x .refreshes;
-          records = x .records;
-          held = x .held;
-          stamp = x .stamp;
-          version = x .version;
-          entries = set (x .entries) s (b i);
-          pinned = still i;
-        };
-      }
+-- ---- the store
+
+module _ (j k m s : ℕ) (c : Ranges) (p : Pins) (ms l : List ℕ) (room : StoreRoom j k m s c p ms l) where
+  -- b is the store's numbers: what is left makes the state with the store cut
+  abbrev pub Makes : Ranges → Pins → List ℕ → List ℕ → After → ℕ → Book → Type 0
+  Makes c′ p′ ms′ l′ r entries b =
+      RangesCut j k m s (b .records) (nextIdIn l) c ms c′ ms′ r
+      → p′ ≡ layPins (32 * s) (b .entries + pinsAcross j k (pins p (32 * s) (b .entries))) (cutPins j k m (pins p (32 * s) (b .entries))) p
+      → entries ≡ length (cutPins j k m (pins p (32 * s) (b .entries)))
+      → l′ ≡ layNext (r .next) (stallsIn l) (layBook s (cutBook b (r .n) entries) l)
+      → (t : Tree) (bytes : List ℕ) → stateOf t c′ p′ ms′ bytes l′ ≡ cutStoreIn j k m s (stateOf t c p ms bytes l)
+
+  makes : (c′ : Ranges) (p′ : Pins) (ms′ l′ : List ℕ) (r : After) (entries : ℕ) → Makes c′ p′ ms′ l′ r entries (bookIn l s)
+  unfolding cutStoreIn withNext withPins withRanges storeOf
+  makes c′ p′ ms′ l′ r entries h q e g t bytes = left ∙ ap put (sym (cut-last j k m (nextIdIn l) x (room .half .below)))
     where
-      still : x .pinned ≡ set (x .pinned) s (pinnedIn (cutPins j k m (pins p (32 * s) (at (x .entries) s))))
-      still =
-          sym (set-getD (x .pinned) s 0)
-          ∙ ap (λ z. set (x .pinned) s z) (room .pinned ∙ sym (same-pinned j k m 0 (storeOf (stateOf t c p marks bytes x) s)))
+      st : State
+      st = stateOf t c p ms bytes l
 
--- ---- both
+      x : Store
+      x = storeOf (stateOf t c p ms bytes l) s
 
-pub both-halves : (j k m s : ℕ) (st : State) → pinsCut j k m s (rangesCut j k m s st) ≡ cutStoreIn j k m s st
-unfolding pinsCut rangesCut cutStoreIn withPins withRanges withNext storeOf cutStore
-both-halves j k m s st = refl
+      b : Book
+      b = bookIn l s
 
-pub store-is : (j k m s : ℕ) (st st₁ st₂ : State) → st₁ ≡ rangesCut j k m s st → st₂ ≡ pinsCut j k m s st₁ → st₂ ≡ cutStoreIn j k m s st
-store-is j k m s st st₁ st₂ a b = b ∙ ap (pinsCut j k m s) a ∙ both-halves j k m s st
+      new : ℕ
+      new = rangesAcross j k (ranges c (128 * s) (bookIn l s .records))
 
--- the first leaves the pins' numbers
-same-entries : (j k m s : ℕ) (st : State) → rangesCut j k m s st .books .entries ≡ st .books .entries
-unfolding rangesCut withNext withRanges
-same-entries j k m s st = refl
+      ps : List Pin
+      ps = cutPins j k m (pins p (32 * s) (bookIn l s .entries))
 
-same-pins : (j k m s : ℕ) (st : State) → rangesCut j k m s st .books .pinned ≡ st .books .pinned
-unfolding rangesCut withNext withRanges
-same-pins j k m s st = refl
+      put : Store → State
+      put y =
+          withNext (nextIdIn l + new) (stallsIn l) (withPins s (pinsAcross j k (pins p (32 * s) (b .entries))) y (withRanges s new (rangesFrom y x) st))
 
-pub pins-room-after : (j k m s : ℕ) (p : Pins) (x y : Small) (st st′ : State) → PinsRoom j k s p (booksOf x) → st .books ≡ booksOf x → st′ .books ≡ booksOf y
-    → st′ ≡ rangesCut j k m s st → PinsRoom j k s p (booksOf y)
-pins-room-after j k m s p x y st st′ room a b e =
-    record {
-      store = room .store;
-      entries = rw (← entries) (room .entries);
-      counts = rw (← entries) (room .counts);
-      pinned = rw (← entries, ← pinned) (room .pinned);
-      lent = room .lent;
-    }
-  where
-    entries : x .entries ≡ y .entries
-    entries = sym (ap (λ z. z .entries) a) ∙ sym (same-entries j k m s st) ∙ sym (ap (λ z. z .books .entries) e) ∙ ap (λ z. z .entries) b
+      -- the numbers with the ranges' half alone
+      first : Book
+      first = rangesFrom (cutLast j k m (nextIdIn l) x) x .book
 
-    pinned : x .pinned ≡ y .pinned
-    pinned = sym (ap (λ z. z .pinned) a) ∙ sym (same-pins j k m s st) ∙ sym (ap (λ z. z .books .pinned) e) ∙ ap (λ z. z .pinned) b
+      laid-pins : p′ ≡ layPins (32 * s) (bookIn (layBook s first l) s .entries + pinsAcross j k (pins p (32 * s) (b .entries))) ps p
+      laid-pins =
+          q
+          ∙ ap (λ (d : Book). layPins (32 * s) (d .entries + pinsAcross j k (pins p (32 * s) (b .entries))) ps p)
+          (sym (book-read s l (room .half .store) (room .books) first))
+
+      still : b .pinned ≡ pinnedIn ps
+      still = room .pinned ∙ sym (same-pinned j k m 0 x)
+
+      written : layNext (r .next) (stallsIn l) (layBook s (cutBook b (r .n) entries) l)
+          ≡ layNext (nextIdIn l + new) (stallsIn l) (layBook s (cutLast j k m (nextIdIn l) x .book) l)
+      written = λ i. layNext (h .ids i) (stallsIn l) (layBook s (changed b (h .count i) (b .held) (b .stamp) (b .version) (e i) (still i)) l)
+
+      laid-books : l′ ≡ layNext (nextIdIn l + new) (stallsIn l) (layBook s (cutLast j k m (nextIdIn l) x .book) (layBook s first l))
+      laid-books =
+          g
+          ∙ written
+          ∙ ap (λ (i : List ℕ). layNext (nextIdIn l + new) (stallsIn l) i)
+          (sym (book-twice s l (room .half .store) (room .books) first (cutLast j k m (nextIdIn l) x .book)))
+
+      left : stateOf t c′ p′ ms′ bytes l′ ≡ put (cutLast j k m (nextIdIn l) x)
+      left = λ i. record { tree = t; ranges = h .laid i; pins = laid-pins i; marks = h .marks i; bytes = bytes; books = laid-books i }
+
+  module _ (b : Book) (is : b ≡ bookIn l s) where
+    pub range-asks : RangesRoom j k m s (b .records) (nextIdIn l) c ms
+    range-asks = subst (λ (d : Book). RangesRoom j k m s (d .records) (nextIdIn l) c ms) (sym is) (room .half)
+
+    pub pin-asks : (s < 8) × (b .entries + pinsAcross j k (pins p (32 * s) (b .entries)) ≤ 32) × (counts (pins p (32 * s) (b .entries)) ≤ maxPinned) × PinsLent p
+    pin-asks = (
+      room .half .store,
+      subst (λ (d : Book). d .entries + pinsAcross j k (pins p (32 * s) (d .entries)) ≤ 32) (sym is) (room .entries),
+      subst (λ (d : Book). counts (pins p (32 * s) (d .entries)) ≤ maxPinned) (sym is) (room .few),
+      room .lent,
+    )
+
+    pub store-is : (c′ : Ranges) (p′ : Pins) (ms′ l′ : List ℕ) (r : After) (entries : ℕ) → Makes c′ p′ ms′ l′ r entries b
+    store-is c′ p′ ms′ l′ r entries = subst (λ (d : Book). Makes c′ p′ ms′ l′ r entries d) (sym is) (makes c′ p′ ms′ l′ r entries)

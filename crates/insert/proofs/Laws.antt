@@ -1,17 +1,17 @@
 -- A path copied element by element; and the number of the first condition of an insert that holds, from the tests that the code makes.
 use mathlib.Core.Path.{_≡_, refl, sym, ap, ap₂, subst, _∙_}
 use mathlib.Core.Bool.{Bool, true, false, not, _&&_, _||_}
-use mathlib.Core.List.{List, [], _∷_, _++_}
+use mathlib.Core.List.{List}
 use Prim.Native.Nat.{ℕ, zero, suc, _+_, _-_, _*_, _≤_, _<_, zero-le}
 use native.Mathlib.Numerals.{add-one}
 use native.Mathlib.Omega.{arith}
-use borrow.Author.Tests.{lt-ltb, le-ltb, ltb-true, ltb-false}
+use borrow.Author.Tests.{lt-ltb, le-ltb}
 use lib.Dec.{ltb}
-use lib.ListN.{length, getD, take, drop, set, length-set}
+use lib.ListN.{length, getD, take, set, length-set}
 use lib.Seq.{take-suc, length-take-le}
-use Rattle.model.specs.Words.{Each, any}
-use Rattle.model.specs.Sizes.{maxNodes, maxWords, maxStamp, storeRecords, storePins}
-use Rattle.model.specs.State.{Ranges, Pins, Books, State, at}
+use Rattle.model.specs.Words.{any}
+use Rattle.model.specs.Sizes.{maxNodes, maxWords, maxStores, maxStamp, storeRecords, storePins}
+use Rattle.model.specs.State.{Ranges, Pins, State, at, nodesIn, usedIn, storesIn, nextIdIn, bookIn, storesOf, nextIdOf, recordsOf, entriesOf}
 use Rattle.model.specs.Sound.{Sound}
 use Rattle.model.specs.Tree.{Seg, resolve, blocks}
 use Rattle.model.specs.Store.{storeOf, ranges, pins, plus}
@@ -19,15 +19,14 @@ use Rattle.model.specs.Insert.{matchEnd, adds, endsInside, rangesAcross, pinsAc
 use Rattle.model.specs.Refusals.{nodeNeed, newBlocks, cuts, cutRecords, cutEntries, cutIds}
 use Rattle.model.specs.Calls.{front}
 use Rattle.lent.specs.declared.Small.{Small}
-use Rattle.lent.specs.Lent.{booksOf}
 use Rattle.tree.specs.declared.Match.{Match}
-use Rattle.tree.specs.Walk.{matchOf}
+use Rattle.books.proofs.Laws.{number-at}
 use Rattle.grow.proofs.Laws.{Done, done-turn}
 use Rattle.cutstore.specs.Needs.{overfull, overpinned, idsBelow}
 use Rattle.keptstate.proofs.Cut.{records-counted, entries-counted}
 use Rattle.keptstate.proofs.Parts.{sound-parts}
 use Rattle.keptcut.proofs.Insert.{match-end}
-use Rattle.insert.specs.Refusal.{insertRefusal, pick, cutRefusal, Seen, Shown}
+use Rattle.insert.specs.Refusal.{eighths, recordsIn, entriesIn, insertRefusal, pick, cutRefusal, Seen, Shown}
 
 -- ---- the copy
 
@@ -59,6 +58,28 @@ copy-end n src l c i w h =
     let e : i ≡ n = omega (arith, w .most) in
     rw (length-take-le n src (w .from), ← e) (w .done .is)
 
+-- ---- each store's counts
+
+-- number i of every store stands at every eighth place
+eighth-at : (i : ℕ) (l : List ℕ) (s : ℕ) → s < maxStores → at (eighths (5 + i) l) s ≡ at l (5 + 8 * s + i)
+eighth-at i l zero h = ap (λ (k : ℕ). at l k) (omega arith)
+eighth-at i l (suc zero) h = ap (λ (k : ℕ). at l k) (omega arith)
+eighth-at i l (suc (suc zero)) h = ap (λ (k : ℕ). at l k) (omega arith)
+eighth-at i l (suc (suc (suc zero))) h = ap (λ (k : ℕ). at l k) (omega arith)
+eighth-at i l (suc (suc (suc (suc zero)))) h = ap (λ (k : ℕ). at l k) (omega arith)
+eighth-at i l (suc (suc (suc (suc (suc zero))))) h = ap (λ (k : ℕ). at l k) (omega arith)
+eighth-at i l (suc (suc (suc (suc (suc (suc zero)))))) h = ap (λ (k : ℕ). at l k) (omega arith)
+eighth-at i l (suc (suc (suc (suc (suc (suc (suc zero))))))) h = ap (λ (k : ℕ). at l k) (omega arith)
+eighth-at i l (suc (suc (suc (suc (suc (suc (suc (suc s)))))))) h = absurd (omega arith)
+
+pub records-at : (l : List ℕ) (s : ℕ) → s < maxStores → at (recordsIn l) s ≡ bookIn l s .records
+unfolding bookIn
+records-at l s h = eighth-at 2 l s h ∙ sym (number-at l s 2 (omega arith))
+
+entries-at : (l : List ℕ) (s : ℕ) → s < maxStores → at (entriesIn l) s ≡ bookIn l s .entries
+unfolding bookIn
+entries-at l s h = eighth-at 6 l s h ∙ sym (number-at l s 6 (omega arith))
+
 -- ---- the conditions
 
 any-none : (n : ℕ) (t : ℕ → Bool) → ((s : ℕ) → s < n → t s ≡ false) → any n t ≡ false
@@ -79,18 +100,18 @@ five false false c d e = pick c d e
 
 module _ (st : State) (hs : List ℕ) where
   abbrev recordsOver : ℕ → Bool
-  recordsOver s = ltb storeRecords (at (st .books .records) s + cutRecords st hs s)
+  recordsOver s = ltb storeRecords (recordsOf st s + cutRecords st hs s)
 
   abbrev entriesOver : ℕ → Bool
-  entriesOver s = ltb storePins (at (st .books .entries) s + cutEntries st hs s)
+  entriesOver s = ltb storePins (entriesOf st s + cutEntries st hs s)
 
   first-is : insertRefusal st hs
-      ≡ five (ltb maxNodes (st .tree .nodes + nodeNeed st hs)) (ltb maxWords (st .tree .used + newBlocks st hs)) (any (st .books .stores) recordsOver)
-      (any (st .books .stores) entriesOver) (ltb maxStamp (st .books .nextId + cutIds st hs (st .books .stores)))
+      ≡ five (ltb maxNodes (st .tree .nodes + nodeNeed st hs)) (ltb maxWords (st .tree .used + newBlocks st hs)) (any (storesOf st) recordsOver)
+      (any (storesOf st) entriesOver) (ltb maxStamp (nextIdOf st + cutIds st hs (storesOf st)))
   unfolding insertRefusal
   first-is =
-      go (ltb maxNodes (st .tree .nodes + nodeNeed st hs)) (ltb maxWords (st .tree .used + newBlocks st hs)) (any (st .books .stores) recordsOver)
-      (any (st .books .stores) entriesOver) (ltb maxStamp (st .books .nextId + cutIds st hs (st .books .stores)))
+      go (ltb maxNodes (st .tree .nodes + nodeNeed st hs)) (ltb maxWords (st .tree .used + newBlocks st hs)) (any (storesOf st) recordsOver)
+      (any (storesOf st) entriesOver) (ltb maxStamp (nextIdOf st + cutIds st hs (storesOf st)))
     where
       go : (a b c d e : Bool)
           → (elim a as (λ z. ℕ) [ true ↦ 6 | false ↦ elim b as (λ z. ℕ) [ true ↦ 7 | false ↦ elim c as (λ z. ℕ) [ true ↦ 8 | false ↦ elim d as (λ z. ℕ) [ true ↦ 9 | false ↦ elim e as (λ z. ℕ) [ true ↦ 11 | false ↦ 0 ] ] ] ] ])
@@ -129,49 +150,54 @@ module _ (st : State) (hs : List ℕ) where
     no-ids zero = refl
     no-ids (suc n) = rw (no-ids n, no-records n)
 
-    records-fit : Sound st → any (st .books .stores) recordsOver ≡ false
+    records-fit : Sound st → any (storesOf st) recordsOver ≡ false
     records-fit h =
-        any-none (st .books .stores) recordsOver
-        (λ s l. le-ltb storeRecords (at (st .books .records) s + cutRecords st hs s) (omega (arith, h .counts .each s zero-le l, no-records s)))
+        any-none (storesOf st) recordsOver
+        (λ s l. le-ltb storeRecords (recordsOf st s + cutRecords st hs s) (omega (arith, h .counts .each s zero-le l, no-records s)))
 
-    entries-fit : Sound st → any (st .books .stores) entriesOver ≡ false
+    entries-fit : Sound st → any (storesOf st) entriesOver ≡ false
     entries-fit h =
-        any-none (st .books .stores) entriesOver
-        (λ s l. le-ltb storePins (at (st .books .entries) s + cutEntries st hs s) (omega (arith, h .counts .each s zero-le l, no-entries s)))
+        any-none (storesOf st) entriesOver
+        (λ s l. le-ltb storePins (entriesOf st s + cutEntries st hs s) (omega (arith, h .counts .each s zero-le l, no-entries s)))
 
-    ids-fit : Sound st → ltb maxStamp (st .books .nextId + cutIds st hs (st .books .stores)) ≡ false
+    ids-fit : Sound st → ltb maxStamp (nextIdOf st + cutIds st hs (storesOf st)) ≡ false
     ids-fit h =
-        le-ltb maxStamp (st .books .nextId + cutIds st hs (st .books .stores)) (omega (arith, h .counts .nextId, no-ids (st .books .stores)))
+        le-ltb maxStamp (nextIdOf st + cutIds st hs (storesOf st)) (omega (arith, h .counts .nextId, no-ids (storesOf st)))
 
   -- where a node is cut
   module _ (does : cuts st hs ≡ true) where
     records-read : (s : ℕ) → cutRecords st hs s
         ≡ rangesAcross (matchEnd (resolve (st .tree) hs) .node) (matchEnd (resolve (st .tree) hs) .len)
-        (ranges (st .ranges) (storeRecords * s) (at (st .books .records) s))
+        (ranges (st .ranges) (storeRecords * s) (recordsOf st s))
     unfolding storeOf
     records-read s = records-counted st hs does s
 
     entries-read : (s : ℕ) → cutEntries st hs s
         ≡ pinsAcross (matchEnd (resolve (st .tree) hs) .node) (matchEnd (resolve (st .tree) hs) .len)
-        (pins (st .pins) (storePins * s) (at (st .books .entries) s))
+        (pins (st .pins) (storePins * s) (entriesOf st s))
     unfolding storeOf
     entries-read s = entries-counted st hs does s
 
-    ids-read : (n : ℕ) → cutIds st hs n
-        ≡ idsBelow (matchEnd (resolve (st .tree) hs) .node) (matchEnd (resolve (st .tree) hs) .len) (st .ranges) (st .books .records) n
+    ids-read : (n : ℕ) → n ≤ maxStores → cutIds st hs n ≡ idsBelow (matchEnd (resolve (st .tree) hs) .node) (matchEnd (resolve (st .tree) hs) .len) (st .ranges) (recordsIn (st .books)) n
     unfolding cutIds idsBelow
-    ids-read zero = refl
-    ids-read (suc n) = ap₂ (λ a b. a + b) (ids-read n) (records-read n)
+    ids-read zero h = refl
+    ids-read (suc n) h =
+        ap₂ (λ a b. a + b) (ids-read n (omega arith))
+        (records-read n
+        ∙ ap (λ (i : ℕ). rangesAcross (matchEnd (resolve (st .tree) hs) .node) (matchEnd (resolve (st .tree) hs) .len) (ranges (st .ranges) (storeRecords * n) i)) (sym (records-at (st .books) n (omega arith))))
 
-    records-test : any (st .books .stores) recordsOver
-        ≡ any (st .books .stores)
-        (overfull (matchEnd (resolve (st .tree) hs) .node) (matchEnd (resolve (st .tree) hs) .len) (st .ranges) (st .books .records))
-    records-test = any-same (st .books .stores) recordsOver _ (λ s l. ap (λ n. ltb storeRecords (at (st .books .records) s + n)) (records-read s))
+    module _ (few : storesOf st ≤ maxStores) where
+      records-test : any (storesOf st) recordsOver ≡ any (storesOf st) (overfull (matchEnd (resolve (st .tree) hs) .node) (matchEnd (resolve (st .tree) hs) .len) (st .ranges) (recordsIn (st .books)))
+      records-test =
+          any-same (storesOf st) recordsOver _
+          (λ s l. ap (λ (n : ℕ). ltb storeRecords (recordsOf st s + n)) (records-read s)
+          ∙ ap (λ (n : ℕ). ltb storeRecords (n + rangesAcross (matchEnd (resolve (st .tree) hs) .node) (matchEnd (resolve (st .tree) hs) .len) (ranges (st .ranges) (storeRecords * s) n))) (sym (records-at (st .books) s (omega arith))))
 
-    entries-test : any (st .books .stores) entriesOver
-        ≡ any (st .books .stores)
-        (overpinned (matchEnd (resolve (st .tree) hs) .node) (matchEnd (resolve (st .tree) hs) .len) (st .pins) (st .books .entries))
-    entries-test = any-same (st .books .stores) entriesOver _ (λ s l. ap (λ n. ltb storePins (at (st .books .entries) s + n)) (entries-read s))
+      entries-test : any (storesOf st) entriesOver ≡ any (storesOf st) (overpinned (matchEnd (resolve (st .tree) hs) .node) (matchEnd (resolve (st .tree) hs) .len) (st .pins) (entriesIn (st .books)))
+      entries-test =
+          any-same (storesOf st) entriesOver _
+          (λ s l. ap (λ (n : ℕ). ltb storePins (entriesOf st s + n)) (entries-read s)
+          ∙ ap (λ (n : ℕ). ltb storePins (n + pinsAcross (matchEnd (resolve (st .tree) hs) .node) (matchEnd (resolve (st .tree) hs) .len) (pins (st .pins) (storePins * s) n))) (sym (entries-at (st .books) s (omega arith))))
 
 pub plus-few : (b : Bool) → plus b 1 ≤ 2
 plus-few true = omega arith
@@ -187,25 +213,29 @@ not-no false e = sym e
 
 -- ---- the returns of the code: of a cut
 
-module _ (j k : ℕ) (over : Bool) (b : Books) (node start end : List ℕ) (r : Bool)
-    (is : (c : Ranges) → c .node ≡ node → c .start ≡ start → c .end ≡ end → r ≡ any (b .stores) (overfull j k c (b .records))) where
-  pub eight : r ≡ true → (c : Ranges) → c .node ≡ node → c .start ≡ start → c .end ≡ end → 8 ≡ cutRefusal j k over c b
+module _ (j k : ℕ) (over : Bool) (records : List ℕ) (stores next : ℕ) (node start end : List ℕ) (r : Bool)
+    (is : (c : Ranges) → c .node ≡ node → c .start ≡ start → c .end ≡ end → r ≡ any stores (overfull j k c records)) where
+  -- what is told of every state with these columns
+  abbrev pub Told : ℕ → Type 0
+  Told v = (c : Ranges) → c .node ≡ node → c .start ≡ start → c .end ≡ end → v ≡ cutRefusal j k over c records stores next
+
+  pub eight : r ≡ true → Told 8
   unfolding cutRefusal
   eight h c p q s = rw (← is c p q s, h)
 
-  pub nine : r ≡ false → over ≡ true → (c : Ranges) → c .node ≡ node → c .start ≡ start → c .end ≡ end → 9 ≡ cutRefusal j k over c b
+  pub nine : r ≡ false → over ≡ true → Told 9
   unfolding cutRefusal
   nine h o c p q s = rw (← is c p q s, h, o)
 
   module _ (h : r ≡ false) (o : over ≡ false) (n : ℕ)
-      (ids : (c : Ranges) → c .node ≡ node → c .start ≡ start → c .end ≡ end → n ≡ idsBelow j k c (b .records) (b .stores)) where
-    pub eleven : maxStamp < b .nextId + n → (c : Ranges) → c .node ≡ node → c .start ≡ start → c .end ≡ end → 11 ≡ cutRefusal j k over c b
+      (ids : (c : Ranges) → c .node ≡ node → c .start ≡ start → c .end ≡ end → n ≡ idsBelow j k c records stores) where
+    pub eleven : maxStamp < next + n → Told 11
     unfolding cutRefusal
-    eleven l c p q s = rw (← is c p q s, h, o, ← ids c p q s, lt-ltb maxStamp (b .nextId + n) l)
+    eleven l c p q s = rw (← is c p q s, h, o, ← ids c p q s, lt-ltb maxStamp (next + n) l)
 
-    pub no-number : b .nextId + n ≤ maxStamp → (c : Ranges) → c .node ≡ node → c .start ≡ start → c .end ≡ end → 0 ≡ cutRefusal j k over c b
+    pub no-number : next + n ≤ maxStamp → Told 0
     unfolding cutRefusal
-    no-number l c p q s = rw (← is c p q s, h, o, ← ids c p q s, le-ltb maxStamp (b .nextId + n) l)
+    no-number l c p q s = rw (← is c p q s, h, o, ← ids c p q s, le-ltb maxStamp (next + n) l)
 
 -- ---- and of the whole
 
@@ -222,19 +252,20 @@ module _ {ls ns ss es : List ℕ} {o : Bool} {x : Small} {m : Match} {n : ℕ} (
   len-is : m .len ≡ matchEnd (resolve (st .tree) hs) .len
   len-is = ap (λ a. a .len) (w .match)
 
-  pub few-nodes : x .nodes ≤ 256
+  pub few-nodes : nodesIn (x .books) ≤ 256
   few-nodes = omega (arith, w .nodes, w .sound .counts .nodes)
 
-  pub few-words : x .used ≤ 4096
-  few-words = omega (arith, w .used, w .sound .counts .used)
+  few-stores : storesOf st ≤ maxStores
+  few-stores = w .sound .counts .stores
 
   -- what the test of a cut asks
-  pub cut-asks : (x .stores ≤ 8) × ((s : ℕ) → s < x .stores → at (x .records) s ≤ 128) × (1024 ≤ length ns) × (1024 ≤ length ss) × (1024 ≤ length es) × (x .next ≤ maxStamp)
-  cut-asks =
+  pub cut-asks : (rs : List ℕ) → rs ≡ recordsIn (x .books)
+      → (storesIn (x .books) ≤ 8) × ((s : ℕ) → s < storesIn (x .books) → at rs s ≤ 128) × (1024 ≤ length ns) × (1024 ≤ length ss) × (1024 ≤ length es) × (nextIdIn (x .books) ≤ maxStamp)
+  cut-asks rs is =
       let h = w .sound in
-      let e : st .books ≡ booksOf x = w .books in
-      let each : (s : ℕ) → s < st .books .stores → at (st .books .records) s ≤ 128 = λ s l. h .counts .each s zero-le l .records in
-      (rw e at (h .counts .stores), rw e at each, rw (w .node) at (h .lent .ranges .node), rw (w .start) at (h .lent .ranges .start), rw (w .end) at (h .lent .ranges .end), rw e at (h .counts .nextId))
+      let e : st .books ≡ x .books = w .books in
+      let each : (s : ℕ) → s < storesOf st → at (recordsIn (st .books)) s ≤ 128 = λ s l. rw (records-at (st .books) s (omega (arith, few-stores))) (h .counts .each s zero-le l .records) in
+      (rw e at (h .counts .stores), subst (λ (q : List ℕ). (s : ℕ) → s < storesIn (x .books) → at q s ≤ 128) (sym is) (subst (λ (q : List ℕ). (s : ℕ) → s < storesIn q → at (recordsIn q) s ≤ 128) e each), rw (w .node) at (h .lent .ranges .node), rw (w .start) at (h .lent .ranges .start), rw (w .end) at (h .lent .ranges .end), rw e at (h .counts .nextId))
 
   no-cut : adds hs (resolve (st .tree) hs) && endsInside (st .tree) (resolve (st .tree) hs) ≡ false → st .tree .nodes + nodeNeed st hs ≤ maxNodes
       → st .tree .used + newBlocks st hs ≤ maxWords → 0 ≡ insertRefusal st hs
@@ -267,52 +298,57 @@ module _ {ls ns ss es : List ℕ} {o : Bool} {x : Small} {m : Match} {n : ℕ} (
     needed : (b : Bool) → b ≡ ltb (m .len) (at ls (m .node)) → nodeNeed st hs ≡ plus b 1
     needed b e = need-some st hs added ∙ ap (λ z. plus z 1) (inside-is b e)
 
-    pub six : (b : Bool) (r : ℕ) → b ≡ ltb (m .len) (at ls (m .node)) → r ≡ plus b 1 → maxNodes < x .nodes + r → 6 ≡ insertRefusal st hs
+    pub six : (b : Bool) (r : ℕ) → b ≡ ltb (m .len) (at ls (m .node)) → r ≡ plus b 1 → maxNodes < nodesIn (x .books) + r → 6 ≡ insertRefusal st hs
     six b r e f l = sym (first-is st hs ∙ rw (lt-ltb maxNodes (st .tree .nodes + nodeNeed st hs) (omega (arith, w .nodes, needed b e))))
 
-    module _ (b : Bool) (r : ℕ) (e : b ≡ ltb (m .len) (at ls (m .node))) (f : r ≡ plus b 1) (l : x .nodes + r ≤ maxNodes) where
+    module _ (b : Bool) (r : ℕ) (e : b ≡ ltb (m .len) (at ls (m .node))) (f : r ≡ plus b 1) (l : nodesIn (x .books) + r ≤ maxNodes) where
       nodes-fit : st .tree .nodes + nodeNeed st hs ≤ maxNodes
       nodes-fit = omega (arith, w .nodes, needed b e)
 
-      pub seven : maxWords < x .used + (n - m .blocks) → 7 ≡ insertRefusal st hs
+      pub seven : maxWords < usedIn (x .books) + (n - m .blocks) → 7 ≡ insertRefusal st hs
       seven g =
           sym
           (first-is st hs
           ∙ rw (le-ltb maxNodes (st .tree .nodes + nodeNeed st hs) nodes-fit, lt-ltb maxWords (st .tree .used + newBlocks st hs) (omega (arith, new-is st hs, blocks-is, w .count, w .used))))
 
-      module _ (g : x .used + (n - m .blocks) ≤ maxWords) where
+      module _ (g : usedIn (x .books) + (n - m .blocks) ≤ maxWords) where
         words-fit : st .tree .used + newBlocks st hs ≤ maxWords
         words-fit = omega (arith, new-is st hs, blocks-is, w .count, w .used)
 
         pub not-inside : not b ≡ true → 0 ≡ insertRefusal st hs
         not-inside q = no-cut (rw (added, inside-is b e, not-yes b q)) nodes-fit words-fit
 
-        pub inside : not b ≡ false → (v : ℕ)
-            → ((c : Ranges) → c .node ≡ ns → c .start ≡ ss → c .end ≡ es → v ≡ cutRefusal (m .node) (m .len) o c (booksOf x)) → v ≡ insertRefusal st hs
+        pub inside : not b ≡ false → (rs : List ℕ) → rs ≡ recordsIn (x .books) → (v : ℕ)
+            → ((c : Ranges) → c .node ≡ ns → c .start ≡ ss → c .end ≡ es → v ≡ cutRefusal (m .node) (m .len) o c rs (storesIn (x .books)) (nextIdIn (x .books)))
+            → v ≡ insertRefusal st hs
         unfolding cutRefusal
-        inside q v h =
+        inside q rs are v h =
             let does : cuts st hs ≡ true = rw (added, inside-is b e, not-no b q) in
             let is : insertRefusal st hs
-            ≡ pick (any (st .books .stores) (overfull (m .node) (m .len) (st .ranges) (st .books .records))) o (ltb maxStamp (st .books .nextId + idsBelow (m .node) (m .len) (st .ranges) (st .books .records) (st .books .stores))) =
+            ≡ pick (any (storesOf st) (overfull (m .node) (m .len) (st .ranges) (recordsIn (st .books)))) o (ltb maxStamp (nextIdOf st + idsBelow (m .node) (m .len) (st .ranges) (recordsIn (st .books)) (storesOf st))) =
             first-is st hs
-            ∙ rw (le-ltb maxNodes (st .tree .nodes + nodeNeed st hs) nodes-fit, le-ltb maxWords (st .tree .used + newBlocks st hs) words-fit, records-test st hs does, entries-test st hs does, ids-read st hs does, w .over, node-is, len-is) in
-            h (st .ranges) (w .node) (w .start) (w .end) ∙ ap (λ t. cutRefusal (m .node) (m .len) o (st .ranges) t) (sym (w .books)) ∙ sym is
+            ∙ rw (le-ltb maxNodes (st .tree .nodes + nodeNeed st hs) nodes-fit, le-ltb maxWords (st .tree .used + newBlocks st hs) words-fit, records-test st hs does few-stores, entries-test st hs does few-stores, ids-read st hs does (storesOf st) few-stores, w .over, node-is, len-is) in
+            h (st .ranges) (w .node) (w .start) (w .end)
+            ∙ ap (λ (l : List ℕ). cutRefusal (m .node) (m .len) o (st .ranges) l (storesIn (x .books)) (nextIdIn (x .books))) are
+            ∙ ap (λ (l : List ℕ). cutRefusal (m .node) (m .len) o (st .ranges) (recordsIn l) (storesIn l) (nextIdIn l)) (sym (w .books)) ∙ sym is
 
 -- ---- with 9's test
 
-module _ {ls ns ss es pns pss pes : List ℕ} {x : Small} {m : Match} {n : ℕ} (st : State) (hs : List ℕ) (w : Shown ls ns ss es pns pss pes x m n st hs) where
-  pub entries-asks : (x .stores ≤ 8) × ((s : ℕ) → s < x .stores → at (x .entries) s ≤ 32) × (256 ≤ length pns) × (256 ≤ length pss) × (256 ≤ length pes)
+module _ {ls ns ss es pns pss pes : List ℕ} {x : Small} {m : Match} {n : ℕ} (st : State) (hs : List ℕ) (w : Shown ls ns ss es pns pss pes x m n st hs)
+    (entries : List ℕ) (are : entries ≡ entriesIn (x .books)) where
+  pub entries-asks : (storesIn (x .books) ≤ 8) × ((s : ℕ) → s < storesIn (x .books) → at entries s ≤ 32) × (256 ≤ length pns) × (256 ≤ length pss) × (256 ≤ length pes)
   entries-asks =
       let h = w .seen .sound in
-      let e : st .books ≡ booksOf x = w .seen .books in
-      let each : (s : ℕ) → s < st .books .stores → at (st .books .entries) s ≤ 32 = λ s l. h .counts .each s zero-le l .entries in
-      (rw e at (h .counts .stores), rw e at each, rw (w .pinNode) at (h .lent .pins .node), rw (w .pinStart) at (h .lent .pins .start), rw (w .pinEnd) at (h .lent .pins .end))
+      let e : st .books ≡ x .books = w .seen .books in
+      let each : (s : ℕ) → s < storesOf st → at (entriesIn (st .books)) s ≤ 32 = λ s l. rw (entries-at (st .books) s (omega (arith, h .counts .stores))) (h .counts .each s zero-le l .entries) in
+      (rw e at (h .counts .stores), subst (λ (q : List ℕ). (s : ℕ) → s < storesIn (x .books) → at q s ≤ 32) (sym are) (subst (λ (q : List ℕ). (s : ℕ) → s < storesIn q → at (entriesIn q) s ≤ 32) e each), rw (w .pinNode) at (h .lent .pins .node), rw (w .pinStart) at (h .lent .pins .start), rw (w .pinEnd) at (h .lent .pins .end))
 
   pub with-over : (o : Bool)
-      → ((c : Pins) → c .node ≡ pns → c .start ≡ pss → c .end ≡ pes → o ≡ any (x .stores) (overpinned (m .node) (m .len) c (x .entries)))
+      → ((c : Pins) → c .node ≡ pns → c .start ≡ pss → c .end ≡ pes → o ≡ any (storesIn (x .books)) (overpinned (m .node) (m .len) c entries))
       → Seen ls ns ss es o x m n st hs
   with-over o h =
-      let e : st .books ≡ booksOf x = w .seen .books in
-      let q : any (st .books .stores) (overpinned (m .node) (m .len) (st .pins) (st .books .entries)) ≡ o =
-      ap (λ b. any (b .stores) (overpinned (m .node) (m .len) (st .pins) (b .entries))) e ∙ sym (h (st .pins) (w .pinNode) (w .pinStart) (w .pinEnd)) in
+      let q : any (storesOf st) (overpinned (m .node) (m .len) (st .pins) (entriesIn (st .books))) ≡ o =
+      ap (λ (l : List ℕ). any (storesIn l) (overpinned (m .node) (m .len) (st .pins) (entriesIn l))) (w .seen .books)
+      ∙ ap (λ (l : List ℕ). any (storesIn (x .books)) (overpinned (m .node) (m .len) (st .pins) l)) (sym are)
+      ∙ sym (h (st .pins) (w .pinNode) (w .pinStart) (w .pinEnd)) in
       subst (λ (z : Bool). Seen ls ns ss es z x m n st hs) q (w .seen)

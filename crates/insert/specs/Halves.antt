@@ -1,44 +1,52 @@
--- A store's half of a cut in two steps: the ranges with their marks, then the pin entries. Assumes nothing.
+-- A store's half of a cut: the room that it asks, and what the cut of its ranges and marks leaves. Assumes nothing.
 use Prim.Native.Nat.{ℕ, _+_, _*_, _≤_, _<_}
-use mathlib.Core.List.{List}
-use lib.ListN.{length}
+use mathlib.Core.List.{List, _++_}
+use lib.ListN.{length, take, drop}
 use mathlib.Core.Path.{_≡_}
-use Rattle.model.specs.Sizes.{maxNodes, maxStores, maxStamp, maxMarks, maxPinned, storeRecords, storePins}
-use Rattle.model.specs.State.{Ranges, Pins, Books, State, at}
+use Rattle.model.specs.declared.Book.{Book}
+use Rattle.model.specs.Sizes.{maxNodes, maxStores, maxStamp, maxMarks, maxPinned, maxNumbers, storeRecords, storePins, storeMarks}
+use Rattle.model.specs.State.{Ranges, Pins, Range, nextIdIn, bookIn}
 use Rattle.model.specs.Sound.{RangesLent, PinsLent}
-use Rattle.model.specs.Store.{ranges, pins, storeOf, withRanges, withPins, withNext}
-use Rattle.model.specs.Insert.{rangesAcross, pinsAcross, cutStore}
+use Rattle.model.specs.Store.{lay, ranges, layRanges, pins, changed}
+use Rattle.model.specs.Insert.{heads, tails, rangesAcross, cutMarks, pinsAcross}
 use Rattle.model.specs.Pins.{pinnedIn}
+use Rattle.kept.specs.Facts.{All}
 use Rattle.cutpins.specs.Entries.{counts}
-use Rattle.lent.specs.declared.Small.{Small}
+use Rattle.cutting.specs.declared.After.{After}
 
--- the ranges and marks of store s after the cut of node j at k, where m is the new node, and the next id after it
-unfoldable pub rangesCut : ℕ → ℕ → ℕ → ℕ → State → State
-unfolding storeOf withRanges withNext cutStore rangesAcross
-rangesCut j k m s st =
-    let x = storeOf st s in
-    let new = rangesAcross j k (x .ranges) in
-    withNext (st .books .nextId + new) (st .books .stalls) (withRanges s new (cutStore j k m (st .books .nextId) x) st)
+-- the ranges after the cut of node j at k: those of the new node m stand last
+abbrev pub halves : ℕ → ℕ → ℕ → ℕ → List Range → List Range
+halves j k m next rs = heads j k rs ++ tails j k m next rs
 
--- there is room for it
-pub record RangesRoom (j k m s : ℕ) (c : Ranges) (ms : List ℕ) (x : Small) : Type 0 where
+-- a store's numbers with so many records and pin entries
+abbrev pub cutBook : Book → ℕ → ℕ → Book
+cutBook b records entries = changed b records (b .held) (b .stamp) (b .version) entries (b .pinned)
+
+-- there is room to cut the n ranges of store s, and no node of theirs is above the new one
+pub record RangesRoom (j k m s n next : ℕ) (c : Ranges) (ms : List ℕ) : Type 0 where
   pub store : s < maxStores
   pub node : j < maxNodes
   pub new : m < maxNodes
-  pub records : at (x .records) s + rangesAcross j k (ranges c (storeRecords * s) (at (x .records) s)) ≤ storeRecords
-  pub next : x .next ≤ maxStamp
+  pub records : n + rangesAcross j k (ranges c (storeRecords * s) n) ≤ storeRecords
+  pub below : All (λ r. r .node < m) (ranges c (storeRecords * s) n)
+  pub high : next ≤ maxStamp
   pub lent : RangesLent c
   pub marks : maxMarks ≤ length ms
 
--- then its pin entries
-unfoldable pub pinsCut : ℕ → ℕ → ℕ → ℕ → State → State
-unfolding storeOf withPins cutStore pinsAcross
-pinsCut j k m s st = withPins s (pinsAcross j k (storeOf st s .pins)) (cutStore j k m (st .books .nextId) (storeOf st s)) st
+-- what their cut leaves
+pub record RangesCut (j k m s n next : ℕ) (c : Ranges) (ms : List ℕ) (c′ : Ranges) (ms′ : List ℕ) (r : After) : Type 0 where
+  pub laid : c′
+      ≡ layRanges (storeRecords * s) (n + rangesAcross j k (ranges c (storeRecords * s) n)) (halves j k m next (ranges c (storeRecords * s) n)) c
+  pub marks : ms′
+      ≡ lay 0 (storeMarks * s) storeMarks (cutMarks j k m (halves j k m next (ranges c (storeRecords * s) n)) (take storeMarks (drop (storeMarks * s) ms))) ms
+  pub count : r .n ≡ length (halves j k m next (ranges c (storeRecords * s) n))
+  pub ids : r .next ≡ next + rangesAcross j k (ranges c (storeRecords * s) n)
 
--- there is room for them, and the count of pinned blocks is right
-pub record PinsRoom (j k s : ℕ) (c : Pins) (b : Books) : Type 0 where
-  pub store : s < maxStores
-  pub entries : at (b .entries) s + pinsAcross j k (pins c (storePins * s) (at (b .entries) s)) ≤ storePins
-  pub counts : counts (pins c (storePins * s) (at (b .entries) s)) ≤ maxPinned
-  pub pinned : at (b .pinned) s ≡ pinnedIn (pins c (storePins * s) (at (b .entries) s))
-  pub lent : PinsLent c
+-- there is room to cut store s, as the small numbers l have it, and its count of pinned blocks is right
+pub record StoreRoom (j k m s : ℕ) (c : Ranges) (p : Pins) (ms l : List ℕ) : Type 0 where
+  pub half : RangesRoom j k m s (bookIn l s .records) (nextIdIn l) c ms
+  pub entries : bookIn l s .entries + pinsAcross j k (pins p (storePins * s) (bookIn l s .entries)) ≤ storePins
+  pub few : counts (pins p (storePins * s) (bookIn l s .entries)) ≤ maxPinned
+  pub pinned : bookIn l s .pinned ≡ pinnedIn (pins p (storePins * s) (bookIn l s .entries))
+  pub lent : PinsLent p
+  pub books : maxNumbers ≤ length l

@@ -1,24 +1,28 @@
+use books::book_of;
+use books::put_book;
+use books::put_next;
 use cutstore::cut_marks;
 use cutstore::cut_pins;
 use cutstore::cut_ranges;
 use cutstore::entries_over;
 use cutstore::ids_needed;
 use cutstore::records_over;
+use cutting::After;
 use lent::Small;
+use model::Book;
 use tree::Match;
 ghost use mathlib.Core.Path.{_≡_};
-ghost use mathlib.Core.Bool.{Bool};
 ghost use mathlib.Core.List.{List};
-ghost use Prim.Native.Nat.{ℕ, _+_, _*_, _≤_, _<_};
+ghost use Prim.Native.Nat.{ℕ, _≤_, _<_};
 ghost use lib.ListN.{length, take};
 ghost use Rattle.model.specs.Sizes.{maxStamp};
-ghost use Rattle.model.specs.State.{State, Tree, Ranges, Pins, at};
-ghost use Rattle.model.specs.Store.{plus};
+ghost use Rattle.model.specs.State.{State, Tree, Ranges, at, stallsIn};
+ghost use Rattle.model.specs.Store.{plus, layBook, layNext};
 ghost use Rattle.model.specs.Calls.{front};
 ghost use Rattle.model.specs.Insert.{cutStoreIn};
-ghost use Rattle.lent.specs.Lent.{booksOf, rangesOf, pinsOf, stateOf};
-ghost use Rattle.insert.specs.Halves.{rangesCut, RangesRoom, pinsCut, PinsRoom};
-ghost use Rattle.insert.specs.Refusal.{insertRefusal, cutRefusal, Seen, Shown};
+ghost use Rattle.lent.specs.Lent.{rangesOf, pinsOf, stateOf};
+ghost use Rattle.insert.specs.Halves.{cutBook, RangesRoom, RangesCut, StoreRoom};
+ghost use Rattle.insert.specs.Refusal.{recordsIn, entriesIn, insertRefusal, cutRefusal, Seen, Shown};
 
 // The first n of src, in front of dst. A refusal must not write the lent path lists, so a path is found in local arrays first.
 pub fn copy_front(dst: &mut [usize], src: &[usize], n: usize)
@@ -32,28 +36,61 @@ pub fn copy_front(dst: &mut [usize], src: &[usize], n: usize)
     }
 }
 
+// Each store's used records.
+fn records_of(books: &[u64; 69]) -> [usize; 8]
+    ensures { λ r. ⌜ r ≡ recordsIn (now (books .entry)) ⌝ }
+{
+    [
+        books[7] as usize,
+        books[15] as usize,
+        books[23] as usize,
+        books[31] as usize,
+        books[39] as usize,
+        books[47] as usize,
+        books[55] as usize,
+        books[63] as usize,
+    ]
+}
+
+// Each store's used pin entries.
+fn entries_of(books: &[u64; 69]) -> [usize; 8]
+    ensures { λ r. ⌜ r ≡ entriesIn (now (books .entry)) ⌝ }
+{
+    [
+        books[11] as usize,
+        books[19] as usize,
+        books[27] as usize,
+        books[35] as usize,
+        books[43] as usize,
+        books[51] as usize,
+        books[59] as usize,
+        books[67] as usize,
+    ]
+}
+
 // What a cut of node j at k is refused for: 8, 9, 11 or nothing, 0. `over` says whether some store has too few pin entries left.
 fn cut_refusal(
     node: &[usize],
     start: &[usize],
     end: &[usize],
     over: bool,
-    x: Small,
+    records: [usize; 8],
+    stores: usize,
+    next: u64,
     j: usize,
     k: usize,
 ) -> u8
-    requires { ⌜ (x .stores ≤ 8) × ((s : ℕ) → s < x .stores → at (x .records) s ≤ 128) × (1024 ≤ length (now node)) × (1024 ≤ length (now start)) × (1024 ≤ length (now end)) × (x .next ≤ maxStamp) ⌝ }
-    ensures { λ r. ⌜ ((c : Ranges) → c .node ≡ now (node .entry) → c .start ≡ now (start .entry) → c .end ≡ now (end .entry) → r ≡ cutRefusal j k over c (booksOf x)) ⌝ }
+    requires { ⌜ (stores ≤ 8) × ((s : ℕ) → s < stores → at records s ≤ 128) × (1024 ≤ length (now node)) × (1024 ≤ length (now start)) × (1024 ≤ length (now end)) × (next ≤ maxStamp) ⌝ }
+    ensures { λ r. ⌜ ((c : Ranges) → c .node ≡ now (node .entry) → c .start ≡ now (start .entry) → c .end ≡ now (end .entry) → r ≡ cutRefusal j k over c records stores next) ⌝ }
 {
-    let records = x.records;
-    if records_over(node, start, end, records, x.stores, j, k) {
+    if records_over(node, start, end, records, stores, j, k) {
         return 8;
     }
     if over {
         return 9;
     }
-    let ids = ids_needed(node, start, end, records, x.stores, j, k);
-    if 281474976710655 < x.next + ids as u64 {
+    let ids = ids_needed(node, start, end, records, stores, j, k);
+    if 281474976710655 < next + ids as u64 {
         return 11;
     }
     0
@@ -89,16 +126,21 @@ pub fn insert_refusal(
     let j = m.node;
     let k = m.len;
     let inside = k < len[j];
-    if 256 < x.nodes + node_need(inside) {
+    let nodes = x.books[0] as usize;
+    if 256 < nodes + node_need(inside) {
         return 6;
     }
-    if 4096 < x.used + (count - m.blocks) {
+    let used = x.books[1] as usize;
+    if 4096 < used + (count - m.blocks) {
         return 7;
     }
     if !inside {
         return 0;
     }
-    cut_refusal(node, start, end, over, x, j, k)
+    let stores = x.books[2] as usize;
+    let next = x.books[3];
+    let records = records_of(&x.books);
+    cut_refusal(node, start, end, over, records, stores, next, j, k)
 }
 
 // The same with 9's test made here.
@@ -117,20 +159,13 @@ pub fn refusal(
     requires { ⌜ ((st : State) × (hs : List ℕ) × Shown (now len) (now node) (now start) (now end) (now «pin_node») (now «pin_start») (now «pin_end») x m count st hs) ⌝ }
     ensures { λ r. ⌜ ((st : State) (hs : List ℕ) → Shown (now (len .entry)) (now (node .entry)) (now (start .entry)) (now (end .entry)) (now («pin_node» .entry)) (now («pin_start» .entry)) (now («pin_end» .entry)) x m count st hs → r ≡ insertRefusal st hs) ⌝ }
 {
-    let entries = x.entries;
-    let over = entries_over(
-        pin_node,
-        pin_start,
-        pin_end,
-        entries,
-        x.stores,
-        m.node,
-        m.len,
-    );
+    let stores = x.books[2] as usize;
+    let entries = entries_of(&x.books);
+    let over = entries_over(pin_node, pin_start, pin_end, entries, stores, m.node, m.len);
     insert_refusal(len, node, start, end, over, x, m, count)
 }
 
-// The ranges and the marks of store s, cut; its pin entries are cut apart.
+// The ranges and the marks of store s, of which n are used, cut; its pin entries are cut apart.
 fn cut_range_half(
     node: &mut [usize],
     start: &mut [usize],
@@ -140,16 +175,16 @@ fn cut_range_half(
     touched: &mut [f64],
     write: &mut [u32],
     marks: &mut [usize],
-    x: Small,
     s: usize,
+    n: usize,
     j: usize,
     k: usize,
     m: usize,
-) -> Small
-    requires { ⌜ RangesRoom j k m s (rangesOf (now node) (now start) (now end) (now id) (now stamp) (now touched) (now write)) (now marks) x ⌝ }
-    ensures { λ r. ⌜ ((t : Tree) (p : Pins) (bytes : List ℕ) → stateOf t (rangesOf (now (node .exit)) (now (start .exit)) (now (end .exit)) (now (id .exit)) (now (stamp .exit)) (now (touched .exit)) (now (write .exit))) p (now (marks .exit)) bytes r ≡ rangesCut j k m s (stateOf t (rangesOf (now (node .entry)) (now (start .entry)) (now (end .entry)) (now (id .entry)) (now (stamp .entry)) (now (touched .entry)) (now (write .entry))) p (now (marks .entry)) bytes x)) ⌝ }
+    next: u64,
+) -> After
+    requires { ⌜ RangesRoom j k m s n next (rangesOf (now node) (now start) (now end) (now id) (now stamp) (now touched) (now write)) (now marks) ⌝ }
+    ensures { λ r. ⌜ RangesCut j k m s n next (rangesOf (now (node .entry)) (now (start .entry)) (now (end .entry)) (now (id .entry)) (now (stamp .entry)) (now (touched .entry)) (now (write .entry))) (now (marks .entry)) (rangesOf (now (node .exit)) (now (start .exit)) (now (end .exit)) (now (id .exit)) (now (stamp .exit)) (now (touched .exit)) (now (write .exit))) (now (marks .exit)) r ⌝ }
 {
-    let n = x.records[s];
     let cut = cut_ranges(
         &mut *node,
         &mut *start,
@@ -163,36 +198,26 @@ fn cut_range_half(
         j,
         k,
         m,
-        x.next,
+        next,
     );
     let count = cut.n;
     cut_marks(marks, &*node, s, count, j, k, m);
-    let mut out = x;
-    out.records[s] = count;
-    out.next = cut.next;
-    out
+    cut
 }
 
-// The pin entries of store s, cut. A cut pins no block more, so the count of pinned blocks stays.
-fn cut_pin_half(
-    pin_node: &mut [usize],
-    pin_start: &mut [usize],
-    pin_end: &mut [usize],
-    pin_count: &mut [u64],
-    x: Small,
-    s: usize,
-    j: usize,
-    k: usize,
-    m: usize,
-) -> Small
-    requires { ⌜ PinsRoom j k s (pinsOf (now «pin_node») (now «pin_start») (now «pin_end») (now «pin_count»)) (booksOf x) ⌝ }
-    ensures { λ r. ⌜ ((t : Tree) (c : Ranges) (marks bytes : List ℕ) → stateOf t c (pinsOf (now («pin_node» .exit)) (now («pin_start» .exit)) (now («pin_end» .exit)) (now («pin_count» .exit))) marks bytes r ≡ pinsCut j k m s (stateOf t c (pinsOf (now («pin_node» .entry)) (now («pin_start» .entry)) (now («pin_end» .entry)) (now («pin_count» .entry))) marks bytes x)) ⌝ }
+// The small numbers with those of store s after its cut. A cut pins no block more, so the count of pinned blocks stays.
+fn cut_books(x: Small, s: usize, b: Book, cut: After, entries: usize) -> Small
+    requires { ⌜ s < 8 ⌝ }
+    ensures { λ r. ⌜ r .books ≡ layNext (cut .next) (stallsIn (x .books)) (layBook s (cutBook b (cut .n) entries) (x .books)) ⌝ }
 {
-    let n = x.entries[s];
-    let count = cut_pins(pin_node, pin_start, pin_end, pin_count, s, n, j, k, m);
-    let mut out = x;
-    out.entries[s] = count;
-    out
+    let mut new = b;
+    new.records = cut.n;
+    new.entries = entries;
+    let stalls = x.books[4];
+    let mut y = x;
+    put_book(&mut y.books, s, new);
+    put_next(&mut y.books, cut.next, stalls);
+    y
 }
 
 // Store s, cut: first its ranges and marks, then its pin entries.
@@ -215,10 +240,11 @@ pub fn cut_store(
     k: usize,
     m: usize,
 ) -> Small
-    requires { ⌜ RangesRoom j k m s (rangesOf (now node) (now start) (now end) (now id) (now stamp) (now touched) (now write)) (now marks) x × PinsRoom j k s (pinsOf (now «pin_node») (now «pin_start») (now «pin_end») (now «pin_count»)) (booksOf x) ⌝ }
-    ensures { λ r. ⌜ ((t : Tree) (bytes : List ℕ) → stateOf t (rangesOf (now (node .exit)) (now (start .exit)) (now (end .exit)) (now (id .exit)) (now (stamp .exit)) (now (touched .exit)) (now (write .exit))) (pinsOf (now («pin_node» .exit)) (now («pin_start» .exit)) (now («pin_end» .exit)) (now («pin_count» .exit))) (now (marks .exit)) bytes r ≡ cutStoreIn j k m s (stateOf t (rangesOf (now (node .entry)) (now (start .entry)) (now (end .entry)) (now (id .entry)) (now (stamp .entry)) (now (touched .entry)) (now (write .entry))) (pinsOf (now («pin_node» .entry)) (now («pin_start» .entry)) (now («pin_end» .entry)) (now («pin_count» .entry))) (now (marks .entry)) bytes x)) ⌝ }
+    requires { ⌜ StoreRoom j k m s (rangesOf (now node) (now start) (now end) (now id) (now stamp) (now touched) (now write)) (pinsOf (now «pin_node») (now «pin_start») (now «pin_end») (now «pin_count»)) (now marks) (x .books) ⌝ }
+    ensures { λ r. ⌜ ((t : Tree) (bytes : List ℕ) → stateOf t (rangesOf (now (node .exit)) (now (start .exit)) (now (end .exit)) (now (id .exit)) (now (stamp .exit)) (now (touched .exit)) (now (write .exit))) (pinsOf (now («pin_node» .exit)) (now («pin_start» .exit)) (now («pin_end» .exit)) (now («pin_count» .exit))) (now (marks .exit)) bytes (r .books) ≡ cutStoreIn j k m s (stateOf t (rangesOf (now (node .entry)) (now (start .entry)) (now (end .entry)) (now (id .entry)) (now (stamp .entry)) (now (touched .entry)) (now (write .entry))) (pinsOf (now («pin_node» .entry)) (now («pin_start» .entry)) (now («pin_end» .entry)) (now («pin_count» .entry))) (now (marks .entry)) bytes (x .books))) ⌝ }
 {
-    let y = cut_range_half(
+    let b = book_of(&x.books, s);
+    let cut = cut_range_half(
         node,
         start,
         end,
@@ -227,11 +253,23 @@ pub fn cut_store(
         touched,
         write,
         marks,
-        x,
         s,
+        b.records,
+        j,
+        k,
+        m,
+        x.books[3],
+    );
+    let entries = cut_pins(
+        pin_node,
+        pin_start,
+        pin_end,
+        pin_count,
+        s,
+        b.entries,
         j,
         k,
         m,
     );
-    cut_pin_half(pin_node, pin_start, pin_end, pin_count, y, s, j, k, m)
+    cut_books(x, s, b, cut, entries)
 }

@@ -9,12 +9,12 @@ use lib.ListN.{length, take, drop, set, length-append, length-take, length-drop}
 use lib.Seq.{length-take-le, take-at}
 use Rattle.model.specs.Words.{Each}
 use Rattle.model.specs.Sizes.{maxNodes, maxWords, maxHashes, maxStamp, storeRecords, storePins, pathPlaces}
-use Rattle.model.specs.State.{Tree, Ranges, Pins, State, at}
+use Rattle.model.specs.State.{Tree, Ranges, Pins, State, at, nodesIn, usedIn, storesOf, nextIdOf, recordsOf, entriesOf}
 use Rattle.model.specs.Sound.{TreeLent, Sound}
 use Rattle.model.specs.SoundTest.{sound}
 use Rattle.model.specs.Tree.{Seg, resolve, blocks}
-use Rattle.model.specs.Store.{plus}
-use Rattle.model.specs.Insert.{Cut, Inserted, cutTree, addLeaf, matchEnd, adds, endsInside, withLeaf, cut, cutFirst, grow, insertPath}
+use Rattle.model.specs.Store.{plus, layCounts}
+use Rattle.model.specs.Insert.{Cut, Inserted, cutTree, addLeaf, matchEnd, adds, endsInside, withTree, withLeaf, cut, cutFirst, grow, insertPath}
 use Rattle.model.specs.Refusals.{PathList, PathFits, pathFits, firstOf, insertRefusals, nodeNeed, newBlocks, cuts, cutRecords, cutEntries, cutIds}
 use Rattle.model.specs.Calls.{Outcome, refused, done, unless, front, layPath, pathOf, InsertAnswer, insert}
 use Rattle.lent.specs.declared.Small.{Small}
@@ -163,10 +163,10 @@ module _ (st : State) (l : PathList) (hs : List ℕ) where
 
 -- what the test of 6, 7, 8, 9 and 11 asks
 pub shown : (parent depth len run words : List ℕ) (c : Ranges) (p : Pins) (marks bytes : List ℕ) (x : Small) (hs : List ℕ) (m : Match)
-    → Sound (stateOf (treeOf parent depth len run words (x .nodes) (x .used)) c p marks bytes x) → length hs ≤ maxHashes
-    → m ≡ matchOf (resolve (treeOf parent depth len run words (x .nodes) (x .used)) hs)
+    → Sound (stateOf (treeOf parent depth len run words (nodesIn (x .books)) (usedIn (x .books))) c p marks bytes (x .books)) → length hs ≤ maxHashes
+    → m ≡ matchOf (resolve (treeOf parent depth len run words (nodesIn (x .books)) (usedIn (x .books))) hs)
     → Shown len (c .node) (c .start) (c .end) (p .node) (p .start) (p .end) x m (length hs)
-    (stateOf (treeOf parent depth len run words (x .nodes) (x .used)) c p marks bytes x) hs
+    (stateOf (treeOf parent depth len run words (nodesIn (x .books)) (usedIn (x .books))) c p marks bytes (x .books)) hs
 shown parent depth len run words c p marks bytes x hs m h short e =
     record {
       seen = record {
@@ -196,17 +196,17 @@ segs-fit n l = omega arith
 record Roomy (st : State) (hs : List ℕ) : Type 0 where
   nodes : st .tree .nodes + nodeNeed st hs ≤ maxNodes
   words : st .tree .used + newBlocks st hs ≤ maxWords
-  records : Each 0 (st .books .stores) (λ s. at (st .books .records) s + cutRecords st hs s ≤ storeRecords)
-  entries : Each 0 (st .books .stores) (λ s. at (st .books .entries) s + cutEntries st hs s ≤ storePins)
-  ids : st .books .nextId + cutIds st hs (st .books .stores) ≤ maxStamp
+  records : Each 0 (storesOf st) (λ s. recordsOf st s + cutRecords st hs s ≤ storeRecords)
+  entries : Each 0 (storesOf st) (λ s. entriesOf st s + cutEntries st hs s ≤ storePins)
+  ids : nextIdOf st + cutIds st hs (storesOf st) ≤ maxStamp
 
 roomy : (st : State) (l : PathList) (hs : List ℕ) → NoneHolds (insertRefusals st l hs) → Roomy st hs
 roomy st l hs (unsound, (short, (many, (fewNodes, (fewWords, (fewRecords, (fewEntries, (late, end)))))))) =
     record {
       nodes = omega arith;
       words = omega arith;
-      records = each-fits (λ s. at (st .books .records) s + cutRecords st hs s) (st .books .stores) storeRecords fewRecords;
-      entries = each-fits (λ s. at (st .books .entries) s + cutEntries st hs s) (st .books .stores) storePins fewEntries;
+      records = each-fits (λ s. recordsOf st s + cutRecords st hs s) (storesOf st) storeRecords fewRecords;
+      entries = each-fits (λ s. entriesOf st s + cutEntries st hs s) (storesOf st) storePins fewEntries;
       ids = omega arith;
     }
 
@@ -220,23 +220,44 @@ new-is st hs = refl
 
 -- ---- the leaf
 
--- what `add_leaf` and the lists' functions leave is the model's
-pub leafed : (ss : List Seg) (cuts : List Cut) (t u : Tree) (c : Ranges) (p : Pins) (marks bytes : List ℕ) (x : Small) (hs : List ℕ) (m : Match) (l l′ found : PathList)
-    → Found ss m found → u ≡ addLeaf (m .node) (m .blocks) (drop (m .blocks) hs) t
-    → l′ ≡ pathListOf (front (take (m .segs) (found .node) ++ (t .nodes ∷ [])) (l .node)) (front (take (m .segs) (found .len) ++ ((length hs - m .blocks) ∷ [])) (l .len))
-    → Left (withLeaf hs ss cuts (stateOf t c p marks bytes x)) l (stateOf u c p marks bytes x) l′
-unfolding withLeaf
-leafed ss cuts t u c p marks bytes x hs m l l′ found f e g =
-    let rest : ℕ = length (drop (blocks ss) hs) in
-    let long : length hs - m .blocks ≡ rest = ap (λ (b : ℕ). length hs - b) (blocks-are f) ∙ sym (length-drop (blocks ss) hs) in
-    let s : Seg = record { node = t .nodes; len = rest } in
+-- the counts that are written are read back
+counts-read : (parent depth len run words : List ℕ) (c : Ranges) (p : Pins) (marks bytes : List ℕ) (n i : ℕ) (l l₁ : List ℕ) → l₁ ≡ layCounts n i l
+    → stateOf (treeOf parent depth len run words (nodesIn l₁) (usedIn l₁)) c p marks bytes l₁
+    ≡ stateOf (treeOf parent depth len run words n i) c p marks bytes (layCounts n i l)
+unfolding layCounts
+counts-read parent depth len run words c p marks bytes n i l l₁ e =
+    ap (λ (q : List ℕ). stateOf (treeOf parent depth len run words (nodesIn q) (usedIn q)) c p marks bytes q) e
+
+-- what `add_leaf`, the counts that are written and the lists' functions leave is the model's
+pub leafed : (ss : List Seg) (cuts : List Cut) (t : Tree) (parent depth len run words : List ℕ) (c : Ranges) (p : Pins) (marks bytes l l₁ : List ℕ)
+    (hs : List ℕ) (m : Match) (k k′ found : PathList) → Found ss m found
+    → treeOf parent depth len run words (t .nodes + 1) (t .used + (length hs - m .blocks)) ≡ addLeaf (m .node) (m .blocks) (drop (m .blocks) hs) t
+    → l₁ ≡ layCounts (t .nodes + 1) (t .used + (length hs - m .blocks)) l
+    → k′ ≡ pathListOf (front (take (m .segs) (found .node) ++ (t .nodes ∷ [])) (k .node)) (front (take (m .segs) (found .len) ++ ((length hs - m .blocks) ∷ [])) (k .len))
+    → Left (withLeaf hs ss cuts (stateOf t c p marks bytes l)) k (stateOf (treeOf parent depth len run words (nodesIn l₁) (usedIn l₁)) c p marks bytes l₁) k′
+unfolding withLeaf withTree
+leafed ss cuts t parent depth len run words c p marks bytes l l₁ hs m k k′ found f e d g =
     record {
-      state = ap (λ v. stateOf v c p marks bytes x) (e ∙ ap (λ (a : Match). addLeaf (a .node) (a .blocks) (drop (a .blocks) hs) t) (f .match));
+      state = counts-read parent depth len run words c p marks bytes (t .nodes + 1) (t .used + (length hs - m .blocks)) l l₁ d
+          ∙ ap put (e ∙ ap (λ (a : Match). addLeaf (a .node) (a .blocks) (drop (a .blocks) hs) t) (f .match));
       lists = g
-          ∙ ap₂ (λ (a b : List ℕ). pathListOf (front a (l .node)) (front b (l .len)))
+          ∙ ap₂ (λ (a b : List ℕ). pathListOf (front a (k .node)) (front b (k .len)))
           (ap (λ (a : List ℕ). a ++ (t .nodes ∷ [])) (f .node) ∙ sym (map-more (λ (q : Seg). q .node) ss s))
           (ap₂ (λ (a : List ℕ) (n : ℕ). a ++ (n ∷ [])) (f .len) long ∙ sym (map-more (λ (q : Seg). q .len) ss s));
     }
+  where
+    rest : ℕ
+    rest = length (drop (blocks ss) hs)
+
+    long : length hs - m .blocks ≡ rest
+    long = ap (λ (b : ℕ). length hs - b) (blocks-are f) ∙ sym (length-drop (blocks ss) hs)
+
+    s : Seg
+    s = record { node = t .nodes; len = rest }
+
+    -- the state with the tree u, whose counts are written
+    put : Tree → State
+    put u = stateOf u c p marks bytes (layCounts (u .nodes) (u .used) l)
 
 leaf-path : (ss : List Seg) (hs : List ℕ) (cuts : List Cut) (st : State) → blocks ss ≤ length hs
     → record { segs = length ss + 1; blocks = length hs } ≡ pathOf (withLeaf hs ss cuts st .path)
@@ -389,7 +410,7 @@ module _ (st : State) (l : PathList) (hs : List ℕ) (m : Match) (found : PathLi
             room = omega (arith, nodes-two);
             records = λ s low less. rw (records-counted st hs does s) at (fit .records s low less);
             entries = λ s low less. rw (entries-counted st hs does s) at (fit .entries s low less);
-            ids = rw (ids-are (e .node) (e .len) st (st .books .stores), ← ids-counted st hs does (st .books .stores)) (fit .ids);
+            ids = rw (ids-are (e .node) (e .len) st (storesOf st) (h .sound .counts .stores), ← ids-counted st hs does (storesOf st)) (fit .ids);
           }
 
       pub cut-asks : Cuttable (m .node) (m .len) st

@@ -2,6 +2,7 @@ use answers::Cut;
 use answers::Inserted;
 use answers::Insertion;
 use answers::Path;
+use books::put_counts;
 use cutstate::cut_all;
 use grow::add_leaf;
 use insert::copy_front;
@@ -13,7 +14,7 @@ ghost use mathlib.Core.Path.{_≡_};
 ghost use mathlib.Core.List.{List, [], _∷_, _++_};
 ghost use Prim.Native.Nat.{ℕ, _≤_, _<_};
 ghost use lib.ListN.{length, take};
-ghost use Rattle.model.specs.State.{Ranges, Pins};
+ghost use Rattle.model.specs.State.{Ranges, Pins, nodesIn, usedIn};
 ghost use Rattle.model.specs.Sound.{Sound};
 ghost use Rattle.model.specs.Tree.{Seg};
 ghost use Rattle.model.specs.Insert.{Cut as CutAt, withLeaf};
@@ -72,11 +73,11 @@ fn add_rest(
     found_node: &[usize],
     found_len: &[usize],
 ) -> Small
-    requires { ⌜ ((ss : List Seg) × LeafRoom ss (treeOf (now parent) (now depth) (now len) (now run) (now words) (x .nodes) (x .used)) (pathListOf (now «path_node») (now «path_len»)) (now hashes) m (pathListOf (now «found_node») (now «found_len»))) ⌝ }
-    ensures { λ r. ⌜ ((ss : List Seg) (cuts : List CutAt) (c : Ranges) (p : Pins) (marks bytes : List ℕ) → Found ss m (pathListOf (now («found_node» .entry)) (now («found_len» .entry))) → Left (withLeaf (now (hashes .entry)) ss cuts (stateOf (treeOf (now (parent .entry)) (now (depth .entry)) (now (len .entry)) (now (run .entry)) (now (words .entry)) (x .nodes) (x .used)) c p marks bytes x)) (pathListOf (now («path_node» .entry)) (now («path_len» .entry))) (stateOf (treeOf (now (parent .exit)) (now (depth .exit)) (now (len .exit)) (now (run .exit)) (now (words .exit)) (r .nodes) (r .used)) c p marks bytes r) (pathListOf (now («path_node» .exit)) (now («path_len» .exit)))) ⌝ }
+    requires { ⌜ ((ss : List Seg) × LeafRoom ss (treeOf (now parent) (now depth) (now len) (now run) (now words) (nodesIn (x .books)) (usedIn (x .books))) (pathListOf (now «path_node») (now «path_len»)) (now hashes) m (pathListOf (now «found_node») (now «found_len»))) ⌝ }
+    ensures { λ r. ⌜ ((ss : List Seg) (cuts : List CutAt) (c : Ranges) (p : Pins) (marks bytes : List ℕ) → Found ss m (pathListOf (now («found_node» .entry)) (now («found_len» .entry))) → Left (withLeaf (now (hashes .entry)) ss cuts (stateOf (treeOf (now (parent .entry)) (now (depth .entry)) (now (len .entry)) (now (run .entry)) (now (words .entry)) (nodesIn (x .books)) (usedIn (x .books))) c p marks bytes (x .books))) (pathListOf (now («path_node» .entry)) (now («path_len» .entry))) (stateOf (treeOf (now (parent .exit)) (now (depth .exit)) (now (len .exit)) (now (run .exit)) (now (words .exit)) (nodesIn (r .books)) (usedIn (r .books))) c p marks bytes (r .books)) (pathListOf (now («path_node» .exit)) (now («path_len» .exit)))) ⌝ }
 {
-    let nodes = x.nodes;
-    let used = x.used;
+    let nodes = x.books[0] as usize;
+    let used = x.books[1] as usize;
     let rest = hashes.len() - m.blocks;
     add_leaf(
         parent,
@@ -100,8 +101,7 @@ fn add_rest(
         rest,
     );
     let mut y = x;
-    y.nodes = nodes + 1;
-    y.used = used + rest;
+    put_counts(&mut y.books, nodes + 1, used + rest);
     y
 }
 
@@ -173,7 +173,7 @@ fn insert_found(
             }),
         };
     }
-    let new = x.nodes;
+    let new = x.books[0] as usize;
     let y = cut_all(
         &mut *parent,
         &mut *depth,
@@ -262,6 +262,7 @@ pub fn insert(
             answer: Inserted::Refused(3),
         };
     }
+    let nodes = x.books[0] as usize;
     let mut found_node = [0usize; 255];
     let mut found_len = [0usize; 255];
     let m = resolve(
@@ -269,7 +270,7 @@ pub fn insert(
         &*len,
         &*run,
         &*words,
-        x.nodes,
+        nodes,
         hashes,
         &mut found_node,
         &mut found_len,

@@ -6,7 +6,7 @@ use mathlib.Core.List.{List}
 use lib.ListN.{length}
 use Rattle.model.specs.Words.{Each}
 use Rattle.model.specs.Sizes.{maxNodes, maxWords, maxStores, maxCapacity, storeRecords, storePins, storeMarks, maxPinned, maxStamp, maxStalls}
-use Rattle.model.specs.State.{Tree, State, Range, Pin, at}
+use Rattle.model.specs.State.{Tree, State, Range, Pin, at, storesOf, nextIdOf, stallsOf}
 use Rattle.model.specs.Sound.{TreeLent, Lent, Root, Rising, ParentsInUse, DepthsAdd, EndsWithin, NodesFilled, RunsBelow, RunsApart, SiblingsDiffer, Inside, IdBetween, StampBetween, Finite, PinInside}
 use Rattle.model.specs.Store.{Store, storeOf, total, onNode}
 use Rattle.model.specs.Pins.{pinnedIn}
@@ -47,16 +47,19 @@ pub record MarksSound (t : Tree) (rs : List Range) (ms : List ℕ) : Type 0 wher
 
 -- one store
 pub record StoreSound (t : Tree) (next : ℕ) (x : Store) : Type 0 where
-  pub capacity : x .capacity ≤ maxCapacity
+  pub capacity : x .book .capacity ≤ maxCapacity
+  pub policy : x .book .policy ≤ 1
+  pub records : x .book .records ≡ length (x .ranges)
   pub few : length (x .ranges) ≤ storeRecords
-  pub stamp : x .stamp ≤ maxStamp
-  pub ranges : RangesSound t next (x .stamp) (x .ranges)
-  pub held : x .held ≡ total (x .ranges)
-  pub heldNone : x .capacity ≡ 0 → x .held ≡ 0
+  pub stamp : x .book .stamp ≤ maxStamp
+  pub ranges : RangesSound t next (x .book .stamp) (x .ranges)
+  pub held : x .book .held ≡ total (x .ranges)
+  pub heldNone : x .book .capacity ≡ 0 → x .book .held ≡ 0
+  pub entries : x .book .entries ≡ length (x .pins)
   pub fewPins : length (x .pins) ≤ storePins
   pub pins : PinsSound t (x .pins)
-  pub pinned : x .pinned ≡ pinnedIn (x .pins)
-  pub pinnedMost : x .pinned ≤ maxPinned
+  pub pinned : x .book .pinned ≡ pinnedIn (x .pins)
+  pub pinnedMost : x .book .pinned ≤ maxPinned
   pub marks : MarksSound t (x .ranges) (x .marks)
 
 -- the whole
@@ -64,11 +67,11 @@ pub record Parts (st : State) : Type 0 where
   pub lent : Lent st
   pub table : Rising (st .bytes)
   pub tree : TreeSound (st .tree)
-  pub some : 1 ≤ st .books .stores
-  pub stores : st .books .stores ≤ maxStores
-  pub firstId : 1 ≤ st .books .nextId
-  pub nextId : st .books .nextId ≤ maxStamp
-  pub stalls : st .books .stalls ≤ maxStalls
-  pub each : Each 0 (st .books .stores) (λ s. StoreSound (st .tree) (st .books .nextId) (storeOf st s))
+  pub some : 1 ≤ storesOf st
+  pub stores : storesOf st ≤ maxStores
+  pub firstId : 1 ≤ nextIdOf st
+  pub nextId : nextIdOf st ≤ maxStamp
+  pub stalls : stallsOf st ≤ maxStalls
+  pub each : Each 0 (storesOf st) (λ s. StoreSound (st .tree) (nextIdOf st) (storeOf st s))
   pub apart :
-      (s q : ℕ) → s < st .books .stores → q < st .books .stores → (s ≡ q → ⊥) → ApartFrom (storeOf st s .ranges) (storeOf st q .ranges)
+      (s q : ℕ) → s < storesOf st → q < storesOf st → (s ≡ q → ⊥) → ApartFrom (storeOf st s .ranges) (storeOf st q .ranges)

@@ -72,11 +72,14 @@ module _ (t : Tree) (table : List ℕ) (x : Store) (now seconds : Float) where
   expire-sound next h =
       record {
         capacity = h .capacity;
+        policy = h .policy;
+        records = refl;
         few = omega (arith, thin-length (evicted-cut row), h .few);
         stamp = h .stamp;
         ranges = cut-sound (evicted-cut row) (h .ranges);
         held = refl;
         heldNone = λ e. omega (arith, evicted-total row, h .held, h .heldNone e);
+        entries = h .entries;
         fewPins = h .fewPins;
         pins = h .pins;
         pinned = h .pinned;
@@ -98,7 +101,7 @@ module _ (t : Tree) (table : List ℕ) (x : Store) (now seconds : Float) where
 
   pub expire-steady : Steady x (expire t table x now seconds .store)
   unfolding expire
-  expire-steady = record { capacity = refl; refreshes = refl; pins = refl; pinned = refl }
+  expire-steady = record { capacity = refl; policy = refl; pins = refl; entries = refl; pinned = refl }
 
   pub expire-ends : oldest now seconds (expire t table x now seconds .store .ranges) ≡ none
   unfolding expire

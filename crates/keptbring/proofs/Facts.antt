@@ -193,13 +193,14 @@ apart-sym (r ∷ rs) qs a = all-both (λ q k h. (λ e. k (sym e), h)) qs (a .0) 
 -- ---- what a call that moves no pin leaves of a store as it was
 
 pub record Steady (x y : Store) : Type 0 where
-  pub capacity : y .capacity ≡ x .capacity
-  pub refreshes : y .refreshes ≡ x .refreshes
+  pub capacity : y .book .capacity ≡ x .book .capacity
+  pub policy : y .book .policy ≡ x .book .policy
   pub pins : y .pins ≡ x .pins
-  pub pinned : y .pinned ≡ x .pinned
+  pub entries : y .book .entries ≡ x .book .entries
+  pub pinned : y .book .pinned ≡ x .book .pinned
 
 pub steady-same : (x : Store) → Steady x x
-steady-same x = record { capacity = refl; refreshes = refl; pins = refl; pinned = refl }
+steady-same x = record { capacity = refl; policy = refl; pins = refl; entries = refl; pinned = refl }
 
 -- ---- a later next id, a later stamp
 
@@ -225,11 +226,14 @@ module _ {t : Tree} {next later : ℕ} (l : next ≤ later) where
   store-later {x = x} h =
       record {
         capacity = h .capacity;
+        policy = h .policy;
+        records = h .records;
         few = h .few;
         stamp = h .stamp;
-        ranges = ranges-later (le-refl (x .stamp)) (h .ranges);
+        ranges = ranges-later (le-refl (x .book .stamp)) (h .ranges);
         held = h .held;
         heldNone = h .heldNone;
+        entries = h .entries;
         fewPins = h .fewPins;
         pins = h .pins;
         pinned = h .pinned;

@@ -10,7 +10,7 @@ use lib.ListN.{length}
 use lib.Ieee.{Float, nan, inf, fin}
 use Rattle.model.specs.declared.Span.{Span}
 use Rattle.model.specs.Words.{Each, Some}
-use Rattle.model.specs.Sizes.{maxStores, maxCapacity, maxMarks, tableLength}
+use Rattle.model.specs.Sizes.{maxStores, maxCapacity, maxMarks, maxNumbers, tableLength}
 use Rattle.model.specs.State.{Tree, State, at}
 use Rattle.model.specs.Sound.{Sound, Finite}
 use Rattle.model.specs.SoundTest.{sound, rising}
@@ -124,4 +124,5 @@ set-up-fits pools table capacity refreshes n =
       pins = stable (pinsLent-sure (pools .pins)) (λ f. n (λ h. f (h .pins)));
       marks = stable (le-sure maxMarks (length (pools .marks))) (λ f. n (λ h. f (h .marks)));
       bytes = stable (le-sure tableLength (length (pools .bytes))) (λ f. n (λ h. f (h .bytes)));
+      books = stable (le-sure maxNumbers (length (pools .books))) (λ f. n (λ h. f (h .books)));
     }

@@ -7,7 +7,7 @@ use native.Mathlib.Omega.{arith}
 use lib.Ieee.{Float}
 use Rattle.model.specs.declared.Span.{Span}
 use Rattle.model.specs.Sizes.{storeRecords, storePins}
-use Rattle.model.specs.State.{State, at}
+use Rattle.model.specs.State.{State, at, storesOf, recordsOf, entriesOf}
 use Rattle.model.specs.Sound.{Sound}
 use Rattle.model.specs.Refusals.{PathList, OutList, SpanIn, noSpan, cutRecords, cutEntries}
 use Rattle.model.specs.Calls.{done, LookupLists, setUp, resolveCall, insert, storeInsert, storeUsed, storeRemove, storeExpire, pinSource, unpinSource, lookup, heldCall, capacityCall, pinnedCall, availableCall, versionCall, stallsCall}
@@ -32,8 +32,8 @@ insert-sound st l hs h =
     unless-sound _ _ _ (insert-kept st l hs) h
     (λ (unsound, (short, (many, (fewNodes, (fewWords, (fewRecords, (fewEntries, (late, end)))))))).
     insertPath-sound st hs h (omega arith) (omega arith) (omega arith)
-    (each-fits (λ s. at (st .books .records) s + cutRecords st hs s) (st .books .stores) storeRecords fewRecords)
-    (each-fits (λ s. at (st .books .entries) s + cutEntries st hs s) (st .books .stores) storePins fewEntries) (omega arith))
+    (each-fits (λ s. recordsOf st s + cutRecords st hs s) (storesOf st) storeRecords fewRecords)
+    (each-fits (λ s. entriesOf st s + cutEntries st hs s) (storesOf st) storePins fewEntries) (omega arith))
 
 pub storeInsert-sound : (st : State) (l : OutList) (s : ℕ) (sp : Span) (time : Float) (write : ℕ) → Sound st
     → Sound (storeInsert st l s sp time write .state)

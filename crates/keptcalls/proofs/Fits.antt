@@ -11,7 +11,7 @@ use lib.Dec.{eqb}
 use lib.Ieee.{Float}
 use Rattle.model.specs.declared.Span.{Span}
 use Rattle.model.specs.Sizes.{maxNodes, maxHashes, storeRecords, pathPlaces, outPlaces, tierPlaces}
-use Rattle.model.specs.State.{State, at}
+use Rattle.model.specs.State.{State, at, storesOf, nextIdOf, recordsOf}
 use Rattle.model.specs.Sound.{Sound}
 use Rattle.model.specs.Tree.{Seg, resolve, blocks}
 use Rattle.model.specs.Store.{storeOf, plus}
@@ -33,17 +33,17 @@ use Rattle.keptcalls.proofs.Stores.{store-sound, removedBy}
 -- ---- given-out spans and writes
 
 pub bringIn-fits : (st : State) (s : ℕ) (sp : Span) (time : Float) (write : ℕ)
-    → at (st .books .records) s + bringNeed (storeOf st s) sp ≤ storeRecords → length (brought st s sp time write .outs) ≤ outPlaces
+    → recordsOf st s + bringNeed (storeOf st s) sp ≤ storeRecords → length (brought st s sp time write .outs) ≤ outPlaces
 unfolding brought
 bringIn-fits st s sp time write room =
-    bring-outs (st .tree) (st .bytes) (st .books .nextId) (storeOf st s) sp time write (omega (arith, records-length st s))
+    bring-outs (st .tree) (st .bytes) (nextIdOf st) (storeOf st s) sp time write (omega (arith, records-length st s))
 
-module _ (st : State) (s : ℕ) (h : Sound st) (less : s < st .books .stores) where
+module _ (st : State) (s : ℕ) (h : Sound st) (less : s < storesOf st) where
   pub expireIn-fits : (now seconds : Float) → length (expire (st .tree) (st .bytes) (storeOf st s) now seconds .outs) ≤ outPlaces
   expireIn-fits now seconds = expire-outs (st .tree) (st .bytes) (storeOf st s) now seconds (store-sound st s h less)
 
   pub removeIn-fits : (sp : Span) → SpanIn (st .tree) sp → length (removedBy st s sp .writes) ≤ outPlaces
-  removeIn-fits sp inside = remove-writes (storeOf st s) (st .books .nextId) sp (store-sound st s h less) inside (h .counts .firstId)
+  removeIn-fits sp inside = remove-writes (storeOf st s) (nextIdOf st) sp (store-sound st s h less) inside (h .counts .firstId)
 
 -- ---- paths: a node of a path is never the root nor met twice, and there was room for the leaf
 

@@ -10,7 +10,7 @@ use lib.ListN.{length, drop, length-drop}
 use borrow.Author.Tests.{ltb-true, ltb-false}
 use Rattle.model.specs.Words.{Each}
 use Rattle.model.specs.Sizes.{maxNodes, maxWords, maxHashes, maxStamp, storeRecords, storePins}
-use Rattle.model.specs.State.{Tree, State, at}
+use Rattle.model.specs.State.{Tree, State, at, storesOf, nextIdOf, recordsOf, entriesOf}
 use Rattle.model.specs.Sound.{Sound}
 use Rattle.model.specs.Tree.{Seg, resolve, blocks}
 use Rattle.model.specs.Store.{Store, storeOf, plus}
@@ -18,7 +18,7 @@ use Rattle.model.specs.Insert.{nextNode, pinsAcross, cutTree, addLeaf, matchEnd
 use Rattle.model.specs.Refusals.{nodeNeed, newBlocks, cuts, cutRecords, cutEntries, cutIds}
 use Rattle.kept.specs.StoreSound.{TreeSound, StoreSound, Parts}
 use Rattle.keptcut.proofs.CutTree.{CutTo, cut-to, cutTree-sound}
-use Rattle.keptcut.proofs.CutStore.{cutStore-ids, cutStore-length, cutStore-pins, cutStore-sound}
+use Rattle.keptcut.proofs.CutStore.{below-nodes, cutStore-ids, cutStore-length, cutStore-pins, cutStore-sound}
 use Rattle.keptcut.proofs.Leaf.{leaf-store}
 use Rattle.keptcut.proofs.Insert.{EndsAt, match-end, leaf-here, store-here, leaf-cut}
 use Rattle.keptstate.proofs.Parts.{sound-parts, parts-sound}
@@ -35,9 +35,9 @@ module _ (st : State) (hs : List ℕ) (n : ℕ) (e : Seg) (h : Parts st) (ends :
 
   -- inside a node: cut it first
   module _ (inside : e .len < at (st .tree .len) (e .node)) (room : suc (st .tree .nodes) < maxNodes)
-      (records : Each 0 (st .books .stores) (λ s. at (st .books .records) s + needs (e .node) (e .len) st s ≤ storeRecords))
-      (entries : Each 0 (st .books .stores) (λ s. at (st .books .entries) s + pinsAcross (e .node) (e .len) (storeOf st s .pins) ≤ storePins))
-      (last : st .books .nextId + sumTo (needs (e .node) (e .len) st) (st .books .stores) ≤ maxStamp) where
+      (records : Each 0 (storesOf st) (λ s. recordsOf st s + needs (e .node) (e .len) st s ≤ storeRecords))
+      (entries : Each 0 (storesOf st) (λ s. entriesOf st s + pinsAcross (e .node) (e .len) (storeOf st s .pins) ≤ storePins))
+      (last : nextIdOf st + sumTo (needs (e .node) (e .len) st) (storesOf st) ≤ maxStamp) where
     was-cut : CutTo (e .node) (e .len) (st .tree) (cutTree (e .node) (e .len) (st .tree))
     was-cut = cut-to (e .node) (e .len) (st .tree) (h .tree .lent) (ends .inNode inside .0) (ends .inUse) (omega arith)
 
@@ -47,10 +47,11 @@ module _ (st : State) (hs : List ℕ) (n : ℕ) (e : Seg) (h : Parts st) (ends :
     store-kept : (next : ℕ) (x : Store) → 1 ≤ next → StoreSound (st .tree) next x → Room (e .node) (e .len) x
         → StoreCut (e .node) (e .len) (nextNode (st .tree)) (cutTree (e .node) (e .len) (st .tree)) next x
     store-kept next x first s fits =
+        let below = below-nodes (st .tree) (x .ranges) (s .ranges .inside) in
         record {
           sound = cutStore-sound (e .node) (e .len) (st .tree) (h .tree) (ends .inNode inside .0) (ends .inUse) (omega arith) s (fits .records) (fits .entries);
-          ids = cutStore-ids (e .node) (e .len) (nextNode (st .tree)) next x;
-          few = le-of-eq (cutStore-length (e .node) (e .len) (nextNode (st .tree)) next x);
+          ids = cutStore-ids (e .node) (e .len) (nextNode (st .tree)) next x below;
+          few = le-of-eq (cutStore-length (e .node) (e .len) (nextNode (st .tree)) next x below);
           fewPins = cutStore-pins (e .node) (e .len) (nextNode (st .tree)) next x;
         }
 
@@ -72,9 +73,9 @@ module _ (st : State) (hs : List ℕ) (n : ℕ) (e : Seg) (h : Parts st) (ends :
 
 pub insertPath-sound : (st : State) (hs : List ℕ) → Sound st → length hs ≤ maxHashes → st .tree .nodes + nodeNeed st hs ≤ maxNodes
     → st .tree .used + newBlocks st hs ≤ maxWords
-    → Each 0 (st .books .stores) (λ s. at (st .books .records) s + cutRecords st hs s ≤ storeRecords)
-    → Each 0 (st .books .stores) (λ s. at (st .books .entries) s + cutEntries st hs s ≤ storePins)
-    → st .books .nextId + cutIds st hs (st .books .stores) ≤ maxStamp → Sound (insertPath hs (resolve (st .tree) hs) st .state)
+    → Each 0 (storesOf st) (λ s. recordsOf st s + cutRecords st hs s ≤ storeRecords)
+    → Each 0 (storesOf st) (λ s. entriesOf st s + cutEntries st hs s ≤ storePins)
+    → nextIdOf st + cutIds st hs (storesOf st) ≤ maxStamp → Sound (insertPath hs (resolve (st .tree) hs) st .state)
 unfolding insertPath nodeNeed newBlocks withLeaf
 insertPath-sound st hs sound short nodes words records entries last = go (adds hs (resolve (st .tree) hs)) refl nodes
   where
@@ -94,7 +95,7 @@ insertPath-sound st hs sound short nodes words records entries last = go (adds h
         (cut-parts st hs (blocks path) (matchEnd path) h (match-end t (h .tree) hs p) (ltb-true _ _ p) short words (ltb-true _ _ q) (omega arith)
         (λ s low less. rw (records-counted st hs does s) at (records s low less))
         (λ s low less. rw (entries-counted st hs does s) at (entries s low less))
-        (rw (ids-counted st hs does (st .books .stores)) at last))
+        (rw (ids-counted st hs does (storesOf st)) at last))
     inside false q p room =
         let ends = match-end t (h .tree) hs p in
         let past : at (t .len) (matchEnd path .node) ≤ matchEnd path .len = ltb-false _ _ q in

@@ -1,7 +1,7 @@
 -- A store's half of a cut: each range goes to the head's side, to the tail's or, cut in two, to both. So the ranges stay in order, inside their nodes and of
 -- one total, the pins of one sum, and the store stays sound on the tree that was cut. Assumes nothing.
 use Prim.Native.Nat.{ℕ, suc, _+_, _-_, _*_, _≤_, _<_, min}
-use mathlib.Core.Path.{_≡_, refl, sym, subst, _∙_}
+use mathlib.Core.Path.{_≡_, refl, sym, ap, subst, _∙_}
 use mathlib.Core.Logic.{_⊎_, inl, inr, _≢_}
 use mathlib.Core.Bool.{Bool, true, false, not, _&&_, _||_}
 use mathlib.Core.List.{List, [], _∷_, _++_}
@@ -11,13 +11,14 @@ use native.Mathlib.Decide.{ℕ-discrete}
 use lib.ListN.{length, set, length-set, length-append}
 use lib.Seq.{getD-set-same, getD-set-other}
 use lib.Dec.{ltb, eqb}
+use borrow.Author.Tests.{lt-ltb}
 use Rattle.model.specs.Words.{Says, Each}
 use Rattle.model.specs.Sizes.{maxNodes, storeRecords, storePins}
 use Rattle.model.specs.State.{Tree, Range, Pin, at}
 use Rattle.model.specs.Sound.{Before, Inside, IdBetween, StampBetween, Finite, PinInside}
-use Rattle.model.specs.Store.{Store, total, onNode, put, plus}
+use Rattle.model.specs.Store.{Store, changed, total, onNode, put, plus}
 use Rattle.model.specs.Pins.{counted, addPin, pinnedIn}
-use Rattle.model.specs.Insert.{nextNode, across, beyond, head, heads, tail, tails, rangesAcross, pinAcross, putPin, pinHead, pinTail, pinPieces, cutPins, pinsAcross, ifHeld, cutMarks, cutStore, cutTree}
+use Rattle.model.specs.Insert.{nextNode, across, beyond, head, heads, tail, tails, placed, rangesAcross, pinAcross, putPin, pinHead, pinTail, pinPieces, cutPins, pinsAcross, ifHeld, cutMarks, cutStore, cutTree}
 use Rattle.sure.proofs.Says.{lt-sure, eq-sure}
 use Rattle.kept.specs.Facts.{All, InOrder, Sorted, PinsSorted, IdApart, Distinct, ApartFrom, HasId, IdsFrom}
 use Rattle.kept.specs.StoreSound.{TreeSound, RangesSound, MarksSound, StoreSound}
@@ -478,30 +479,51 @@ module _ {j k : ℕ} {t u : Tree} (inUse : j < t .nodes) (room : t .nodes < maxN
           (rw (mark-new j k (t .nodes) qs ms new inUse, c .newLen) (omega (arith, held-most (onNode (t .nodes) qs) (at ms j - k), s .within j inUse)))
           (λ v l h. old v h (ℕ-discrete v j))
 
+-- ---- the new node's ranges stand last where it has the highest number
+
+placed-last : (m : ℕ) (new rs : List Range) → All (λ r. r .node < m) rs → placed m new rs ≡ rs ++ new
+unfolding All placed
+placed-last m new [] h = refl
+placed-last m new (r ∷ rs) h = rw (placed, lt-ltb (r .node) m (h .0), placed-last m new rs (h .1))
+
+heads-below : (j k m : ℕ) (rs : List Range) → All (λ r. r .node < m) rs → All (λ r. r .node < m) (heads j k rs)
+unfolding All heads
+heads-below j k m [] h = tt
+heads-below j k m (r ∷ rs) h = go (across j k r || not (beyond j k r)) (across j k r) (heads-below j k m rs (h .1))
+  where
+    go : (b a : Bool) → All (λ q. q .node < m) (heads j k rs) → All (λ q. q .node < m) (put b (head a k r) (heads j k rs))
+    go true true ih = (h .0, ih)
+    go true false ih = (h .0, ih)
+    go false a ih = ih
+
+-- the store with these ranges after the cut
+abbrev cutTo : ℕ → ℕ → ℕ → Store → List Range → Store
+cutTo j k m x rs =
+    let ps = cutPins j k m (x .pins) in
+    let b = x .book in
+    record {
+      book = changed b (length rs) (b .held) (b .stamp) (b .version) (length ps) (pinnedIn ps);
+      ranges = rs;
+      pins = ps;
+      marks = cutMarks j k m rs (x .marks);
+    }
+
+-- and with the new node's ranges last
+abbrev pub cutLast : ℕ → ℕ → ℕ → ℕ → Store → Store
+cutLast j k m next x = cutTo j k m x (heads j k (x .ranges) ++ tails j k m next (x .ranges))
+
+pub cut-last : (j k m next : ℕ) (x : Store) → All (λ r. r .node < m) (x .ranges) → cutStore j k m next x ≡ cutLast j k m next x
+unfolding cutStore
+cut-last j k m next x h =
+    ap (cutTo j k m x) (placed-last m (tails j k m next (x .ranges)) (heads j k (x .ranges)) (heads-below j k m (x .ranges) h))
+
+-- a store's ranges are of nodes in use
+pub below-nodes : (t : Tree) (rs : List Range) → All (Inside t) rs → All (λ r. r .node < t .nodes) rs
+below-nodes t rs h = all-map (λ r i. i .inUse) rs h
+
 -- ---- what a cut of a store changes and what not
 
-pub record SameNumbers (x y : Store) : Type 0 where
-  pub capacity : y .capacity ≡ x .capacity
-  pub refreshes : y .refreshes ≡ x .refreshes
-  pub held : y .held ≡ x .held
-  pub stamp : y .stamp ≡ x .stamp
-  pub version : y .version ≡ x .version
-
 module _ (j k m next : ℕ) (x : Store) where
-  pub cutStore-ids : IdsFrom (x .ranges) next (cutStore j k m next x .ranges)
-  unfolding cutStore
-  cutStore-ids =
-      let rs : List Range = x .ranges in
-      halves-id j k m next rs (λ i. HasId i rs ⊎ (next ≤ i)) (λ i l h. inr l) (all-map (λ r h. inl h) rs (has-each rs))
-
-  pub cutStore-total : total (cutStore j k m next x .ranges) ≡ total (x .ranges)
-  unfolding cutStore
-  cutStore-total = total-append (heads j k (x .ranges)) (tails j k m next (x .ranges)) ∙ parts-total j k m next (x .ranges)
-
-  pub cutStore-length : length (cutStore j k m next x .ranges) ≡ length (x .ranges) + rangesAcross j k (x .ranges)
-  unfolding cutStore
-  cutStore-length = length-append (heads j k (x .ranges)) (tails j k m next (x .ranges)) ∙ parts-length j k m next (x .ranges)
-
   pub cutStore-pins : length (cutStore j k m next x .pins) ≤ length (x .pins) + pinsAcross j k (x .pins)
   unfolding cutStore
   cutStore-pins = cut-pins-few j k m (x .pins)
@@ -510,34 +532,50 @@ module _ (j k m next : ℕ) (x : Store) where
   unfolding cutStore
   cutStore-pinned = cut-pinned j k m (x .pins)
 
-  pub cutStore-same : SameNumbers x (cutStore j k m next x)
-  unfolding cutStore
-  cutStore-same = record { capacity = refl; refreshes = refl; held = refl; stamp = refl; version = refl }
+  module _ (below : All (λ r. r .node < m) (x .ranges)) where
+    last : cutStore j k m next x .ranges ≡ heads j k (x .ranges) ++ tails j k m next (x .ranges)
+    last = ap (λ (y : Store). y .ranges) (cut-last j k m next x below)
+
+    pub cutStore-ids : IdsFrom (x .ranges) next (cutStore j k m next x .ranges)
+    cutStore-ids =
+        let rs : List Range = x .ranges in
+        rw last (halves-id j k m next rs (λ i. HasId i rs ⊎ (next ≤ i)) (λ i l h. inr l) (all-map (λ r h. inl h) rs (has-each rs)))
+
+    pub cutStore-total : total (cutStore j k m next x .ranges) ≡ total (x .ranges)
+    cutStore-total = rw last (total-append (heads j k (x .ranges)) (tails j k m next (x .ranges)) ∙ parts-total j k m next (x .ranges))
+
+    pub cutStore-length : length (cutStore j k m next x .ranges) ≡ length (x .ranges) + rangesAcross j k (x .ranges)
+    cutStore-length = rw last (length-append (heads j k (x .ranges)) (tails j k m next (x .ranges)) ∙ parts-length j k m next (x .ranges))
 
 -- ---- the store stays sound
 
 module _ {j k : ℕ} {t u : Tree} (inUse : j < t .nodes) (room : t .nodes < maxNodes) (c : CutTo j k t u) where
   cut-in-store : {next : ℕ} {x : Store} → StoreSound t next x → length (x .ranges) + rangesAcross j k (x .ranges) ≤ storeRecords
       → length (x .pins) + pinsAcross j k (x .pins) ≤ storePins
-      → StoreSound u (next + rangesAcross j k (x .ranges)) (cutStore j k (t .nodes) next x)
-  unfolding cutStore
+      → StoreSound u (next + rangesAcross j k (x .ranges)) (cutLast j k (t .nodes) next x)
   cut-in-store {next} {x} s few fewPins =
       let rs : List Range = x .ranges in
       record {
         capacity = s .capacity;
-        few = rw (cutStore-length j k (t .nodes) next x) few;
+        policy = s .policy;
+        records = refl;
+        few = rw (length-append (heads j k rs) (tails j k (t .nodes) next rs) ∙ parts-length j k (t .nodes) next rs) few;
         stamp = s .stamp;
         ranges = halves-sound inUse c next rs (s .ranges);
-        held = s .held ∙ sym (cutStore-total j k (t .nodes) next x);
+        held = s .held ∙ sym (total-append (heads j k rs) (tails j k (t .nodes) next rs) ∙ parts-total j k (t .nodes) next rs);
         heldNone = s .heldNone;
-        fewPins = omega (arith, cutStore-pins j k (t .nodes) next x);
+        entries = refl;
+        fewPins = omega (arith, cut-pins-few j k (t .nodes) (x .pins));
         pins = record { sorted = cut-pins-sorted j k (t .nodes) (x .pins); inside = cut-pins-inside inUse c (x .pins) (s .pins .inside) };
         pinned = refl;
-        pinnedMost = rw (cutStore-pinned j k (t .nodes) next x) (omega (arith, s .pinned, s .pinnedMost));
+        pinnedMost = rw (cut-pinned j k (t .nodes) (x .pins)) (omega (arith, s .pinned, s .pinnedMost));
         marks = cut-marks-sound inUse room c next rs (x .marks) (s .marks);
       }
 
 pub cutStore-sound : (j k : ℕ) (t : Tree) → TreeSound t → 1 ≤ j → j < t .nodes → t .nodes < maxNodes → {next : ℕ} {x : Store} → StoreSound t next x
     → length (x .ranges) + rangesAcross j k (x .ranges) ≤ storeRecords → length (x .pins) + pinsAcross j k (x .pins) ≤ storePins
     → StoreSound (cutTree j k t) (next + rangesAcross j k (x .ranges)) (cutStore j k (nextNode t) next x)
-cutStore-sound j k t s notRoot inUse room = cut-in-store inUse room (cut-to j k t (s .lent) notRoot inUse room)
+cutStore-sound j k t s notRoot inUse room {next} {x} h few fewPins =
+    subst (StoreSound (cutTree j k t) (next + rangesAcross j k (x .ranges)))
+    (sym (cut-last j k (t .nodes) next x (below-nodes t (x .ranges) (h .ranges .inside))))
+    (cut-in-store inUse room (cut-to j k t (s .lent) notRoot inUse room) h few fewPins)

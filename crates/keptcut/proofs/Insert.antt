@@ -10,7 +10,7 @@ use lib.ListN.{length, drop, length-drop}
 use lib.Seq.{getD-drop}
 use borrow.Author.Tests.{ltb-true, ltb-false}
 use Rattle.model.specs.Sizes.{maxNodes, maxWords, maxHashes, storeRecords, storePins}
-use Rattle.model.specs.State.{Tree, State, at, endOf}
+use Rattle.model.specs.State.{Tree, State, at, endOf, storesOf}
 use Rattle.model.specs.Sound.{DepthsAdd}
 use Rattle.model.specs.Tree.{Seg, hashAt, resolve, blocks}
 use Rattle.model.specs.Store.{Store, plus}
@@ -134,7 +134,7 @@ cut-stores-tree j k m s (suc n) st = cut-stores-tree j k m (suc s) n (cutStoreIn
 
 pub cut-tree : (j k : ℕ) (st : State) → cut j k st .tree ≡ cutTree j k (st .tree)
 unfolding cut
-cut-tree j k st = cut-stores-tree j k (nextNode (st .tree)) 0 (st .books .stores) (withTree (cutTree j k (st .tree)) st)
+cut-tree j k st = cut-stores-tree j k (nextNode (st .tree)) 0 (storesOf st) (withTree (cutTree j k (st .tree)) st)
 
 pub insert-tree : (st : State) (hs : List ℕ) → TreeSound (st .tree) → length hs ≤ maxHashes → st .tree .nodes + nodeNeed st hs ≤ maxNodes
     → st .tree .used + newBlocks st hs ≤ maxWords → TreeSound (insertPath hs (resolve (st .tree) hs) st .state .tree)

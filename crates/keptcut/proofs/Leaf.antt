@@ -177,6 +177,8 @@ module _ {p d : ℕ} {rest : List ℕ} {t u : Tree} (c : LeafTo p d rest t u) (r
       let rs : List Range = x .ranges in
       record {
         capacity = s .capacity;
+        policy = s .policy;
+        records = s .records;
         few = s .few;
         stamp = s .stamp;
         ranges = record {
@@ -189,6 +191,7 @@ module _ {p d : ℕ} {rest : List ℕ} {t u : Tree} (c : LeafTo p d rest t u) (r
         };
         held = s .held;
         heldNone = s .heldNone;
+        entries = s .entries;
         fewPins = s .fewPins;
         pins = record { sorted = s .pins .sorted; inside = all-map still-pinned (x .pins) (s .pins .inside) };
         pinned = s .pinned;

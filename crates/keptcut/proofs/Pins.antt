@@ -230,11 +230,14 @@ module _ {t : Tree} {next : ℕ} {x : Store} (s : StoreSound t next x) where
   repinned-sound ps few sound most =
       record {
         capacity = s .capacity;
+        policy = s .policy;
+        records = s .records;
         few = s .few;
         stamp = s .stamp;
         ranges = s .ranges;
         held = s .held;
         heldNone = s .heldNone;
+        entries = refl;
         fewPins = few;
         pins = sound;
         pinned = refl;
@@ -242,7 +245,7 @@ module _ {t : Tree} {next : ℕ} {x : Store} (s : StoreSound t next x) where
         marks = s .marks;
       }
 
-  pub pin-sound : (sp : Span) → SpanIn t sp → length (x .pins) + pinNeed x sp ≤ storePins → x .pinned + (sp .end - sp .start) ≤ maxPinned
+  pub pin-sound : (sp : Span) → SpanIn t sp → length (x .pins) + pinNeed x sp ≤ storePins → x .book .pinned + (sp .end - sp .start) ≤ maxPinned
       → StoreSound t next (pin x sp)
   unfolding pin pinNeed
   pin-sound sp i few most =

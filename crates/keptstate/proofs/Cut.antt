@@ -1,21 +1,22 @@
 -- A cut changes every store in turn, after the tree: where the cut of one store keeps it sound, from the old tree to the new one, the state stays
 -- sound. Assumes nothing.
 use Prim.Native.Nat.{ℕ, zero, suc, _+_, _≤_, _<_, zero-le}
-use mathlib.Core.Path.{_≡_, refl, subst, _∙_}
+use mathlib.Core.Path.{_≡_, refl, ap, subst, _∙_}
 use mathlib.Core.Bool.{true}
 use mathlib.Core.List.{List}
 use native.Mathlib.Omega.{arith}
 use native.Mathlib.Nat.{le-refl, add-zero, zero-add}
 use native.Mathlib.Decide.{ℕ-discrete}
 use lib.ListN.{length}
+use Rattle.model.specs.declared.Book.{Book}
 use Rattle.model.specs.Words.{Each}
 use Rattle.model.specs.Sizes.{maxStamp, storeRecords, storePins}
-use Rattle.model.specs.State.{Tree, State, at}
-use Rattle.model.specs.Store.{Store, storeOf, withRanges, withPins, withNext}
+use Rattle.model.specs.State.{Tree, State, bookIn, storesOf, nextIdOf, stallsOf, recordsOf, entriesOf}
+use Rattle.model.specs.Store.{Store, storeOf, layNext, layCounts, withRanges, withPins, withNext}
 use Rattle.model.specs.Tree.{resolve}
 use Rattle.model.specs.Refusals.{cuts, cutRecords, cutEntries, cutIds}
-use Rattle.model.specs.Insert.{matchEnd, nextNode, cutTree, cutStore, cutStoreIn, cutStores, rangesAcross, pinsAcross, withTree, cut}
-use Rattle.laid.proofs.Store.{RangesFit, PinsFit, rangesFrom, pinsFrom, records-length, entries-length}
+use Rattle.model.specs.Insert.{matchEnd, nextNode, cutTree, cutStore, rangesFrom, cutStoreIn, cutStores, rangesAcross, pinsAcross, withTree, cut}
+use Rattle.laid.proofs.Store.{RangesFit, store-book, records-length, entries-length}
 use Rattle.kept.specs.Facts.{IdsFrom}
 use Rattle.kept.specs.StoreSound.{TreeSound, StoreSound, Parts}
 use Rattle.keptstate.proofs.Lists.{same-tree}
@@ -56,12 +57,12 @@ needs j k st q = rangesAcross j k (storeOf st q .ranges)
 pub record Cutting (j k : ℕ) (st₀ : State) (u : Tree) (s : ℕ) (st : State) : Type 0 where
   pub way : Midway (st₀ .tree) s st
   pub tree : st .tree ≡ u
-  pub stores : st .books .stores ≡ st₀ .books .stores
-  pub nextId : st .books .nextId ≡ st₀ .books .nextId + sumTo (needs j k st₀) s
-  pub rest : (q : ℕ) → s ≤ q → q < st₀ .books .stores → storeOf st q ≡ storeOf st₀ q
+  pub stores : storesOf st ≡ storesOf st₀
+  pub nextId : nextIdOf st ≡ nextIdOf st₀ + sumTo (needs j k st₀) s
+  pub rest : (q : ℕ) → s ≤ q → q < storesOf st₀ → storeOf st q ≡ storeOf st₀ q
 
 pub first-turn : (j k : ℕ) (st : State) (u : Tree) → Parts st → TreeSound u → Cutting j k st u 0 (withTree u st)
-unfolding storeOf sumTo
+unfolding storeOf sumTo withTree layCounts bookIn
 first-turn j k st u h tree =
     record { way = midway-start st u h tree; tree = refl; stores = refl; nextId = rw add-zero; rest = λ q low less. refl }
 
@@ -69,62 +70,62 @@ first-turn j k st u h tree =
 pub cutIn : ℕ → ℕ → ℕ → ℕ → State → State
 cutIn j k m s st =
     let x = storeOf st s in
-    let y = cutStore j k m (st .books .nextId) x in
-    withNext (st .books .nextId + needs j k st s) (st .books .stalls) (withPins s (pinsAcross j k (x .pins)) y (withRanges s (needs j k st s) y st))
+    let y = cutStore j k m (nextIdOf st) x in
+    withNext (nextIdOf st + needs j k st s) (stallsOf st) (withPins s (pinsAcross j k (x .pins)) y (withRanges s (needs j k st s) (rangesFrom y x) st))
 
 pub cutIn-is : (j k m s : ℕ) (st : State) → cutIn j k m s st ≡ cutStoreIn j k m s st
 unfolding cutIn cutStoreIn
 cutIn-is j k m s st = refl
 
-sides : (j k m next : ℕ) (x : Store) → pinsFrom (cutStore j k m next x) (rangesFrom (cutStore j k m next x) x) ≡ cutStore j k m next x
+-- what a cut leaves is counted
+counted : (j k m next : ℕ) (x : Store) → cutStore j k m next x .book .records ≡ length (cutStore j k m next x .ranges)
 unfolding cutStore
-sides j k m next x = refl
+counted j k m next x = refl
 
 module _ (j k m : ℕ) (st₀ : State) (u : Tree)
     (kept : (next : ℕ) (x : Store) → 1 ≤ next → StoreSound (st₀ .tree) next x → Room j k x → StoreCut j k m u next x)
-    (room : (q : ℕ) → q < st₀ .books .stores → Room j k (storeOf st₀ q))
-    (last : st₀ .books .nextId + sumTo (needs j k st₀) (st₀ .books .stores) ≤ maxStamp) where
-  module _ (s : ℕ) (st : State) (h : Cutting j k st₀ u s st) (less : s < st₀ .books .stores) where
-    pub inUse : s < st .books .stores
+    (room : (q : ℕ) → q < storesOf st₀ → Room j k (storeOf st₀ q))
+    (last : nextIdOf st₀ + sumTo (needs j k st₀) (storesOf st₀) ≤ maxStamp) where
+  module _ (s : ℕ) (st : State) (h : Cutting j k st₀ u s st) (less : s < storesOf st₀) where
+    pub inUse : s < storesOf st
     inUse = rw (h .stores) less
 
     pub fits : Room j k (storeOf st s)
     fits = rw (h .rest s (le-refl s) less) (room s less)
 
-    done : StoreCut j k m u (st .books .nextId) (storeOf st s)
+    done : StoreCut j k m u (nextIdOf st) (storeOf st s)
     done =
-        kept (st .books .nextId) (storeOf st s) (h .way .frame .firstId) (h .way .from s (le-refl s) inUse) fits
+        kept (nextIdOf st) (storeOf st s) (h .way .frame .firstId) (h .way .from s (le-refl s) inUse) fits
 
-    laid : Laid s (cutStore j k m (st .books .nextId) (storeOf st s)) st (cutIn j k m s st)
+    pub laid : Laid s (cutStore j k m (nextIdOf st) (storeOf st s)) st (cutIn j k m s st)
     unfolding cutIn
     laid =
         let x = storeOf st s in
-        let y = cutStore j k m (st .books .nextId) x in
+        let y = cutStore j k m (nextIdOf st) x in
         let long = records-length st s in
         let longPins = entries-length st s in
-        let fit : RangesFit st s (needs j k st s) y = record {
+        let fit : RangesFit st s (needs j k st s) (rangesFrom y x) = record {
           ranges = omega (arith, done .few, long);
           room = omega (arith, fits .records, long);
           marks = done .sound .marks .long;
+          counted = counted j k m (nextIdOf st) x;
+          entries = ap (λ (b : Book). b .entries) (store-book st s);
+          pins = refl;
         } in
-        let fitPins : PinsFit st s (pinsAcross j k (x .pins)) y = record {
-          pins = omega (arith, done .fewPins, longPins);
-          room = omega (arith, fits .entries, longPins);
-        } in
-        laid-next (st .books .nextId + needs j k st s) (st .books .stalls)
-        (laid-both st s (needs j k st s) y (midway-sizes (st₀ .tree) s st (h .way)) inUse (pinsAcross j k (x .pins))
-        (sides j k m (st .books .nextId) x) fit fitPins)
+        laid-next (nextIdOf st + needs j k st s) (stallsOf st)
+        (laid-both st s (needs j k st s) y (midway-sizes (st₀ .tree) s st (h .way)) inUse (pinsAcross j k (x .pins)) fit (done .sound .entries)
+        (omega (arith, done .fewPins, longPins)) (omega (arith, fits .entries, longPins)))
 
-    next-is : cutIn j k m s st .books .nextId ≡ st₀ .books .nextId + sumTo (needs j k st₀) (suc s)
-    unfolding cutIn withNext sumTo
+    next-is : nextIdOf (cutIn j k m s st) ≡ nextIdOf st₀ + sumTo (needs j k st₀) (suc s)
+    unfolding cutIn withNext layNext sumTo
     next-is = rw (h .rest s (le-refl s) less, h .nextId) (omega arith)
 
     pub next-turn : Cutting j k st₀ u (suc s) (cutIn j k m s st)
-    unfolding cutIn withNext
+    unfolding cutIn withNext layNext
     next-turn =
-        let l : sumTo (needs j k st₀) (suc s) ≤ sumTo (needs j k st₀) (st₀ .books .stores) = sum-rises (needs j k st₀) (suc s) (st₀ .books .stores) less in
+        let l : sumTo (needs j k st₀) (suc s) ≤ sumTo (needs j k st₀) (storesOf st₀) = sum-rises (needs j k st₀) (suc s) (storesOf st₀) less in
         record {
-          way = turn (st₀ .tree) s st (h .way) (cutStore j k m (st .books .nextId) (storeOf st s)) (cutIn j k m s st) laid inUse
+          way = turn (st₀ .tree) s st (h .way) (cutStore j k m (nextIdOf st) (storeOf st s)) (cutIn j k m s st) laid inUse
               (omega arith) (same-tree (h .tree) (done .sound)) (done .ids) (omega (arith, next-is)) (h .way .frame .stalls);
           tree = laid .tree ∙ h .tree;
           stores = laid .stores ∙ h .stores;
@@ -132,8 +133,8 @@ module _ (j k m : ℕ) (st₀ : State) (u : Tree)
           rest = λ q low l. laid .other q (omega arith) (rw (h .stores) l) ∙ h .rest q (omega arith) l;
         }
 
-  all-turns : (n s : ℕ) (st : State) → Cutting j k st₀ u s st → s + n ≡ st₀ .books .stores
-      → Cutting j k st₀ u (st₀ .books .stores) (cutStores j k m s n st)
+  all-turns : (n s : ℕ) (st : State) → Cutting j k st₀ u s st → s + n ≡ storesOf st₀
+      → Cutting j k st₀ u (storesOf st₀) (cutStores j k m s n st)
   unfolding cutStores
   all-turns zero s st h e = subst (λ (i : ℕ). Cutting j k st₀ u i st) (omega arith) h
   all-turns (suc n) s st h e =
@@ -143,19 +144,19 @@ module _ (j k m : ℕ) (st₀ : State) (u : Tree)
 pub record AfterCut (j k : ℕ) (st : State) : Type 0 where
   pub parts : Parts (cut j k st)
   pub tree : cut j k st .tree ≡ cutTree j k (st .tree)
-  pub stores : cut j k st .books .stores ≡ st .books .stores
-  pub nextId : cut j k st .books .nextId ≡ st .books .nextId + sumTo (needs j k st) (st .books .stores)
+  pub stores : storesOf (cut j k st) ≡ storesOf st
+  pub nextId : nextIdOf (cut j k st) ≡ nextIdOf st + sumTo (needs j k st) (storesOf st)
 
 -- "Need for 8 and 9 is counted before adding up"; 11 for all new ids
 pub cut-kept : (j k : ℕ) (st : State) → Parts st → TreeSound (cutTree j k (st .tree))
     → ((next : ℕ) (x : Store) → 1 ≤ next → StoreSound (st .tree) next x → Room j k x → StoreCut j k (nextNode (st .tree)) (cutTree j k (st .tree)) next x)
-    → Each 0 (st .books .stores) (λ s. at (st .books .records) s + rangesAcross j k (storeOf st s .ranges) ≤ storeRecords)
-    → Each 0 (st .books .stores) (λ s. at (st .books .entries) s + pinsAcross j k (storeOf st s .pins) ≤ storePins)
-    → st .books .nextId + sumTo (needs j k st) (st .books .stores) ≤ maxStamp → AfterCut j k st
+    → Each 0 (storesOf st) (λ s. recordsOf st s + rangesAcross j k (storeOf st s .ranges) ≤ storeRecords)
+    → Each 0 (storesOf st) (λ s. entriesOf st s + pinsAcross j k (storeOf st s .pins) ≤ storePins)
+    → nextIdOf st + sumTo (needs j k st) (storesOf st) ≤ maxStamp → AfterCut j k st
 unfolding cut
 cut-kept j k st h tree kept records entries last =
     record {
-      parts = midway-end (st .tree) (st .books .stores) (cut j k st) (end .way) (λ q low less. absurd (omega (arith, end .stores)));
+      parts = midway-end (st .tree) (storesOf st) (cut j k st) (end .way) (λ q low less. absurd (omega (arith, end .stores)));
       tree = end .tree;
       stores = end .stores;
       nextId = end .nextId;
@@ -164,11 +165,11 @@ cut-kept j k st h tree kept records entries last =
     u : Tree
     u = cutTree j k (st .tree)
 
-    room : (q : ℕ) → q < st .books .stores → Room j k (storeOf st q)
+    room : (q : ℕ) → q < storesOf st → Room j k (storeOf st q)
     room q less = record { records = rw records-length (records q zero-le less); entries = rw entries-length (entries q zero-le less) }
 
-    end : Cutting j k st u (st .books .stores) (cut j k st)
-    end = all-turns j k (nextNode (st .tree)) st u kept room last (st .books .stores) 0 (withTree u st) (first-turn j k st u h tree) (zero-add _)
+    end : Cutting j k st u (storesOf st) (cut j k st)
+    end = all-turns j k (nextNode (st .tree)) st u kept room last (storesOf st) 0 (withTree u st) (first-turn j k st u h tree) (zero-add _)
 
 -- ---- what insert's conditions 8, 9 and 11 count, where it cuts, is what the cut needs
 

@@ -1,23 +1,24 @@
 -- A state with another value for one store, whatever side of it was laid back: the store is the new one and nothing else is changed. Assumes nothing.
-use Prim.Native.Nat.{ℕ, _<_}
-use mathlib.Core.Path.{_≡_, refl, ap, _∙_}
+use Prim.Native.Nat.{ℕ, _+_, _≤_, _<_}
+use mathlib.Core.Path.{_≡_, refl, sym, ap, _∙_}
 use mathlib.Core.Logic.{_≢_}
-use Rattle.model.specs.State.{State}
+use lib.ListN.{length}
+use Rattle.model.specs.declared.Book.{Book}
+use Rattle.model.specs.Sizes.{storePins}
+use Rattle.model.specs.State.{State, storesOf, bookOf, entriesOf}
 use Rattle.model.specs.Sound.{Lent}
-use Rattle.model.specs.Store.{Store, storeOf, withRanges, withPins, withNext}
-use Rattle.laid.proofs.Store.{Roomy, RangesFit, PinsFit, rangesFrom, pinsFrom, ranges-read, ranges-other, ranges-roomy, lent-ranges, pins-read, pins-other, lent-pins, next-store, lent-next}
+use Rattle.model.specs.Store.{Store, storeOf, layBook, layNext, withRanges, withPins, withNext}
+use Rattle.model.specs.Insert.{rangesFrom}
+use Rattle.laid.proofs.Store.{Roomy, RangesFit, PinsFit, store-book, ranges-read, ranges-other, ranges-roomy, lent-ranges, pins-read, pins-other, lent-pins, next-store, lent-next}
 
 -- st′ is st with y for store s, the next id and the stalls aside
 pub record Laid (s : ℕ) (y : Store) (st st′ : State) : Type 0 where
   pub tree : st′ .tree ≡ st .tree
   pub bytes : st′ .bytes ≡ st .bytes
-  pub stores : st′ .books .stores ≡ st .books .stores
+  pub stores : storesOf st′ ≡ storesOf st
   pub lent : Lent st′
   pub own : storeOf st′ s ≡ y
-  pub other : (q : ℕ) → q ≢ s → q < st .books .stores → storeOf st′ q ≡ storeOf st q
-
-laid-as : {s : ℕ} {x y : Store} {st st′ : State} → x ≡ y → Laid s x st st′ → Laid s y st st′
-laid-as e h = record { tree = h .tree; bytes = h .bytes; stores = h .stores; lent = h .lent; own = h .own ∙ e; other = h .other }
+  pub other : (q : ℕ) → q ≢ s → q < storesOf st → storeOf st′ q ≡ storeOf st q
 
 laid-then : {s : ℕ} {x y : Store} {st st₁ st₂ : State} → Laid s x st st₁ → Laid s y st₁ st₂ → Laid s y st st₂
 laid-then h k =
@@ -31,7 +32,7 @@ laid-then h k =
     }
 
 pub laid-next : {s : ℕ} {y : Store} {st st′ : State} (next stalls : ℕ) → Laid s y st st′ → Laid s y st (withNext next stalls st′)
-unfolding withNext
+unfolding withNext layNext
 laid-next {s} {st′ = st′} next stalls h =
     record {
       tree = h .tree;
@@ -45,12 +46,12 @@ laid-next {s} {st′ = st′} next stalls h =
 -- the state's sizes: of all pools and of each store
 pub record Sizes (st : State) : Type 0 where
   pub lent : Lent st
-  pub roomy : (q : ℕ) → q < st .books .stores → Roomy st q
+  pub roomy : (q : ℕ) → q < storesOf st → Roomy st q
 
-module _ (st : State) (s need : ℕ) (y : Store) (sizes : Sizes st) (less : s < st .books .stores) where
-  ranges-laid : RangesFit st s need y → Laid s (rangesFrom y (storeOf st s)) st (withRanges s need y st)
-  unfolding withRanges
-  ranges-laid fit =
+module _ (st : State) (s need : ℕ) (y : Store) (sizes : Sizes st) (less : s < storesOf st) where
+  pub laid-ranges : RangesFit st s need y → Laid s y st (withRanges s need y st)
+  unfolding withRanges layBook
+  laid-ranges fit =
       let own = sizes .roomy s less in
       record {
         tree = refl;
@@ -62,13 +63,13 @@ module _ (st : State) (s need : ℕ) (y : Store) (sizes : Sizes st) (less : s < 
       }
 
   ranges-sizes : RangesFit st s need y → Sizes (withRanges s need y st)
-  unfolding withRanges
+  unfolding withRanges layBook
   ranges-sizes fit =
-      record { lent = ranges-laid fit .lent; roomy = λ q l. ranges-roomy st s need y (sizes .roomy s less) fit q (sizes .roomy q l) }
+      record { lent = laid-ranges fit .lent; roomy = λ q l. ranges-roomy st s need y (sizes .roomy s less) fit q (sizes .roomy q l) }
 
-  pins-laid : PinsFit st s need y → Laid s (pinsFrom y (storeOf st s)) st (withPins s need y st)
-  unfolding withPins
-  pins-laid fit =
+  pub laid-pins : PinsFit st s need y → Laid s y st (withPins s need y st)
+  unfolding withPins layBook
+  laid-pins fit =
       let own = sizes .roomy s less in
       record {
         tree = refl;
@@ -79,20 +80,36 @@ module _ (st : State) (s need : ℕ) (y : Store) (sizes : Sizes st) (less : s < 
         other = λ q other l. pins-other st s need y own fit q other (sizes .roomy q l .entries);
       }
 
-  -- ---- y is laid back whole where what is left out is as it was
+-- both sides of y, the ranges first
+pub laid-both : (st : State) (s need : ℕ) (y : Store) → Sizes st → s < storesOf st → (entries : ℕ)
+    → RangesFit st s need (rangesFrom y (storeOf st s)) → y .book .entries ≡ length (y .pins)
+    → length (y .pins) ≤ entriesOf st s + entries → entriesOf st s + entries ≤ storePins
+    → Laid s y st (withPins s entries y (withRanges s need (rangesFrom y (storeOf st s)) st))
+laid-both st s need y sizes less entries fit counted few room =
+    laid-then first (laid-pins st₁ s entries y (ranges-sizes st s need y₁ sizes less fit) (rw (first .stores) less) fit-pins)
+  where
+    y₁ : Store
+    y₁ = rangesFrom y (storeOf st s)
 
-  pub laid-ranges : rangesFrom y (storeOf st s) ≡ y → RangesFit st s need y → Laid s y st (withRanges s need y st)
-  laid-ranges e fit = laid-as e (ranges-laid fit)
+    st₁ : State
+    st₁ = withRanges s need y₁ st
 
-  pub laid-pins : pinsFrom y (storeOf st s) ≡ y → PinsFit st s need y → Laid s y st (withPins s need y st)
-  laid-pins e fit = laid-as e (pins-laid fit)
+    first : Laid s y₁ st st₁
+    first = laid-ranges st s need y₁ sizes less fit
 
-pub laid-both : (st : State) (s need : ℕ) (y : Store) → Sizes st → s < st .books .stores → (entries : ℕ)
-    → pinsFrom y (rangesFrom y (storeOf st s)) ≡ y → RangesFit st s need y → PinsFit st s entries y
-    → Laid s y st (withPins s entries y (withRanges s need y st))
-unfolding withRanges
-laid-both st s need y sizes less entries e fit pins =
-    let first = ranges-laid st s need y sizes less fit in
-    let fit′ : PinsFit (withRanges s need y st) s entries y = record { pins = pins .pins; room = pins .room } in
-    laid-as (ap (pinsFrom y) (first .own) ∙ e)
-    (laid-then first (pins-laid (withRanges s need y st) s entries y (ranges-sizes st s need y sizes less fit) less fit′))
+    book : bookOf st₁ s ≡ y₁ .book
+    book = sym (store-book st₁ s) ∙ ap (λ (z : Store). z .book) (first .own)
+
+    same : entriesOf st₁ s ≡ entriesOf st s
+    same = ap (λ (b : Book). b .entries) book ∙ ap (λ (b : Book). b .entries) (store-book st s)
+
+    fit-pins : PinsFit st₁ s entries y
+    fit-pins =
+        record {
+          pins = rw same few;
+          room = rw same room;
+          counted = counted;
+          records = sym (ap (λ (b : Book). b .records) book);
+          ranges = sym (ap (λ (z : Store). z .ranges) (first .own));
+          marks = sym (ap (λ (z : Store). z .marks) (first .own));
+        }

@@ -4,7 +4,7 @@ use mathlib.Core.Path.{_≡_, sym, _∙_}
 use native.Mathlib.Omega.{arith}
 use native.Mathlib.Decide.{ℕ-discrete, decLt}
 use Rattle.model.specs.Words.{Pairs}
-use Rattle.model.specs.State.{State, at, recordOf, entryOf}
+use Rattle.model.specs.State.{State, at, recordOf, entryOf, storesOf, nextIdOf, bookOf, recordsOf, stampOf, entriesOf}
 use Rattle.model.specs.Sound
 use Rattle.model.specs.Sound.{Sound, Inside, Before, Finite, IdBetween, StampBetween, PinBefore, PinInside, OneRecord}
 use Rattle.model.specs.Store.{storeOf}
@@ -15,10 +15,10 @@ use Rattle.keptstate.proofs.Lists.{Reads, each-all, all-each, pairs-ord
 
 -- a store's lists read its used places
 module _ (st : State) (s : ℕ) where
-  pub reads-ranges : Reads (recordOf st s) (at (st .books .records) s) (storeOf st s .ranges)
+  pub reads-ranges : Reads (recordOf st s) (recordsOf st s) (storeOf st s .ranges)
   reads-ranges = record { long = records-length st s; place = λ k h. record-at st s k (recordOf st s 0) h }
 
-  pub reads-pins : Reads (entryOf st s) (at (st .books .entries) s) (storeOf st s .pins)
+  pub reads-pins : Reads (entryOf st s) (entriesOf st s) (storeOf st s .pins)
   reads-pins = record { long = entries-length st s; place = λ k h. entry-at st s k (entryOf st s 0) h }
 
 -- ---- from the positions
@@ -41,14 +41,14 @@ module _ (st : State) (h : Sound st) where
         siblings = h .siblings;
       }
 
-  module _ (s : ℕ) (less : s < st .books .stores) where
+  module _ (s : ℕ) (less : s < storesOf st) where
     ids-distinct : Distinct (storeOf st s .ranges)
     unfolding Sound.IdsDiffer
     ids-distinct =
         pairs-order (reads-ranges st s) IdApart
         (λ j k l m e. omega (arith, l, h .ids s zero-le less j zero-le (omega arith) s zero-le less k zero-le m e .place))
 
-    ranges-sound : RangesSound (st .tree) (st .books .nextId) (at (st .books .stamp) s) (storeOf st s .ranges)
+    ranges-sound : RangesSound (st .tree) (nextIdOf st) (stampOf st s) (storeOf st s .ranges)
     unfolding Sound.RecordsStand Sound.RecordsInside Sound.IdsBelowNext Sound.StampsUpToStores Sound.TimesFinite
     ranges-sound =
         let rs = reads-ranges st s in
@@ -56,8 +56,8 @@ module _ (st : State) (h : Sound st) where
           sorted = pairs-order rs Before (h .stand s zero-le less);
           inside = each-all rs (Inside (st .tree)) (h .inside s zero-le less);
           distinct = ids-distinct;
-          ids = each-all rs (IdBetween (st .books .nextId)) (h .idsBelow s zero-le less);
-          stamps = each-all rs (StampBetween (at (st .books .stamp) s)) (h .stamps s zero-le less);
+          ids = each-all rs (IdBetween (nextIdOf st)) (h .idsBelow s zero-le less);
+          stamps = each-all rs (StampBetween (stampOf st s)) (h .stamps s zero-le less);
           times = each-all rs (λ r. Finite (r .touched)) (h .times s zero-le less);
         }
 
@@ -79,17 +79,20 @@ module _ (st : State) (h : Sound st) where
           within = λ v l. rw (mark-at st s v (omega (arith, h .counts .nodes))) (h .marksWithin s zero-le less v zero-le l);
         }
 
-    store-sound : StoreSound (st .tree) (st .books .nextId) (storeOf st s)
+    store-sound : StoreSound (st .tree) (nextIdOf st) (storeOf st s)
     unfolding storeOf Sound.HeldIsSum Sound.HeldNoneAtZero Sound.PinnedIsSum
     store-sound =
         let own = h .counts .each s zero-le less in
         record {
           capacity = own .capacity;
+          policy = own .policy;
+          records = sym (records-length st s);
           few = rw (records-length st s) (own .records);
           stamp = own .stamp;
           ranges = ranges-sound;
           held = h .held s zero-le less ∙ held-store st s;
           heldNone = h .heldNone s zero-le less;
+          entries = sym (entries-length st s);
           fewPins = rw (entries-length st s) (own .entries);
           pins = pins-sound;
           pinned = h .pinned s zero-le less ∙ pinned-store st s;
@@ -97,7 +100,7 @@ module _ (st : State) (h : Sound st) where
           marks = marks-sound;
         }
 
-  ids-apart : (s q : ℕ) → s < st .books .stores → q < st .books .stores → (s ≡ q → ⊥) → ApartFrom (storeOf st s .ranges) (storeOf st q .ranges)
+  ids-apart : (s q : ℕ) → s < storesOf st → q < storesOf st → (s ≡ q → ⊥) → ApartFrom (storeOf st s .ranges) (storeOf st q .ranges)
   unfolding Sound.IdsDiffer
   ids-apart s q l m other =
       each-all (reads-ranges st s) (λ r. All (IdApart r) (storeOf st q .ranges))
@@ -122,12 +125,13 @@ sound-parts st h =
 -- ---- from the stores
 
 module _ (st : State) (h : Parts st) where
-  store-counts : (s : ℕ) → s < st .books .stores → Sound.StoreCounts (st .books) s
+  store-counts : (s : ℕ) → s < storesOf st → Sound.StoreCounts (bookOf st s)
   unfolding storeOf
   store-counts s less =
       let own = h .each s zero-le less in
       record {
         capacity = own .capacity;
+        policy = own .policy;
         records = rw (records-length st s) at (own .few);
         entries = rw (entries-length st s) at (own .fewPins);
         pinned = own .pinnedMost;
@@ -149,11 +153,11 @@ module _ (st : State) (h : Parts st) where
       }
 
   -- one id: one place in the store, and one store
-  one-place : (s : ℕ) → s < st .books .stores → (j k : ℕ) → j < at (st .books .records) s → k < at (st .books .records) s
+  one-place : (s : ℕ) → s < storesOf st → (j k : ℕ) → j < recordsOf st s → k < recordsOf st s
       → recordOf st s j .id ≡ recordOf st s k .id → j ≡ k
   one-place s less j k l m e = go (decLt j k) (decLt k j)
     where
-      pair : Pairs (at (st .books .records) s) (λ i n. IdApart (recordOf st s i) (recordOf st s n))
+      pair : Pairs (recordsOf st s) (λ i n. IdApart (recordOf st s i) (recordOf st s n))
       pair = order-pairs (reads-ranges st s) IdApart (h .each s zero-le less .ranges .distinct)
 
       go : Dec (j < k) → Dec (k < j) → j ≡ k
@@ -191,8 +195,8 @@ parts-sound st h =
       held = λ s low less. h .each s low less .held ∙ sym (held-store st s);
       heldNone = λ s low less. h .each s low less .heldNone;
       ids = ids-differ st h;
-      idsBelow = λ s low less. all-each (reads-ranges st s) (IdBetween (st .books .nextId)) (h .each s low less .ranges .ids);
-      stamps = λ s low less. all-each (reads-ranges st s) (StampBetween (at (st .books .stamp) s)) (h .each s low less .ranges .stamps);
+      idsBelow = λ s low less. all-each (reads-ranges st s) (IdBetween (nextIdOf st)) (h .each s low less .ranges .ids);
+      stamps = λ s low less. all-each (reads-ranges st s) (StampBetween (stampOf st s)) (h .each s low less .ranges .stamps);
       times = λ s low less. all-each (reads-ranges st s) (λ r. Finite (r .touched)) (h .each s low less .ranges .times);
       pinsStand = λ s low less. order-pairs (reads-pins st s) PinBefore (h .each s low less .pins .sorted);
       pinsInside = λ s low less. all-each (reads-pins st s) (PinInside (st .tree)) (h .each s low less .pins .inside);

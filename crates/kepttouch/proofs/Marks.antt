@@ -80,17 +80,20 @@ module _ {t : Tree} where
 
 -- ---- a call that moves no pin
 
-pub steady-sound : {t : Tree} {next later : ℕ} {x y : Store} → StoreSound t next x → Steady x y → length (y .ranges) ≤ storeRecords → y .stamp ≤ maxStamp
-    → RangesSound t later (y .stamp) (y .ranges) → y .held ≡ total (y .ranges) → y .held ≤ x .held → MarksSound t (y .ranges) (y .marks)
+pub steady-sound : {t : Tree} {next later : ℕ} {x y : Store} → StoreSound t next x → Steady x y → y .book .records ≡ length (y .ranges) → length (y .ranges) ≤ storeRecords → y .book .stamp ≤ maxStamp
+    → RangesSound t later (y .book .stamp) (y .ranges) → y .book .held ≡ total (y .ranges) → y .book .held ≤ x .book .held → MarksSound t (y .ranges) (y .marks)
     → StoreSound t later y
-steady-sound h s few stamp ranges held less marks =
+steady-sound h s counted few stamp ranges held less marks =
     record {
       capacity = rw (s .capacity) (h .capacity);
+      policy = rw (s .policy) (h .policy);
+      records = counted;
       few = few;
       stamp = stamp;
       ranges = ranges;
       held = held;
       heldNone = λ e. omega (arith, h .heldNone (sym (s .capacity) ∙ e));
+      entries = s .entries ∙ h .entries ∙ ap length (sym (s .pins));
       fewPins = rw (s .pins) (h .fewPins);
       pins = rw (s .pins) (h .pins);
       pinned = s .pinned ∙ h .pinned ∙ ap pinnedIn (sym (s .pins));

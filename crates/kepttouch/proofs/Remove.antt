@@ -25,9 +25,10 @@ use Rattle.kepttouch.proofs.CutOut.{Told, out-cut, out-holds, out-total
 
 -- w is what a removal makes of x
 record Freed (t : Tree) (next : ℕ) (x : Store) (sp : Span) (w : Removed) : Type 0 where
-  held : w .store .held ≡ total (w .store .ranges)
-  less : w .store .held ≤ x .held
-  ranges : RangesSound t (next + w .need) (x .stamp) (w .store .ranges)
+  counted : w .store .book .records ≡ length (w .store .ranges)
+  held : w .store .book .held ≡ total (w .store .ranges)
+  less : w .store .book .held ≤ x .book .held
+  ranges : RangesSound t (next + w .need) (x .book .stamp) (w .store .ranges)
   marks : MarksSound t (w .store .ranges) (w .store .marks)
   ids : IdsFrom (x .ranges) next (w .store .ranges)
   few : length (w .store .ranges) ≤ length (x .ranges) + w .need
@@ -49,9 +50,10 @@ module _ {t : Tree} {next : ℕ} {x : Store} {sp : Span} (h : StoreSound t next 
       go : (hits : List Range) → overlapped (sp .node) (sp .start) (sp .end) rs ≡ hits → Freed t next x sp (removeHits hits x next sp)
       go [] e =
           record {
+            counted = h .records;
             held = h .held;
-            less = le-refl (x .held);
-            ranges = ranges-later (omega arith) (le-refl (x .stamp)) (h .ranges);
+            less = le-refl (x .book .held);
+            ranges = ranges-later (omega arith) (le-refl (x .book .stamp)) (h .ranges);
             marks = h .marks;
             ids = ids-same next rs;
             few = omega arith;
@@ -64,6 +66,7 @@ module _ {t : Tree} {next : ℕ} {x : Store} {sp : Span} (h : StoreSound t next 
           let c = out-cut sp (s .filled) rs next filled in
           let p = cut-parted c in
           record {
+            counted = refl;
             held = refl;
             less = omega (arith, out-total sp p, h .held);
             ranges = record {
@@ -71,7 +74,7 @@ module _ {t : Tree} {next : ℕ} {x : Store} {sp : Span} (h : StoreSound t next 
               inside = parted-inside (λ r ps f. f .pieces) t p (h .ranges .inside);
               distinct = cut-distinct c (h .ranges .ids) (h .ranges .distinct);
               ids = cut-below c l (h .ranges .ids);
-              stamps = parted-all (StampBetween (x .stamp)) (λ r ps f (b : StampBetween (x .stamp) r). all-map (λ q (e : Told r q). omega arith) ps (f .timed)) p
+              stamps = parted-all (StampBetween (x .book .stamp)) (λ r ps f (b : StampBetween (x .book .stamp) r). all-map (λ q (e : Told r q). omega arith) ps (f .timed)) p
                   (h .ranges .stamps);
               times = parted-all (λ r. Finite (r .touched)) (λ r ps f b. all-map (λ q e. rw (e .1) b) ps (f .timed)) p (h .ranges .times);
             };
@@ -96,13 +99,13 @@ module _ (x : Store) (next : ℕ) (sp : Span) where
     where
       go : (hits : List Range) → Steady x (removeHits hits x next sp .store)
       go [] = steady-same x
-      go (r ∷ hits) = record { capacity = refl; refreshes = refl; pins = refl; pinned = refl }
+      go (r ∷ hits) = record { capacity = refl; policy = refl; pins = refl; entries = refl; pinned = refl }
 
-  pub remove-stamp : w .store .stamp ≡ x .stamp
+  pub remove-stamp : w .store .book .stamp ≡ x .book .stamp
   unfolding remove
   remove-stamp = go (overlapped (sp .node) (sp .start) (sp .end) (x .ranges))
     where
-      go : (hits : List Range) → removeHits hits x next sp .store .stamp ≡ x .stamp
+      go : (hits : List Range) → removeHits hits x next sp .store .book .stamp ≡ x .book .stamp
       go [] = refl
       go (r ∷ hits) = refl
 
@@ -111,7 +114,7 @@ module _ (x : Store) (next : ℕ) (sp : Span) where
     pub remove-holds : (n o : ℕ) → Holds (w .store .ranges) n o ↔ (Holds (x .ranges) n o × (InSpan sp n o → ⊥))
     remove-holds = freed h s l .holds
 
-    pub remove-held : w .store .held ≤ x .held
+    pub remove-held : w .store .book .held ≤ x .book .held
     remove-held = freed h s l .less
 
     pub remove-ids : IdsFrom (x .ranges) next (w .store .ranges)
@@ -130,4 +133,4 @@ module _ (x : Store) (next : ℕ) (sp : Span) where
     pub remove-sound : length (x .ranges) + w .need ≤ storeRecords → StoreSound t (next + w .need) (w .store)
     remove-sound a =
         let k = freed h s l in
-        steady-sound h remove-steady (le-trans (k .few) a) (rw remove-stamp (h .stamp)) (rw remove-stamp (k .ranges)) (k .held) (k .less) (k .marks)
+        steady-sound h remove-steady (k .counted) (le-trans (k .few) a) (rw remove-stamp (h .stamp)) (rw remove-stamp (k .ranges)) (k .held) (k .less) (k .marks)

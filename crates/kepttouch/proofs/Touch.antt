@@ -10,7 +10,7 @@ use lib.ListN.{length}
 use lib.Ieee.{Float}
 use Rattle.model.specs.declared.Span.{Span}
 use Rattle.model.specs.Sizes.{storeRecords, maxStamp}
-use Rattle.model.specs.State.{Tree, Range}
+use Rattle.model.specs.State.{Tree, Range, refreshes}
 use Rattle.model.specs.Sound.{Finite}
 use Rattle.model.specs.Store.{Store, total}
 use Rattle.model.specs.Touch.{Touched, overlapped, oneInside, markRead, bytesRead, reranged, renew, split, onlyRead, refresh, touchHits, touch}
@@ -25,22 +25,23 @@ use Rattle.kepttouch.proofs.Recut.{hit-node, cut-to, Retold, cut-retold
 -- w is what a touch makes of x, whatever x is
 record Turned (x : Store) (w : Touched) : Type 0 where
   steady : Steady x (w .store)
-  held : w .store .held ≡ x .held
-  version : w .store .version ≡ x .version
-  stamp : w .store .stamp ≡ x .stamp + w .stamps
+  counted : w .store .book .records ≡ length (w .store .ranges)
+  held : w .store .book .held ≡ x .book .held
+  version : w .store .book .version ≡ x .book .version
+  stamp : w .store .book .stamp ≡ x .book .stamp + w .stamps
 
 -- and where x is sound
 record TurnedSound (t : Tree) (next : ℕ) (x : Store) (w : Touched) : Type 0 where
-  ranges : Retold t next (next + w .need) (w .store .stamp) (x .ranges) (w .store .ranges)
+  ranges : Retold t next (next + w .need) (w .store .book .stamp) (x .ranges) (w .store .ranges)
   marks : MarksSound t (w .store .ranges) (w .store .marks)
 
 -- ---- the cases of a touch
 
 module _ (x : Store) (next : ℕ) (sp : Span) (time : Float) where
-  turn : (rs : List Range) (ms : List ℕ) (stamp need stamps read : ℕ) → stamp ≡ x .stamp + stamps
+  turn : (rs : List Range) (ms : List ℕ) (stamp need stamps read : ℕ) → stamp ≡ x .book .stamp + stamps
       → Turned x (record { store = reranged x rs stamp ms; need = need; stamps = stamps; bytes = read })
   turn rs ms stamp need stamps read e =
-      record { steady = record { capacity = refl; refreshes = refl; pins = refl; pinned = refl }; held = refl; version = refl; stamp = e }
+      record { steady = record { capacity = refl; policy = refl; pins = refl; entries = refl; pinned = refl }; counted = refl; held = refl; version = refl; stamp = e }
 
   refreshed : (on one : Bool) (ms : List ℕ) (read : ℕ) → Turned x (refresh on one x next sp time ms read)
   unfolding renew split
@@ -54,14 +55,14 @@ module _ (x : Store) (next : ℕ) (sp : Span) (time : Float) where
     where
       go : (hits : List Range) → Turned x (touchHits hits t table x next sp time counted)
       go [] = turn _ _ _ _ _ _ (omega arith)
-      go (r ∷ rs) = refreshed (x .refreshes) _ _ _
+      go (r ∷ rs) = refreshed (refreshes (x .book)) _ _ _
 
 module _ {t : Tree} {next : ℕ} {x : Store} (h : StoreSound t next x) where
   filled : All Filled (x .ranges)
   filled = all-map (λ r i. i .filled) (x .ranges) (h .ranges .inside)
 
   -- marks of the old ranges are marks of ranges that hold the same blocks
-  sound-as : (w : Touched) → Retold t next (next + w .need) (w .store .stamp) (x .ranges) (w .store .ranges)
+  sound-as : (w : Touched) → Retold t next (next + w .need) (w .store .book .stamp) (x .ranges) (w .store .ranges)
       → MarksSound t (x .ranges) (w .store .marks) → TurnedSound t next x w
   sound-as w k m =
       record { ranges = k; marks = marks-carry (λ v. no-node (x .ranges) (w .store .ranges) v filled (λ o. k .holds v o .1)) m }
@@ -70,7 +71,7 @@ module _ {t : Tree} {next : ℕ} {x : Store} (h : StoreSound t next x) where
   only-sound ms read =
       sound-as (onlyRead x ms read)
       (record {
-        sound = ranges-later (omega arith) (le-refl (x .stamp)) (h .ranges);
+        sound = ranges-later (omega arith) (le-refl (x .book .stamp)) (h .ranges);
         ids = ids-same next (x .ranges);
         few = omega arith;
         total = refl;
@@ -83,12 +84,12 @@ module _ {t : Tree} {next : ℕ} {x : Store} (h : StoreSound t next x) where
     refreshed-sound false one ms read = only-sound ms read
     refreshed-sound true true ms read =
         sound-as (renew x sp time ms read)
-        (cut-retold (cut-to (restamp-cut (suc (x .stamp)) time (sp .node) (sp .start) (sp .end) (x .ranges) next filled) (omega arith)) l (omega arith)
+        (cut-retold (cut-to (restamp-cut (suc (x .book .stamp)) time (sp .node) (sp .start) (sp .end) (x .ranges) next filled) (omega arith)) l (omega arith)
         (omega arith) f (h .ranges))
     refreshed-sound true false ms read =
         sound-as (split x next sp time ms read)
         (join-retold (sp .node)
-        (cut-retold (recut-cut (suc (x .stamp)) time (sp .node) (sp .start) (sp .end) (s .filled) (x .ranges) next filled) l (omega arith) (omega arith) f
+        (cut-retold (recut-cut (suc (x .book .stamp)) time (sp .node) (sp .start) (sp .end) (s .filled) (x .ranges) next filled) l (omega arith) (omega arith) f
         (h .ranges)))
 
     turned-sound : (table : List ℕ) (counted : Bool) → TurnedSound t next x (touch t table x next sp time counted)
@@ -99,7 +100,7 @@ module _ {t : Tree} {next : ℕ} {x : Store} (h : StoreSound t next x) where
             → TurnedSound t next x (touchHits hits t table x next sp time counted)
         go [] e = only-sound (x .marks) 0 (h .marks)
         go (r ∷ rs) e =
-            refreshed-sound (x .refreshes) (oneInside (sp .start) (sp .end) (r ∷ rs)) (markRead counted sp (x .marks))
+            refreshed-sound (refreshes (x .book)) (oneInside (sp .start) (sp .end) (r ∷ rs)) (markRead counted sp (x .marks))
             (bytesRead counted t table sp (r ∷ rs))
             (read-marks counted s (hit-node (sp .node) (sp .start) (sp .end) (x .ranges) r rs e) (h .marks))
 
@@ -112,13 +113,16 @@ module _ (t : Tree) (table : List ℕ) (x : Store) (next : ℕ) (sp : Span) (tim
   pub touch-steady : Steady x (w .store)
   touch-steady = turned x next sp time t table counted .steady
 
-  pub touch-held : w .store .held ≡ x .held
+  pub touch-counted : w .store .book .records ≡ length (w .store .ranges)
+  touch-counted = turned x next sp time t table counted .counted
+
+  pub touch-held : w .store .book .held ≡ x .book .held
   touch-held = turned x next sp time t table counted .held
 
-  pub touch-version : w .store .version ≡ x .version
+  pub touch-version : w .store .book .version ≡ x .book .version
   touch-version = turned x next sp time t table counted .version
 
-  pub touch-stamp : w .store .stamp ≡ x .stamp + w .stamps
+  pub touch-stamp : w .store .book .stamp ≡ x .book .stamp + w .stamps
   touch-stamp = turned x next sp time t table counted .stamp
 
   module _ (h : StoreSound t next x) (s : SpanIn t sp) (f : Finite time) (l : 1 ≤ next) where
@@ -135,8 +139,8 @@ module _ (t : Tree) (table : List ℕ) (x : Store) (next : ℕ) (sp : Span) (tim
     pub touch-length : length (w .store .ranges) ≤ length (x .ranges) + w .need
     touch-length = omega (arith, turned-sound h s time f l table counted .ranges .few)
 
-    pub touch-sound : length (x .ranges) + w .need ≤ storeRecords → x .stamp + w .stamps ≤ maxStamp → StoreSound t (next + w .need) (w .store)
+    pub touch-sound : length (x .ranges) + w .need ≤ storeRecords → x .book .stamp + w .stamps ≤ maxStamp → StoreSound t (next + w .need) (w .store)
     touch-sound a b =
         let k = turned-sound h s time f l table counted in
-        steady-sound h touch-steady (omega (arith, touch-length)) (rw touch-stamp b) (k .ranges .sound) (touch-held ∙ h .held ∙ sym touch-total)
-        (le-of-eq touch-held) (k .marks)
+        steady-sound h touch-steady touch-counted (omega (arith, touch-length)) (rw touch-stamp b) (k .ranges .sound)
+        (touch-held ∙ h .held ∙ sym touch-total) (le-of-eq touch-held) (k .marks)

@@ -1,19 +1,21 @@
 -- Set-up leaves a sound state: no record, no pin entry and no node but the root is in use, and every mark is 0. So only the sizes, the capacities and the
 -- byte table are to be shown. Assumes nothing.
 use Prim.Native.Nat.{ℕ, zero, suc, _+_, _*_, _≤_, _<_}
-use mathlib.Core.Path.{_≡_, refl}
-use mathlib.Core.Bool.{Bool, false}
-use mathlib.Core.List.{List, _++_}
+use mathlib.Core.Path.{_≡_, refl, sym, ap, subst, _∙_}
+use mathlib.Core.Bool.{Bool, true, false}
+use mathlib.Core.List.{List, [], _∷_, _++_}
 use native.Mathlib.Omega.{arith}
-use lib.ListN.{length, getD, drop, replicate, length-append, length-replicate, length-set, List·getD-append}
+use native.Mathlib.Nat.{add-zero, zero-add}
+use lib.ListN.{length, getD, take, drop, replicate, length-append, length-replicate, length-set, List·getD-append}
 use lib.Seq.{getD-set-same}
 use Rattle.model.specs.Words.{Each, Pairs}
-use Rattle.model.specs.Sizes.{maxStores, maxMarks, tableLength, storeMarks}
-use Rattle.model.specs.State.{Tree, State, at, markOf}
-use Rattle.model.specs.Sound.{Sound, TreeLent, BooksLent, Rising, Root}
+use Rattle.model.specs.declared.Book.{Book}
+use Rattle.model.specs.Sizes.{maxStores, maxMarks, maxNumbers, tableLength, storeMarks, storeNumbers}
+use Rattle.model.specs.State.{Tree, State, at, markOf, partsIn, numbers, bookFrom, bookIn, bookOf, recordsOf, heldOf, entriesOf, pinnedOf}
+use Rattle.model.specs.Sound.{Sound, TreeLent, StoreCounts, Rising, Root}
 use Rattle.model.specs.Sound.{ParentsInUse, DepthsAdd, EndsWithin, NodesFilled, RunsBelow, RunsApart, SiblingsDiffer, RecordsStand, RecordsInside, HeldIsSum, HeldNoneAtZero, IdsDiffer, IdsBelowNext, StampsUpToStores, TimesFinite, PinsStand, PinsInside, PinnedIsSum, MarksNone, MarksWithin, heldBy, pinnedBy}
 use Rattle.laid.proofs.Lay.{blank-at}
-use Rattle.model.specs.SetUp.{SetUpFits, setUpState, rootOnly, eight, zeros}
+use Rattle.model.specs.SetUp.{SetUpFits, setUpState, rootOnly, policy, newBook, newNumbers}
 
 -- ---- lists
 
@@ -23,11 +25,21 @@ same-at zero i a = refl
 same-at (suc n) zero a = refl
 same-at (suc n) (suc i) a = same-at n i a
 
-zero-at : (s : ℕ) → at zeros s ≡ 0
-zero-at s = same-at maxStores s 0
+-- the numbers of a store, among those of the stores from r on
+new-part : (capacity : List ℕ) (refreshes : List Bool) (rest : List ℕ) (n r s : ℕ) → s < n
+    → take storeNumbers (drop (storeNumbers * s) (newNumbers capacity refreshes r n ++ rest)) ≡ numbers (newBook capacity refreshes (r + s))
+unfolding newNumbers
+new-part capacity refreshes rest zero r s less = absurd (omega arith)
+new-part capacity refreshes rest (suc n) r zero less = rw add-zero
+new-part capacity refreshes rest (suc n) r (suc s) less =
+    let e : storeNumbers * suc s ≡ suc (suc (suc (suc (suc (suc (suc (suc (storeNumbers * s)))))))) = omega arith in
+    let f : r + suc s ≡ suc r + s = omega arith in
+    rw (e, f) (new-part capacity refreshes rest n (suc r) s (omega arith))
 
-length-eight : {A : Type 0} (none : A) (xs : List A) → length xs ≤ maxStores → length (eight none xs) ≡ maxStores
-length-eight none xs h = simp (length-append, length-replicate) (omega arith)
+new-length : (capacity : List ℕ) (refreshes : List Bool) (r n : ℕ) → length (newNumbers capacity refreshes r n) ≡ storeNumbers * n
+unfolding newNumbers
+new-length capacity refreshes r zero = refl
+new-length capacity refreshes r (suc n) = omega (arith, new-length capacity refreshes (suc r) n)
 
 blanks-long : (n : ℕ) (rest : List ℕ) → n ≤ length (replicate n 0 ++ rest)
 blanks-long n rest = simp (length-append, length-replicate) (omega arith)
@@ -37,11 +49,11 @@ blanks-long n rest = simp (length-append, length-replicate) (omega arith)
 no-node : (P : ℕ → Type 0) → Each 1 1 P
 no-node P k low high = absurd (omega arith)
 
-no-place : (P : ℕ → Type 0) (s : ℕ) → Each 0 (at zeros s) P
-no-place P s k low high = absurd (omega (arith, zero-at s))
+no-place : (P : ℕ → Type 0) (n : ℕ) → n ≡ 0 → Each 0 n P
+no-place P n e k low high = absurd (omega arith)
 
-no-pair : (R : ℕ → ℕ → Type 0) (s : ℕ) → Pairs (at zeros s) R
-no-pair R s j k less high = absurd (omega (arith, zero-at s))
+no-pair : (R : ℕ → ℕ → Type 0) (n : ℕ) → n ≡ 0 → Pairs n R
+no-pair R n e j k less high = absurd (omega arith)
 
 -- ---- the sizes
 
@@ -68,20 +80,16 @@ table-rises table rest e h =
     same : (k : ℕ) → k < tableLength → at (table ++ rest) k ≡ at table k
     same k l = List·getD-append table rest 0 k (omega arith)
 
-books-lent : (pools : State) (table capacity : List ℕ) (refreshes : List Bool) → SetUpFits pools table capacity refreshes
-    → BooksLent (setUpState pools table capacity refreshes .books)
-unfolding setUpState
-books-lent pools table capacity refreshes h =
-    record {
-      capacity = length-eight 0 capacity (h .stores);
-      refreshes = length-eight false refreshes (omega arith);
-      records = refl;
-      held = refl;
-      stamp = refl;
-      version = refl;
-      entries = refl;
-      pinned = refl;
-    }
+module _ (pools : State) (table capacity : List ℕ) (refreshes : List Bool) (h : SetUpFits pools table capacity refreshes) where
+  books-lent : maxNumbers ≤ length (setUpState pools table capacity refreshes .books)
+  unfolding setUpState
+  books-lent = rw length-append (omega (arith, new-length capacity refreshes 0 maxStores))
+
+  pub new-book : (s : ℕ) → s < maxStores → bookOf (setUpState pools table capacity refreshes) s ≡ newBook capacity refreshes s
+  unfolding setUpState bookIn
+  new-book s less =
+      ap bookFrom (new-part capacity refreshes (drop (storeNumbers * maxStores) (partsIn (pools .books))) maxStores 0 s less)
+      ∙ ap (newBook capacity refreshes) (zero-add s)
 
 pub setUp-sound : (pools : State) (table capacity : List ℕ) (refreshes : List Bool) → SetUpFits pools table capacity refreshes
     → Sound (setUpState pools table capacity refreshes)
@@ -105,13 +113,7 @@ setUp-sound pools table capacity refreshes h =
         firstId = omega arith;
         nextId = omega arith;
         stalls = omega arith;
-        each = λ s low high. record {
-          capacity = rw (List·getD-append capacity _ 0 s high) (h .capacities s low high);
-          records = omega (arith, zero-at s);
-          entries = omega (arith, zero-at s);
-          pinned = omega (arith, zero-at s);
-          stamp = omega (arith, zero-at s);
-        };
+        each = λ s low high. subst StoreCounts (sym (book s high)) (new-counts s low high);
       };
       table = table-rises table _ (h .tableLong) (h .rises);
       root = root-alone (pools .tree) (h .tree);
@@ -122,17 +124,17 @@ setUp-sound pools table capacity refreshes h =
       runsBelow = no-node _;
       runsApart = λ w. no-node _;
       siblings = no-node _;
-      stand = λ s low high. no-pair _ s;
-      inside = λ s low high. no-place _ s;
-      held = λ s low high. none-held s;
-      heldNone = λ s low high none. zero-at s;
-      ids = λ s low high. no-place _ s;
-      idsBelow = λ s low high. no-place _ s;
-      stamps = λ s low high. no-place _ s;
-      times = λ s low high. no-place _ s;
-      pinsStand = λ s low high. no-pair _ s;
-      pinsInside = λ s low high. no-place _ s;
-      pinned = λ s low high. none-pinned s;
+      stand = λ s low high. no-pair _ _ (records s high);
+      inside = λ s low high. no-place _ _ (records s high);
+      held = λ s low high. none-held s high;
+      heldNone = λ s low high none. held s high;
+      ids = λ s low high. no-place _ _ (records s high);
+      idsBelow = λ s low high. no-place _ _ (records s high);
+      stamps = λ s low high. no-place _ _ (records s high);
+      times = λ s low high. no-place _ _ (records s high);
+      pinsStand = λ s low high. no-pair _ _ (entries s high);
+      pinsInside = λ s low high. no-place _ _ (entries s high);
+      pinned = λ s low high. none-pinned s high;
       marksNone = λ s low high v l less none. clear s v (omega arith);
       marksWithin = λ s low high v l less. rw (clear s v (omega arith)) (omega arith);
     }
@@ -140,11 +142,38 @@ setUp-sound pools table capacity refreshes h =
     st : State
     st = setUpState pools table capacity refreshes
 
-    none-held : (s : ℕ) → at zeros s ≡ heldBy st s (at zeros s)
-    none-held s = rw (zero-at s)
+    book : (s : ℕ) → s < length capacity → bookOf st s ≡ newBook capacity refreshes s
+    book s high = new-book pools table capacity refreshes h s (omega (arith, h .stores))
 
-    none-pinned : (s : ℕ) → at zeros s ≡ pinnedBy st s (at zeros s)
-    none-pinned s = rw (zero-at s)
+    records : (s : ℕ) → s < length capacity → recordsOf st s ≡ 0
+    records s high = ap (λ (b : Book). b .records) (book s high)
+
+    entries : (s : ℕ) → s < length capacity → entriesOf st s ≡ 0
+    entries s high = ap (λ (b : Book). b .entries) (book s high)
+
+    held : (s : ℕ) → s < length capacity → heldOf st s ≡ 0
+    held s high = ap (λ (b : Book). b .held) (book s high)
+
+    new-counts : (s : ℕ) → 0 ≤ s → s < length capacity → StoreCounts (newBook capacity refreshes s)
+    new-counts s low high =
+        record {
+          capacity = h .capacities s low high;
+          policy = one-of-two (getD refreshes s false);
+          records = omega arith;
+          entries = omega arith;
+          pinned = omega arith;
+          stamp = omega arith;
+        }
+      where
+        one-of-two : (b : Bool) → policy b ≤ 1
+        one-of-two true = omega arith
+        one-of-two false = omega arith
+
+    none-held : (s : ℕ) → s < length capacity → heldOf st s ≡ heldBy st s (recordsOf st s)
+    none-held s high = held s high ∙ sym (ap (heldBy st s) (records s high))
+
+    none-pinned : (s : ℕ) → s < length capacity → pinnedOf st s ≡ pinnedBy st s (entriesOf st s)
+    none-pinned s high = ap (λ (b : Book). b .pinned) (book s high) ∙ sym (ap (pinnedBy st s) (entries s high))
 
     clear : (s v : ℕ) → storeMarks * s + v < maxMarks → markOf st s v ≡ 0
     clear s v l = blank-at maxMarks (storeMarks * s + v) 0 0 (drop maxMarks (pools .marks)) l

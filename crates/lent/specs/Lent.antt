@@ -2,8 +2,7 @@
 use Prim.Native.Nat.{ℕ}
 use mathlib.Core.List.{List}
 use lib.Ieee.{Float}
-use Rattle.model.specs.State.{Tree, Ranges, Pins, Books, State}
-use Rattle.lent.specs.declared.Small.{Small}
+use Rattle.model.specs.State.{Tree, Ranges, Pins, State}
 
 abbrev pub treeOf : List ℕ → List ℕ → List ℕ → List ℕ → List ℕ → ℕ → ℕ → Tree
 treeOf parent depth len run words nodes used =
@@ -16,22 +15,6 @@ rangesOf node start end id stamp touched write =
 abbrev pub pinsOf : List ℕ → List ℕ → List ℕ → List ℕ → Pins
 pinsOf node start end count = record { node = node; start = start; end = end; count = count }
 
-abbrev pub booksOf : Small → Books
-booksOf x =
-    record {
-      stores = x .stores;
-      nextId = x .next;
-      stalls = x .stalls;
-      capacity = x .capacity;
-      refreshes = x .refreshes;
-      records = x .records;
-      held = x .held;
-      stamp = x .stamp;
-      version = x .version;
-      entries = x .entries;
-      pinned = x .pinned;
-    }
-
-abbrev pub stateOf : Tree → Ranges → Pins → List ℕ → List ℕ → Small → State
-stateOf tree ranges pins marks bytes x =
-    record { tree = tree; ranges = ranges; pins = pins; marks = marks; bytes = bytes; books = booksOf x }
+abbrev pub stateOf : Tree → Ranges → Pins → List ℕ → List ℕ → List ℕ → State
+stateOf tree ranges pins marks bytes books =
+    record { tree = tree; ranges = ranges; pins = pins; marks = marks; bytes = bytes; books = books }

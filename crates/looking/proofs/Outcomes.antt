@@ -5,14 +5,13 @@ use mathlib.Core.Logic.{inl, inr}
 use mathlib.Core.Path.{_≡_, refl, sym, ap, _∙_}
 use native.Mathlib.Omega.{arith}
 use lib.ListN.{length}
-use Rattle.model.specs.Words.{Some}
-use Rattle.model.specs.State.{State, at}
+use Rattle.model.specs.Words.{Each, Some}
+use Rattle.model.specs.State.{State, at, storesOf, recordsOf}
 use Rattle.model.specs.Sound.{Sound}
 use Rattle.model.specs.Tree.{resolve, blocks}
-use Rattle.model.specs.SetUp.{zeros}
 use Rattle.model.specs.Lookup.{lookupPath, spanBlocks, spanBytes, tierSums}
 use Rattle.model.specs.Refusals.{PathList, TierList, PathFits, TierFits, First, firstOf, lookupRefusals}
-use Rattle.model.specs.Calls.{refused, done, LookupLists, LookupAnswer, pathOf, layPath, layTiers, lookup, blockSums, byteSums}
+use Rattle.model.specs.Calls.{refused, done, LookupLists, LookupAnswer, pathOf, layPath, layTiers, lookup, zeros, blockSums, byteSums}
 use Rattle.sure.proofs.Refusals.{first-is, lookup-exact}
 use Rattle.tree.specs.declared.Match.{Match}
 use Rattle.tree.specs.Walk.{Resolved}
@@ -42,16 +41,16 @@ module _ (st : State) (l : LookupLists) (ts hs : List ℕ) (sound : Sound st) (p
       }
 
   module _ (r : Looked) where
-    pub no-tier-is : Some (length ts) (λ i. st .books .stores ≤ at ts i) → (r .answer ≡ Refused 2) × (r .blocks ≡ zeros) × (r .bytes ≡ zeros)
+    pub no-tier-is : Some (length ts) (λ i. storesOf st ≤ at ts i) → (r .answer ≡ Refused 2) × (r .blocks ≡ zeros) × (r .bytes ≡ zeros)
         → LookedUp st l ts hs l r
     no-tier-is h w = refused-with 2 r (refused-is 1 (inr (λ n. n sound, inr (λ n. n path, inr (λ n. n tiers, inl (h, refl)))))) w
 
-    pub many-hashes-is : (Some (length ts) (λ i. st .books .stores ≤ at ts i) → ⊥) → 1024 < length hs
+    pub many-hashes-is : (Some (length ts) (λ i. storesOf st ≤ at ts i) → ⊥) → 1024 < length hs
         → (r .answer ≡ Refused 3) × (r .blocks ≡ zeros) × (r .bytes ≡ zeros) → LookedUp st l ts hs l r
     many-hashes-is stores h w =
         refused-with 3 r (refused-is 2 (inr (λ n. n sound, inr (λ n. n path, inr (λ n. n tiers, inr (stores, inl (h, refl))))))) w
 
-    pub many-tiers-is : (Some (length ts) (λ i. st .books .stores ≤ at ts i) → ⊥) → length hs ≤ 1024 → 8 < length ts
+    pub many-tiers-is : (Some (length ts) (λ i. storesOf st ≤ at ts i) → ⊥) → length hs ≤ 1024 → 8 < length ts
         → (r .answer ≡ Refused 3) × (r .blocks ≡ zeros) × (r .bytes ≡ zeros) → LookedUp st l ts hs l r
     many-tiers-is stores few h w =
         refused-with 3 r
@@ -67,14 +66,14 @@ module _ (st : State) (l : LookupLists) (ts hs : List ℕ) (sound : Sound st) (p
         bytes = tierSums (spanBytes st) 0 (length ts) (lookupPath st ts (resolve (st .tree) hs));
       }
 
-  accepted-is : (Some (length ts) (λ i. st .books .stores ≤ at ts i) → ⊥) → length hs ≤ 1024 → length ts ≤ 8
+  accepted-is : (Some (length ts) (λ i. storesOf st ≤ at ts i) → ⊥) → length hs ≤ 1024 → length ts ≤ 8
       → lookup st l ts hs
       ≡ outcome st (listsOf (layPath (resolve (st .tree) hs) (l .path)) (layTiers (lookupPath st ts (resolve (st .tree) hs)) (l .spans))) (done answerIs)
   unfolding lookup
   accepted-is stores few less =
       rw (is-first 0 (inr (λ n. n sound, inr (λ n. n path, inr (λ n. n tiers, inr (stores, inr (λ n. omega arith, inr (λ n. omega arith, refl))))))))
 
-  pub looked-is : {path′ : PathList} {spans′ : TierList} {m : Match} {w : LookupParts} → (Some (length ts) (λ i. st .books .stores ≤ at ts i) → ⊥) → length hs ≤ 1024
+  pub looked-is : {path′ : PathList} {spans′ : TierList} {m : Match} {w : LookupParts} → (Some (length ts) (λ i. storesOf st ≤ at ts i) → ⊥) → length hs ≤ 1024
       → length ts ≤ 8 → Resolved (st .tree) hs (l .path) path′ m → Told st ts hs (l .spans) spans′ w
       → LookedUp st l ts hs (listsOf path′ spans′)
       (record { answer = Done (record { segs = m .segs; blocks = m .blocks }) (w .spans); blocks = w .blocks; bytes = w .bytes })
@@ -91,10 +90,10 @@ module _ (st : State) (l : LookupLists) (ts hs : List ℕ) (sound : Sound st) (p
       }
 
 -- what the walk asks for
-pub seen-is : {st : State} {ts hs : List ℕ} {before after : PathList} {m : Match} → Sound st → (Some (length ts) (λ i. st .books .stores ≤ at ts i) → ⊥)
-    → length hs ≤ 1024 → length ts ≤ 8 → Resolved (st .tree) hs before after m
-    → Seen (st .tree .depth) (st .ranges .node) (st .ranges .start) (st .ranges .end) (st .bytes) (st .books .records) after (m .segs) ts st hs
-seen-is {st} {ts} {before = before} sound stores few less r =
+pub seen-is : {st : State} {rs ts hs : List ℕ} {before after : PathList} {m : Match} → Sound st → (Some (length ts) (λ i. storesOf st ≤ at ts i) → ⊥)
+    → length hs ≤ 1024 → length ts ≤ 8 → Resolved (st .tree) hs before after m → Each 0 8 (λ s. at rs s ≡ recordsOf st s)
+    → Seen (st .tree .depth) (st .ranges .node) (st .ranges .start) (st .ranges .end) (st .bytes) rs after (m .segs) ts st hs
+seen-is {st} {ts = ts} {before = before} sound stores few less r records =
     record {
       sound = sound;
       depth = refl;
@@ -102,8 +101,8 @@ seen-is {st} {ts} {before = before} sound stores few less r =
       start = refl;
       end = refl;
       bytes = refl;
-      records = refl;
-      stores = λ i low high. let g : st .books .stores ≤ at ts i → ⊥ = λ h. stores (i, high, h) in omega arith;
+      records = records;
+      stores = λ i low high. let g : storesOf st ≤ at ts i → ⊥ = λ h. stores (i, high, h) in omega arith;
       tiers = less;
       short = few;
       segs = ap (λ (k : Match). k .segs) (r .answer);

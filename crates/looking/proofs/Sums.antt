@@ -11,9 +11,9 @@ use lib.Dec.{ltb, eqb}
 use borrow.Author.Tests.{ne-eqb}
 use Rattle.model.specs.State.{State}
 use Rattle.model.specs.Store.{storeOf}
-use Rattle.model.specs.SetUp.{eight}
 use Rattle.model.specs.Tree.{Seg}
 use Rattle.model.specs.Lookup.{TierSpan, Looked, reach, firstTier, along, lookupPath, ifTier, tierSum, tierSums}
+use Rattle.model.specs.Calls.{eight}
 use Rattle.tiers.proofs.Spans.{sums-length}
 
 -- ---- the tier of a span is below n

@@ -5,11 +5,11 @@ use lent::Small;
 ghost use mathlib.Core.Path.{_≡_};
 ghost use Prim.Native.Nat.{ℕ, _≤_};
 ghost use lib.ListN.{length};
-ghost use Rattle.model.specs.Words.{Says, Some};
-ghost use Rattle.model.specs.State.{at};
+ghost use Rattle.model.specs.Words.{Each, Says, Some};
+ghost use Rattle.model.specs.State.{at, bookIn};
 ghost use Rattle.model.specs.Sound.{Sound};
-ghost use Rattle.model.specs.SetUp.{zeros};
 ghost use Rattle.model.specs.Refusals.{PathFits, TierFits};
+ghost use Rattle.model.specs.Calls.{zeros};
 ghost use Rattle.tree.specs.Walk.{pathListOf};
 ghost use Rattle.tiers.specs.Tiers.{tierListOf};
 ghost use Rattle.answers.specs.Answers.{stateFrom};
@@ -27,6 +27,20 @@ fn no_tier(tiers: &[usize], stores: usize) -> bool
         i += 1;
     }
     false
+}
+
+// How many records each store has.
+fn record_counts(books: &[u64; 69]) -> [usize; 8]
+    ensures { λ r. ⌜ Each 0 8 (λ (s : ℕ). at r s ≡ bookIn (now (books .entry)) s .records) ⌝ }
+{
+    let mut counts = [0; 8];
+    let mut s = 0;
+    while s < 8 {
+        let b = books::book_of(books, s);
+        counts[s] = b.records;
+        s += 1;
+    }
+    counts
 }
 
 fn refused(n: u8) -> Looked
@@ -72,7 +86,7 @@ pub fn lookup(
     requires { ⌜ Sound (stateFrom (now parent) (now depth) (now len) (now run) (now words) (now node) (now start) (now end) (now id) (now stamp) (now touched) (now write) (now «pin_node») (now «pin_start») (now «pin_end») (now «pin_count») (now marks) (now bytes) x) × PathFits (pathListOf (now «path_node») (now «path_len»)) × TierFits (tierListOf (now «span_tier») (now «span_node») (now «span_start») (now «span_end»)) ⌝ }
     ensures { λ r. ⌜ LookedUp (stateFrom (now (parent .entry)) (now (depth .entry)) (now (len .entry)) (now (run .entry)) (now (words .entry)) (now (node .entry)) (now (start .entry)) (now (end .entry)) (now (id .entry)) (now (stamp .entry)) (now (touched .entry)) (now (write .entry)) (now («pin_node» .entry)) (now («pin_start» .entry)) (now («pin_end» .entry)) (now («pin_count» .entry)) (now (marks .entry)) (now (bytes .entry)) x) (listsOf (pathListOf (now («path_node» .entry)) (now («path_len» .entry))) (tierListOf (now («span_tier» .entry)) (now («span_node» .entry)) (now («span_start» .entry)) (now («span_end» .entry)))) (now (tiers .entry)) (now (hashes .entry)) (listsOf (pathListOf (now («path_node» .exit)) (now («path_len» .exit))) (tierListOf (now («span_tier» .exit)) (now («span_node» .exit)) (now («span_start» .exit)) (now («span_end» .exit)))) r ⌝ }
 {
-    if no_tier(tiers, x.stores) {
+    if no_tier(tiers, x.books[2] as usize) {
         return refused(2);
     }
     if 1024 < hashes.len() {
@@ -86,12 +100,12 @@ pub fn lookup(
         len,
         run,
         words,
-        x.nodes,
+        x.books[0] as usize,
         hashes,
         &mut *path_node,
         &mut *path_len,
     );
-    let records = x.records;
+    let records = record_counts(&x.books);
     let w = tiers::lookup_resolved(
         depth,
         node,

@@ -4,6 +4,7 @@ use Prim.Native.Nat.{ℕ, zero, suc, _-_}
 use mathlib.Core.Bool.{Bool, true, false}
 use mathlib.Core.List.{List, [], _∷_}
 use mathlib.Core.Path.{_≡_, refl, sym, ap, _∙_}
+use lib.Dec.{ltb}
 use lib.ListN.{length}
 use lib.Ieee.{Float}
 use Rattle.model.specs.declared.Span.{Span}
@@ -13,16 +14,21 @@ use Rattle.model.specs.Store.{Store, part, withPins}
 use Rattle.model.specs.Trim.{Out, stallsAfter, versionAfter}
 use Rattle.model.specs.Pins.{repinned, unpin}
 use Rattle.model.specs.Expire.{Expired, expire}
-use Rattle.model.specs.Insert.{across, beyond, heads, tails, cutStore}
+use Rattle.model.specs.Insert.{across, beyond, heads, tails, placed, cutStore}
 use Rattle.model.specs.Refusals.{firstOf, unpinRefusals}
 use Rattle.model.specs.Calls.{Outcome, NoList, NoValue, unless, unpinSource}
 
 -- ---- a cut through a held range
 
-pub cut-across : (j k m next : ℕ) (x : Store) (r : Range) → x .ranges ≡ r ∷ [] → across j k r ≡ true → beyond j k r ≡ true
+one-placed : (m : ℕ) (new : List Range) (r : Range) → ltb (r .node) m ≡ true → placed m new (r ∷ []) ≡ r ∷ new
+unfolding placed
+one-placed m new r low = rw (placed, low)
+
+pub cut-across : (j k m next : ℕ) (x : Store) (r : Range) → x .ranges ≡ r ∷ [] → across j k r ≡ true → beyond j k r ≡ true → ltb (r .node) m ≡ true
     → cutStore j k m next x .ranges ≡ part r (r .node) (r .start) k (r .id) ∷ part r m 0 (r .end - k) next ∷ []
 unfolding cutStore heads tails
-cut-across j k m next x r e a b = rw (e, a, b)
+cut-across j k m next x r e a b low =
+    rw (e, a, b) (one-placed m (part r m 0 (r .end - k) next ∷ []) (part r (r .node) (r .start) k (r .id)) low)
 
 -- ---- unpin
 
@@ -35,9 +41,9 @@ pub unpin-keeps-ranges : (st : State) (s : ℕ) (sp : Span) → unpinSource st s
 unfolding unpinSource withPins
 unpin-keeps-ranges st s sp = unless-same (λ x. x .ranges) (firstOf (unpinRefusals st s sp)) st _ refl
 
-pub unpin-keeps-held : (st : State) (s : ℕ) (sp : Span) → unpinSource st s sp .state .books .held ≡ st .books .held
-unfolding unpinSource withPins
-unpin-keeps-held st s sp = unless-same (λ x. x .books .held) (firstOf (unpinRefusals st s sp)) st _ refl
+pub unpin-keeps-held : (x : Store) (sp : Span) → unpin x sp .book .held ≡ x .book .held
+unfolding unpin
+unpin-keeps-held x sp = refl
 
 -- ---- expiry
 

@@ -7,7 +7,7 @@ use lib.Dec.{ltb, eqb}
 use lib.Ieee.{Float}
 use Rattle.model.specs.declared.Span.{Span}
 use Rattle.model.specs.State.{Tree, Range}
-use Rattle.model.specs.Store.{Store, total, insert, onNode}
+use Rattle.model.specs.Store.{Store, ranged, total, insert, onNode}
 use Rattle.model.specs.Trim.{Out, bytesOf, Trimmed, trim, versionAfter}
 
 -- ---- gaps
@@ -81,16 +81,12 @@ giveBack t table x sp write =
 unfoldable pub keep : Tree → List ℕ → Store → ℕ → Span → Float → ℕ → Brought
 unfolding gaps fill trim total
 keep t table x next sp time write =
+    let b = x .book in
     let gs = gaps (sp .node) (x .ranges) (sp .start) (sp .end) in
-    let w = trim t table (x .pins) (x .capacity) (fill (sp .node) gs (x .stamp) next time write (x .ranges)) (x .marks) in
+    let w = trim t table (x .pins) (b .capacity) (fill (sp .node) gs (b .stamp) next time write (x .ranges)) (x .marks) in
     record {
       store = record {
-        capacity = x .capacity;
-        refreshes = x .refreshes;
-        held = total (w .ranges);
-        stamp = x .stamp + length gs;
-        version = versionAfter (x .version) (w .outs);
-        pinned = x .pinned;
+        book = ranged b (length (w .ranges)) (total (w .ranges)) (b .stamp + length gs) (versionAfter (b .version) (w .outs));
         ranges = w .ranges;
         pins = x .pins;
         marks = w .marks;
@@ -101,9 +97,9 @@ keep t table x next sp time write =
 
 unfoldable pub bring : Tree → List ℕ → Store → ℕ → Span → Float → ℕ → Brought
 unfolding giveBack keep
-bring t table x next sp time write = elim (x .capacity) [ zero ↦ giveBack t table x sp write | suc c ↦ keep t table x next sp time write ]
+bring t table x next sp time write = elim (x .book .capacity) [ zero ↦ giveBack t table x sp write | suc c ↦ keep t table x next sp time write ]
 
 -- how many records, stamps and ids it needs: one of each for a gap, none at capacity 0
 unfoldable pub bringNeed : Store → Span → ℕ
 unfolding gaps
-bringNeed x sp = elim (x .capacity) [ zero ↦ 0 | suc c ↦ length (gaps (sp .node) (x .ranges) (sp .start) (sp .end)) ]
+bringNeed x sp = elim (x .book .capacity) [ zero ↦ 0 | suc c ↦ length (gaps (sp .node) (x .ranges) (sp .start) (sp .end)) ]

@@ -3,11 +3,11 @@
 use Prim.Native.Nat.{ℕ, zero, suc, _+_, _-_}
 use mathlib.Core.Bool.{Bool, true, false}
 use mathlib.Core.List.{List, [], _∷_, _++_, map}
-use lib.ListN.{length, drop}
+use lib.ListN.{length, drop, replicate}
 use lib.Ieee.{Float}
 use Rattle.model.specs.declared.Span.{Span}
 use Rattle.model.specs.Sizes.{maxTiers}
-use Rattle.model.specs.State.{State, at}
+use Rattle.model.specs.State.{State, at, nextIdOf, stallsOf, capacityOf, heldOf, versionOf, pinnedOf}
 use Rattle.model.specs.Tree.{Seg, resolve, blocks}
 use Rattle.model.specs.Store.{Store, storeOf, withRanges, withPins, withNext}
 use Rattle.model.specs.Trim.{Out, stallsAfter}
@@ -18,7 +18,7 @@ use Rattle.model.specs.Expire.{Expired, expire}
 use Rattle.model.specs.Pins.{pin, pinNeed, unpin}
 use Rattle.model.specs.Lookup.{TierSpan, lookupPath, spanBlocks, spanBytes, tierSums}
 use Rattle.model.specs.Insert.{Cut, Inserted, insertPath}
-use Rattle.model.specs.SetUp.{setUpState, eight, zeros}
+use Rattle.model.specs.SetUp.{setUpState}
 use Rattle.model.specs.Refusals
 
 -- ---- answers
@@ -111,7 +111,7 @@ insert st l hs =
 
 unfoldable pub brought : State → ℕ → Span → Float → ℕ → Brought
 unfolding bring storeOf
-brought st s sp time write = bring (st .tree) (st .bytes) (storeOf st s) (st .books .nextId) sp time write
+brought st s sp time write = bring (st .tree) (st .bytes) (storeOf st s) (nextIdOf st) sp time write
 
 -- the state with the span brought in; at capacity 0 "nothing else changes"
 unfoldable pub bringIn : State → ℕ → Span → Float → ℕ → State
@@ -119,9 +119,9 @@ unfolding brought bringNeed withRanges withNext
 bringIn st s sp time write =
     let need = bringNeed (storeOf st s) sp in
     let w = brought st s sp time write in
-    elim (at (st .books .capacity) s) [
+    elim (capacityOf st s) [
       | zero ↦ st
-      | suc c ↦ withNext (st .books .nextId + need) (stallsAfter (w .stalled) (st .books .stalls)) (withRanges s need (w .store) st)
+      | suc c ↦ withNext (nextIdOf st + need) (stallsAfter (w .stalled) (stallsOf st)) (withRanges s need (w .store) st)
     ]
 
 unfoldable pub storeInsert : State → Refusals.OutList → ℕ → Span → Float → ℕ → Outcome Refusals.OutList ℕ
@@ -150,10 +150,10 @@ storeUsed st s sps time counted =
 unfoldable pub storeRemove : State → List ℕ → ℕ → Span → Outcome (List ℕ) ℕ
 unfolding remove storeOf withRanges withNext
 storeRemove st l s sp =
-    let w = remove (storeOf st s) (st .books .nextId) sp in
+    let w = remove (storeOf st s) (nextIdOf st) sp in
     unless (Refusals.firstOf (Refusals.storeRemoveRefusals st l s sp)) st l
     (record {
-      state = withNext (st .books .nextId + w .need) (st .books .stalls) (withRanges s (w .need) (w .store) st);
+      state = withNext (nextIdOf st + w .need) (stallsOf st) (withRanges s (w .need) (w .store) st);
       lists = front (w .writes) l;
       answer = done (length (w .writes));
     })
@@ -208,6 +208,13 @@ lookup st l ts hs =
           });
     })
 
+-- one for each of eight tiers
+abbrev pub eight : {A : Type 0} → A → List A → List A
+eight none xs = xs ++ replicate (maxTiers - length xs) none
+
+abbrev pub zeros : List ℕ
+zeros = replicate maxTiers 0
+
 -- the sums as they come back by value beside the answer: eight of each, 0 on refusal and past the tiers
 abbrev pub blockSums : Answer LookupAnswer → List ℕ
 blockSums (refused n) = zeros
@@ -225,21 +232,21 @@ storeCounter f st s =
     unless (Refusals.firstOf (Refusals.storeCountRefusals st s)) st tt (record { state = st; lists = tt; answer = done (f st s) })
 
 unfoldable pub heldCall : State → ℕ → Outcome NoList ℕ
-heldCall st s = storeCounter (λ x k. at (x .books .held) k) st s
+heldCall st s = storeCounter heldOf st s
 
 unfoldable pub capacityCall : State → ℕ → Outcome NoList ℕ
-capacityCall st s = storeCounter (λ x k. at (x .books .capacity) k) st s
+capacityCall st s = storeCounter capacityOf st s
 
 unfoldable pub pinnedCall : State → ℕ → Outcome NoList ℕ
-pinnedCall st s = storeCounter (λ x k. at (x .books .pinned) k) st s
+pinnedCall st s = storeCounter pinnedOf st s
 
 -- "the counter of available blocks is capacity less pinned, or 0"
 unfoldable pub availableCall : State → ℕ → Outcome NoList ℕ
-availableCall st s = storeCounter (λ x k. at (x .books .capacity) k - at (x .books .pinned) k) st s
+availableCall st s = storeCounter (λ x k. capacityOf x k - pinnedOf x k) st s
 
 unfoldable pub versionCall : State → ℕ → Outcome NoList ℕ
-versionCall st s = storeCounter (λ x k. at (x .books .version) k) st s
+versionCall st s = storeCounter versionOf st s
 
 unfoldable pub stallsCall : State → Outcome NoList ℕ
 stallsCall st =
-    unless (Refusals.firstOf (Refusals.countRefusals st)) st tt (record { state = st; lists = tt; answer = done (st .books .stalls) })
+    unless (Refusals.firstOf (Refusals.countRefusals st)) st tt (record { state = st; lists = tt; answer = done (stallsOf st) })

@@ -8,8 +8,8 @@ use lib.ListN.{length, take, replicate}
 use lib.IntN.{pos}
 use lib.Ieee.{Float, binary64, ofInt}
 use Rattle.model.specs.declared.Span.{Span}
-use Rattle.model.specs.Sizes.{maxNodes, maxWords, maxRecords, maxPins, maxMarks, tableLength, pathPlaces, outPlaces, tierPlaces}
-use Rattle.model.specs.State.{State, Books, Range, at}
+use Rattle.model.specs.Sizes.{maxNodes, maxWords, maxRecords, maxPins, maxMarks, maxNumbers, tableLength, pathPlaces, outPlaces, tierPlaces}
+use Rattle.model.specs.State.{State, Range, at, stallsOf, heldOf, versionOf}
 use Rattle.model.specs.Store.{Store, storeOf, noTime}
 use Rattle.model.specs.Insert.{Cut}
 use Rattle.model.specs.Refusals.{PathList, OutList, TierList}
@@ -19,22 +19,6 @@ use Rattle.model.specs.Calls.{Answer, refused, done, Outcome, Path, Inse
 
 abbrev blanks : ℕ → List ℕ
 blanks n = replicate n 0
-
-abbrev noBooks : Books
-noBooks =
-    record {
-      stores = 0;
-      nextId = 0;
-      stalls = 0;
-      capacity = blanks 8;
-      refreshes = replicate 8 false;
-      records = blanks 8;
-      held = blanks 8;
-      stamp = blanks 8;
-      version = blanks 8;
-      entries = blanks 8;
-      pinned = blanks 8;
-    }
 
 abbrev pub pools : State
 pools =
@@ -60,7 +44,7 @@ pools =
       pins = record { node = blanks maxPins; start = blanks maxPins; end = blanks maxPins; count = blanks maxPins };
       marks = blanks maxMarks;
       bytes = blanks tableLength;
-      books = noBooks;
+      books = blanks maxNumbers;
     }
 
 abbrev pub paths : PathList
@@ -188,7 +172,7 @@ outsOf (suc n) l = outsOf n l ++ ((at (l .node) n ∷ at (l .start) n ∷ at (l 
 
 -- store s: held and version
 abbrev pub figures : State → ℕ → List ℕ
-figures st s = at (st .books .held) s ∷ at (st .books .version) s ∷ []
+figures st s = heldOf st s ∷ versionOf st s ∷ []
 
 abbrev pub outSays : ℕ → Outcome OutList ℕ → List (List ℕ)
 outSays s o = elim (o .answer) [ refused n ↦ refusal n | done n ↦ outsOf n (o .lists) ++ (figures (o .state) s ∷ []) ]
@@ -247,5 +231,5 @@ rows =
       document = (7 ∷ []) ∷ (2 ∷ 4 ∷ []) ∷ (2 ∷ 3 ∷ 2 ∷ 2 ∷ []) ∷ (4 ∷ 5 ∷ 4 ∷ 3 ∷ []) ∷ [];
     }
     ∷ record { computed = lookupSays run12; document = (1 ∷ 1 ∷ 0 ∷ 4 ∷ []) ∷ (0 ∷ 4 ∷ []) ∷ [] }
-    ∷ record { computed = outSays 0 run13 ++ ((run13 .state .books .stalls ∷ []) ∷ []); document = (4 ∷ 0 ∷ []) ∷ (1 ∷ []) ∷ [] }
+    ∷ record { computed = outSays 0 run13 ++ ((stallsOf (run13 .state) ∷ []) ∷ []); document = (4 ∷ 0 ∷ []) ∷ (1 ∷ []) ∷ [] }
     ∷ []

@@ -6,7 +6,7 @@ use mathlib.Core.Option.{Option, none, some}
 use lib.ListN.{length}
 use lib.Ieee.{Float, binary64, sub, lt}
 use Rattle.model.specs.State.{Tree, Range}
-use Rattle.model.specs.Store.{Store, lengthOf, total, unmark}
+use Rattle.model.specs.Store.{Store, ranged, lengthOf, total, unmark}
 use Rattle.model.specs.Trim.{Out, told, nth, first, evict, Trimmed, also, versionAfter}
 
 -- "now minus touched, rounded once, strictly greater than the seconds"
@@ -44,12 +44,7 @@ expire t table x now seconds =
     let w = expireBy t table now seconds (length (x .ranges)) (oldest now seconds (x .ranges)) (x .ranges) (x .marks) in
     record {
       store = record {
-        capacity = x .capacity;
-        refreshes = x .refreshes;
-        held = total (w .ranges);
-        stamp = x .stamp;
-        version = versionAfter (x .version) (w .outs);
-        pinned = x .pinned;
+        book = ranged (x .book) (length (w .ranges)) (total (w .ranges)) (x .book .stamp) (versionAfter (x .book .version) (w .outs));
         ranges = w .ranges;
         pins = x .pins;
         marks = w .marks;

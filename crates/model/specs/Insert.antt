@@ -4,9 +4,9 @@ use mathlib.Core.Bool.{Bool, true, false, not, _&&_, _||_}
 use mathlib.Core.List.{List, [], _∷_, _++_, map}
 use lib.ListN.{length, take, drop, set}
 use lib.Dec.{ltb, leb, eqb}
-use Rattle.model.specs.State.{Tree, State, Range, Pin, at}
+use Rattle.model.specs.State.{Tree, State, Range, Pin, at, storesOf, nextIdOf, stallsOf}
 use Rattle.model.specs.Tree.{Seg, blocks}
-use Rattle.model.specs.Store.{Store, storeOf, withRanges, withPins, withNext, lay, part, put, plus, onNode}
+use Rattle.model.specs.Store.{Store, storeOf, withRanges, withPins, withNext, layCounts, changed, ranged, lay, part, put, plus, onNode}
 use Rattle.model.specs.Pins.{addPin, pinnedIn}
 
 -- ---- which numbers and words are free (the places that request P7 changes)
@@ -113,32 +113,38 @@ unfoldable pub cutMarks : ℕ → ℕ → ℕ → List Range → List ℕ → Li
 unfolding onNode
 cutMarks j k m rs ms = set (set ms j (ifHeld (onNode j rs) (min (at ms j) k))) m (ifHeld (onNode m rs) (at ms j - k))
 
--- the new node has the highest number, so its records stand last
+-- the ranges of node m put in where they belong: behind those of lower nodes
+unfoldable pub placed : ℕ → List Range → List Range → List Range
+placed m new [] = new
+placed m new (r ∷ rs) = elim (ltb (r .node) m) [ true ↦ r ∷ placed m new rs | false ↦ new ++ (r ∷ rs) ]
+
 unfoldable pub cutStore : ℕ → ℕ → ℕ → ℕ → Store → Store
-unfolding heads tails cutPins cutMarks pinnedIn
+unfolding heads tails placed cutPins cutMarks pinnedIn
 cutStore j k m next x =
-    let rs = heads j k (x .ranges) ++ tails j k m next (x .ranges) in
+    let rs = placed m (tails j k m next (x .ranges)) (heads j k (x .ranges)) in
     let ps = cutPins j k m (x .pins) in
+    let b = x .book in
     record {
-      capacity = x .capacity;
-      refreshes = x .refreshes;
-      held = x .held;
-      stamp = x .stamp;
-      version = x .version;
-      pinned = pinnedIn ps;
+      book = changed b (length rs) (b .held) (b .stamp) (b .version) (length ps) (pinnedIn ps);
       ranges = rs;
       pins = ps;
       marks = cutMarks j k m rs (x .marks);
     }
+
+-- the ranges' half of y beside the pins of x
+abbrev pub rangesFrom : Store → Store → Store
+rangesFrom y x =
+    let b = y .book in
+    record { book = ranged (x .book) (b .records) (b .held) (b .stamp) (b .version); ranges = y .ranges; pins = x .pins; marks = y .marks }
 
 -- store s after the cut, in the state; the next id is the state's
 unfoldable pub cutStoreIn : ℕ → ℕ → ℕ → ℕ → State → State
 unfolding cutStore storeOf withRanges withPins withNext rangesAcross pinsAcross
 cutStoreIn j k m s st =
     let x = storeOf st s in
-    let y = cutStore j k m (st .books .nextId) x in
+    let y = cutStore j k m (nextIdOf st) x in
     let new = rangesAcross j k (x .ranges) in
-    withNext (st .books .nextId + new) (st .books .stalls) (withPins s (pinsAcross j k (x .pins)) y (withRanges s new y st))
+    withNext (nextIdOf st + new) (stallsOf st) (withPins s (pinsAcross j k (x .pins)) y (withRanges s new (rangesFrom y x) st))
 
 -- "New ids go by store, then start": n stores from s on
 unfoldable pub cutStores : ℕ → ℕ → ℕ → ℕ → ℕ → State → State
@@ -146,12 +152,22 @@ unfolding cutStoreIn
 cutStores j k m s zero st = st
 cutStores j k m s (suc n) st = cutStores j k m (suc s) n (cutStoreIn j k m s st)
 
-abbrev pub withTree : Tree → State → State
-withTree t st = record { tree = t; ranges = st .ranges; pins = st .pins; marks = st .marks; bytes = st .bytes; books = st .books }
+-- the state with another tree, whose counts stand in the books too
+unfoldable pub withTree : Tree → State → State
+unfolding layCounts
+withTree t st =
+    record {
+      tree = t;
+      ranges = st .ranges;
+      pins = st .pins;
+      marks = st .marks;
+      bytes = st .bytes;
+      books = layCounts (t .nodes) (t .used) (st .books);
+    }
 
 unfoldable pub cut : ℕ → ℕ → State → State
-unfolding cutTree cutStores
-cut j k st = cutStores j k (nextNode (st .tree)) 0 (st .books .stores) (withTree (cutTree j k (st .tree)) st)
+unfolding cutTree cutStores withTree
+cut j k st = cutStores j k (nextNode (st .tree)) 0 (storesOf st) (withTree (cutTree j k (st .tree)) st)
 
 -- ---- the leaf
 
@@ -200,7 +216,7 @@ pub record Inserted : Type 0 where
 
 -- the state with the leaf under the match's end, and the path that goes on to it
 unfoldable pub withLeaf : List ℕ → List Seg → List Cut → State → Inserted
-unfolding addLeaf blocks lastSeg
+unfolding addLeaf blocks lastSeg withTree
 withLeaf hs path cuts st =
     let rest = drop (blocks path) hs in
     record {

@@ -2,10 +2,11 @@
 use Prim.Native.Nat.{ℕ, zero, suc, _+_, _-_, _*_}
 use mathlib.Core.Bool.{Bool, true, false, not, _&&_, _||_}
 use mathlib.Core.List.{List, [], _∷_}
+use lib.ListN.{length}
 use lib.Dec.{ltb, eqb}
 use Rattle.model.specs.declared.Span.{Span}
 use Rattle.model.specs.State.{Pin}
-use Rattle.model.specs.Store.{Store, plus}
+use Rattle.model.specs.Store.{Store, pinning, plus}
 
 abbrev pub pinOf : Span → ℕ → Pin
 pinOf sp count = record { node = sp .node; start = sp .start; end = sp .end; count = count }
@@ -54,12 +55,7 @@ pinnedIn (p ∷ ps) = (p .end - p .start) * p .count + pinnedIn ps
 abbrev pub repinned : Store → List Pin → Store
 repinned x ps =
     record {
-      capacity = x .capacity;
-      refreshes = x .refreshes;
-      held = x .held;
-      stamp = x .stamp;
-      version = x .version;
-      pinned = pinnedIn ps;
+      book = pinning (x .book) (length ps) (pinnedIn ps);
       ranges = x .ranges;
       pins = ps;
       marks = x .marks;

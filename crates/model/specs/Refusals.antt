@@ -11,7 +11,7 @@ use lib.Ieee.{Float}
 use Rattle.model.specs.declared.Span.{Span}
 use Rattle.model.specs.Words.{Says, Each, Some, all, any}
 use Rattle.model.specs.Sizes.{maxNodes, maxWords, maxHashes, storeRecords, storePins, maxPinned, maxStamp, maxSpans, maxTiers, pathPlaces, outPlaces, tierPlaces}
-use Rattle.model.specs.State.{Tree, State, Pin, at, entryOf}
+use Rattle.model.specs.State.{Tree, State, Pin, at, entryOf, storesOf, nextIdOf, stallsOf, recordsOf, stampOf, entriesOf, pinnedOf}
 use Rattle.model.specs.Sound.{Sound, Finite}
 use Rattle.model.specs.SoundTest.{sound, finite}
 use Rattle.model.specs.Tree.{Seg, resolve, blocks}
@@ -121,10 +121,10 @@ shortTiers l = condition 14 (TierFits l → ⊥) (not (tierFits l))
 -- ---- 2: "no such store (also in a tier list)"
 
 abbrev pub noStore : State → ℕ → Condition
-noStore st s = condition 2 (st .books .stores ≤ s) (leb (st .books .stores) s)
+noStore st s = condition 2 (storesOf st ≤ s) (leb (storesOf st) s)
 
 abbrev pub noTier : State → List ℕ → Condition
-noTier st ts = condition 2 (Some (length ts) (λ i. st .books .stores ≤ at ts i)) (any (length ts) (λ i. leb (st .books .stores) (at ts i)))
+noTier st ts = condition 2 (Some (length ts) (λ i. storesOf st ≤ at ts i)) (any (length ts) (λ i. leb (storesOf st) (at ts i)))
 
 -- ---- 3: "over 1,024 hashes, 64 spans or 8 tiers"
 
@@ -176,7 +176,7 @@ pub record EntryOf (sp : Span) (p : Pin) : Type 0 where
 
 abbrev pub noEntry : State → ℕ → Span → Condition
 noEntry st s sp =
-    condition 10 (Each 0 (at (st .books .entries) s) (λ k. EntryOf sp (entryOf st s k) → ⊥)) (not (hasPin (pinOf sp 1) (storeOf st s .pins)))
+    condition 10 (Each 0 (entriesOf st s) (λ k. EntryOf sp (entryOf st s k) → ⊥)) (not (hasPin (pinOf sp 1) (storeOf st s .pins)))
 
 -- ---- 6: "too few nodes for leaf and cut": one without a cut, two with
 
@@ -201,7 +201,7 @@ fewWords st hs = condition 7 (maxWords < st .tree .used + newBlocks st hs) (ltb 
 -- ---- 8: "a store's used records plus the new ones needed exceed 128"
 
 abbrev pub fewRecords : State → ℕ → ℕ → Condition
-fewRecords st s need = condition 8 (storeRecords < at (st .books .records) s + need) (ltb storeRecords (at (st .books .records) s + need))
+fewRecords st s need = condition 8 (storeRecords < recordsOf st s + need) (ltb storeRecords (recordsOf st s + need))
 
 -- does an insert of the list cut a node?
 abbrev pub cuts : State → List ℕ → Bool
@@ -226,8 +226,8 @@ cutEntries st hs s =
 
 abbrev pub fewRecordsInCut : State → List ℕ → Condition
 fewRecordsInCut st hs =
-    condition 8 (Some (st .books .stores) (λ s. storeRecords < at (st .books .records) s + cutRecords st hs s))
-    (any (st .books .stores) (λ s. ltb storeRecords (at (st .books .records) s + cutRecords st hs s)))
+    condition 8 (Some (storesOf st) (λ s. storeRecords < recordsOf st s + cutRecords st hs s))
+    (any (storesOf st) (λ s. ltb storeRecords (recordsOf st s + cutRecords st hs s)))
 
 -- ---- 9: "used pin entries plus the new ones needed exceed 32, or pinned would exceed 1,000,000"
 
@@ -235,24 +235,24 @@ abbrev pub fewEntries : State → ℕ → Span → Condition
 fewEntries st s sp =
     let need = pinNeed (storeOf st s) sp in
     let more = sp .end - sp .start in
-    condition 9 ((storePins < at (st .books .entries) s + need) ⊎ (maxPinned < at (st .books .pinned) s + more))
-    (ltb storePins (at (st .books .entries) s + need) || ltb maxPinned (at (st .books .pinned) s + more))
+    condition 9 ((storePins < entriesOf st s + need) ⊎ (maxPinned < pinnedOf st s + more))
+    (ltb storePins (entriesOf st s + need) || ltb maxPinned (pinnedOf st s + more))
 
 -- a cut moves pins and pins no block more, so only the entries can be too many
 abbrev pub fewEntriesInCut : State → List ℕ → Condition
 fewEntriesInCut st hs =
-    condition 9 (Some (st .books .stores) (λ s. storePins < at (st .books .entries) s + cutEntries st hs s))
-    (any (st .books .stores) (λ s. ltb storePins (at (st .books .entries) s + cutEntries st hs s)))
+    condition 9 (Some (storesOf st) (λ s. storePins < entriesOf st s + cutEntries st hs s))
+    (any (storesOf st) (λ s. ltb storePins (entriesOf st s + cutEntries st hs s)))
 
 -- ---- 11: "a stamp or the next id would pass 2^48 - 1"
 
 abbrev pub lateId : State → ℕ → Condition
-lateId st ids = condition 11 (maxStamp < st .books .nextId + ids) (ltb maxStamp (st .books .nextId + ids))
+lateId st ids = condition 11 (maxStamp < nextIdOf st + ids) (ltb maxStamp (nextIdOf st + ids))
 
 abbrev pub lateStamp : State → ℕ → ℕ → ℕ → Condition
 lateStamp st s stamps ids =
-    condition 11 ((maxStamp < at (st .books .stamp) s + stamps) ⊎ (maxStamp < st .books .nextId + ids))
-    (ltb maxStamp (at (st .books .stamp) s + stamps) || ltb maxStamp (st .books .nextId + ids))
+    condition 11 ((maxStamp < stampOf st s + stamps) ⊎ (maxStamp < nextIdOf st + ids))
+    (ltb maxStamp (stampOf st s + stamps) || ltb maxStamp (nextIdOf st + ids))
 
 -- the new ids of a cut, over the stores below n
 unfoldable pub cutIds : State → List ℕ → ℕ → ℕ
@@ -278,7 +278,7 @@ insertRefusals st l hs =
     ∷ fewWords st hs
     ∷ fewRecordsInCut st hs
     ∷ fewEntriesInCut st hs
-    ∷ lateId st (cutIds st hs (st .books .stores))
+    ∷ lateId st (cutIds st hs (storesOf st))
     ∷ []
 
 abbrev pub storeInsertRefusals : State → OutList → ℕ → Span → Float → List Condition
@@ -294,14 +294,14 @@ storeInsertRefusals st l s sp time =
 
 -- what one span of a touch does to store s
 abbrev pub touchedBy : State → ℕ → Span → Float → Bool → Touched
-touchedBy st s sp time counted = touch (st .tree) (st .bytes) (storeOf st s) (st .books .nextId) sp time counted
+touchedBy st s sp time counted = touch (st .tree) (st .bytes) (storeOf st s) (nextIdOf st) sp time counted
 
 -- the state after one span of a touch
 unfoldable pub touchSpan : State → ℕ → Span → Float → Bool → State
 unfolding touch storeOf withRanges withNext
 touchSpan st s sp time counted =
     let w = touchedBy st s sp time counted in
-    withNext (st .books .nextId + w .need) (st .books .stalls) (withRanges s (w .need) (w .store) st)
+    withNext (nextIdOf st + w .need) (stallsOf st) (withRanges s (w .need) (w .store) st)
 
 -- "then 8 and 11 at each span's turn, on the state the earlier spans left"
 abbrev pub turnRefusals : State → ℕ → List Span → Float → Bool → List Condition
@@ -322,8 +322,8 @@ storeRemoveRefusals st l s sp =
     ∷ shortWrites l
     ∷ noStore st s
     ∷ badSpan st sp
-    ∷ fewRecords st s (remove (storeOf st s) (st .books .nextId) sp .need)
-    ∷ lateId st (remove (storeOf st s) (st .books .nextId) sp .need)
+    ∷ fewRecords st s (remove (storeOf st s) (nextIdOf st) sp .need)
+    ∷ lateId st (remove (storeOf st s) (nextIdOf st) sp .need)
     ∷ []
 
 abbrev pub storeExpireRefusals : State → OutList → ℕ → Float → Float → List Condition

@@ -2,11 +2,12 @@
 use Prim.Native.Nat.{ℕ, zero, suc, _+_, _%_}
 use mathlib.Core.Bool.{Bool, true, false, _&&_}
 use mathlib.Core.List.{List, [], _∷_}
+use lib.ListN.{length}
 use lib.Dec.{ltb}
 use Rattle.model.specs.declared.Span.{Span}
 use Rattle.model.specs.Sizes.{versions}
 use Rattle.model.specs.State.{Range}
-use Rattle.model.specs.Store.{Store, total, meets, part, put, plus, unmark}
+use Rattle.model.specs.Store.{Store, ranged, total, meets, part, put, plus, unmark}
 use Rattle.model.specs.Touch.{overlapped, hasHead, hasTail}
 
 -- "a middle cut's tail gets a new id": the range reaches past both ends of the span
@@ -56,12 +57,7 @@ removeHits (r ∷ rs) x next sp =
     let left = cutOut (sp .node) (sp .start) (sp .end) next (x .ranges) in
     record {
       store = record {
-        capacity = x .capacity;
-        refreshes = x .refreshes;
-        held = total left;
-        stamp = x .stamp;
-        version = suc (x .version) % versions;
-        pinned = x .pinned;
+        book = ranged (x .book) (length left) (total left) (x .book .stamp) (suc (x .book .version) % versions);
         ranges = left;
         pins = x .pins;
         marks = unmark (sp .node) left (x .marks);

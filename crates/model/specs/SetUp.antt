@@ -1,13 +1,14 @@
 -- Document 01, "Set-up leaves the root only, next id 1, stamps, versions, stalls and pins 0." Assumes nothing.
-use Prim.Native.Nat.{ℕ, zero, suc, _-_, _≤_}
+use Prim.Native.Nat.{ℕ, zero, suc, _*_, _≤_}
 use mathlib.Core.Bool.{Bool, true, false, _&&_}
-use mathlib.Core.List.{List, _++_}
+use mathlib.Core.List.{List, [], _∷_, _++_}
 use mathlib.Core.Path.{_≡_}
-use lib.ListN.{length, drop, set, replicate}
+use lib.ListN.{length, getD, drop, set, replicate}
 use lib.Dec.{leb, eqb}
+use Rattle.model.specs.declared.Book.{Book}
 use Rattle.model.specs.Words.{Each, all}
-use Rattle.model.specs.Sizes.{maxStores, maxCapacity, maxMarks, tableLength}
-use Rattle.model.specs.State.{Tree, State, at}
+use Rattle.model.specs.Sizes.{maxStores, storeNumbers, maxCapacity, maxMarks, maxNumbers, tableLength}
+use Rattle.model.specs.State.{Tree, State, at, whole, partsIn, numbers, bookFrom}
 use Rattle.model.specs.Sound.{TreeLent, RangesLent, PinsLent, Rising}
 use Rattle.model.specs.SoundTest.{treeLent, rangesLent, pinsLent, rising}
 
@@ -25,6 +26,7 @@ pub record SetUpFits (pools : State) (table capacity : List ℕ) (refreshes : Li
   pub pins : PinsLent (pools .pins)
   pub marks : maxMarks ≤ length (pools .marks)
   pub bytes : tableLength ≤ length (pools .bytes)
+  pub books : maxNumbers ≤ length (pools .books)
 
 unfoldable pub setUpFits : State → List ℕ → List ℕ → List Bool → Bool
 unfolding all rising treeLent rangesLent pinsLent
@@ -37,7 +39,9 @@ setUpFits pools table capacity refreshes =
     && (rising table
     && (treeLent (pools .tree)
     && (rangesLent (pools .ranges)
-    && (pinsLent (pools .pins) && (leb maxMarks (length (pools .marks)) && leb tableLength (length (pools .bytes)))))))))))
+    && (pinsLent (pools .pins)
+    && (leb maxMarks (length (pools .marks))
+    && (leb tableLength (length (pools .bytes)) && leb maxNumbers (length (pools .books))))))))))))
 
 -- node 0 with length and depth 0, no other in use
 abbrev pub rootOnly : Tree → Tree
@@ -52,15 +56,25 @@ rootOnly t =
       used = 0;
     }
 
--- one for each of the eight stores
-abbrev pub eight : {A : Type 0} → A → List A → List A
-eight none xs = xs ++ replicate (maxStores - length xs) none
+-- a policy as its number
+abbrev pub policy : Bool → ℕ
+policy true = 1
+policy false = 0
 
-abbrev pub zeros : List ℕ
-zeros = replicate maxStores 0
+-- store s as it is set up: a capacity, a policy, and 0 for the rest
+abbrev pub newBook : List ℕ → List Bool → ℕ → Book
+newBook capacity refreshes s = bookFrom (at capacity s ∷ policy (getD refreshes s false) ∷ [])
 
--- the marks are cleared, since a mark is 0 where nothing is held; ranges and pins past their counts stay as they were lent
+-- the numbers of n stores from s on
+unfoldable pub newNumbers : List ℕ → List Bool → ℕ → ℕ → List ℕ
+newNumbers capacity refreshes s zero = []
+newNumbers capacity refreshes s (suc n) =
+    numbers (newBook capacity refreshes s) ++ newNumbers capacity refreshes (suc s) n
+
+-- the marks are cleared, since a mark is 0 where nothing is held, and so are the numbers of the stores that there aren't; ranges and pins past their
+-- counts stay as they were lent
 unfoldable pub setUpState : State → List ℕ → List ℕ → List Bool → State
+unfolding newNumbers
 setUpState pools table capacity refreshes =
     record {
       tree = rootOnly (pools .tree);
@@ -68,17 +82,7 @@ setUpState pools table capacity refreshes =
       pins = pools .pins;
       marks = replicate maxMarks 0 ++ drop maxMarks (pools .marks);
       bytes = table ++ drop tableLength (pools .bytes);
-      books = record {
-        stores = length capacity;
-        nextId = 1;
-        stalls = 0;
-        capacity = eight 0 capacity;
-        refreshes = eight false refreshes;
-        records = zeros;
-        held = zeros;
-        stamp = zeros;
-        version = zeros;
-        entries = zeros;
-        pinned = zeros;
-      };
+      books =
+          whole 1 0 (length capacity) 1 0
+          (newNumbers capacity refreshes 0 maxStores ++ drop (storeNumbers * maxStores) (partsIn (pools .books)));
     }

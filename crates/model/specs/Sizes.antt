@@ -30,6 +30,10 @@ storePins = 32
 abbrev pub storeMarks : ℕ
 storeMarks = 256
 
+-- its part of the small numbers
+abbrev pub storeNumbers : ℕ
+storeNumbers = 8
+
 -- the pools, all stores together
 abbrev pub maxRecords : ℕ
 maxRecords = 1024
@@ -39,6 +43,10 @@ maxPins = 256
 
 abbrev pub maxMarks : ℕ
 maxMarks = 2048
+
+-- five numbers of the whole, then the stores'
+abbrev pub maxNumbers : ℕ
+maxNumbers = 69
 
 abbrev pub maxPinned : ℕ
 maxPinned = 1000000

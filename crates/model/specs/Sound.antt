@@ -5,9 +5,10 @@ use mathlib.Core.Bool.{Bool}
 use mathlib.Core.List.{List}
 use lib.ListN.{length}
 use lib.Ieee.{Float, nan, inf, fin}
+use Rattle.model.specs.declared.Book.{Book}
 use Rattle.model.specs.Words.{Each, Pairs}
-use Rattle.model.specs.Sizes.{maxNodes, maxWords, maxHashes, maxStores, maxCapacity, storeRecords, storePins, storeMarks, maxRecords, maxPins, maxMarks, maxPinned, maxStamp, tableLength, maxBytes, maxStalls}
-use Rattle.model.specs.State.{Tree, Ranges, Pins, Books, State, Range, Pin, at, recordOf, entryOf, markOf, firstHash, endOf}
+use Rattle.model.specs.Sizes.{maxNodes, maxWords, maxHashes, maxStores, maxCapacity, storeRecords, storePins, storeMarks, maxRecords, maxPins, maxMarks, maxNumbers, maxPinned, maxStamp, tableLength, maxBytes, maxStalls}
+use Rattle.model.specs.State.{Tree, Ranges, Pins, State, Range, Pin, at, recordOf, entryOf, markOf, firstHash, endOf, storesOf, nextIdOf, stallsOf, bookOf, capacityOf, recordsOf, heldOf, stampOf, entriesOf, pinnedOf}
 
 -- ---- "Counts and the byte table are as under Sizes; no lent pool is shorter."
 
@@ -33,43 +34,33 @@ pub record PinsLent (c : Pins) : Type 0 where
   pub end : maxPins ≤ length (c .end)
   pub count : maxPins ≤ length (c .count)
 
--- the stores' small numbers go by value, eight of each
-pub record BooksLent (b : Books) : Type 0 where
-  pub capacity : length (b .capacity) ≡ maxStores
-  pub refreshes : length (b .refreshes) ≡ maxStores
-  pub records : length (b .records) ≡ maxStores
-  pub held : length (b .held) ≡ maxStores
-  pub stamp : length (b .stamp) ≡ maxStores
-  pub version : length (b .version) ≡ maxStores
-  pub entries : length (b .entries) ≡ maxStores
-  pub pinned : length (b .pinned) ≡ maxStores
-
 pub record Lent (st : State) : Type 0 where
   pub tree : TreeLent (st .tree)
   pub ranges : RangesLent (st .ranges)
   pub pins : PinsLent (st .pins)
   pub marks : maxMarks ≤ length (st .marks)
   pub bytes : tableLength ≤ length (st .bytes)
-  pub books : BooksLent (st .books)
+  pub books : maxNumbers ≤ length (st .books)
 
--- a store's own counts
-pub record StoreCounts (b : Books) (s : ℕ) : Type 0 where
-  pub capacity : at (b .capacity) s ≤ maxCapacity
-  pub records : at (b .records) s ≤ storeRecords
-  pub entries : at (b .entries) s ≤ storePins
-  pub pinned : at (b .pinned) s ≤ maxPinned
-  pub stamp : at (b .stamp) s ≤ maxStamp
+-- a store's own counts; its policy is one of the two
+pub record StoreCounts (b : Book) : Type 0 where
+  pub capacity : b .capacity ≤ maxCapacity
+  pub policy : b .policy ≤ 1
+  pub records : b .records ≤ storeRecords
+  pub entries : b .entries ≤ storePins
+  pub pinned : b .pinned ≤ maxPinned
+  pub stamp : b .stamp ≤ maxStamp
 
 pub record Counts (st : State) : Type 0 where
   pub root : 1 ≤ st .tree .nodes
   pub nodes : st .tree .nodes ≤ maxNodes
   pub used : st .tree .used ≤ maxWords
-  pub someStore : 1 ≤ st .books .stores
-  pub stores : st .books .stores ≤ maxStores
-  pub firstId : 1 ≤ st .books .nextId
-  pub nextId : st .books .nextId ≤ maxStamp
-  pub stalls : st .books .stalls ≤ maxStalls
-  pub each : Each 0 (st .books .stores) (StoreCounts (st .books))
+  pub someStore : 1 ≤ storesOf st
+  pub stores : storesOf st ≤ maxStores
+  pub firstId : 1 ≤ nextIdOf st
+  pub nextId : nextIdOf st ≤ maxStamp
+  pub stalls : stallsOf st ≤ maxStalls
+  pub each : Each 0 (storesOf st) (λ s. StoreCounts (bookOf st s))
 
 -- "Byte table: 1,025 numbers, never falling, none above 2^48."
 pub record Rising (table : List ℕ) : Type 0 where
@@ -123,10 +114,10 @@ SiblingsDiffer t = EachNode t (λ j. EachNode t (λ k. at (t .parent) j ≡ at (
 -- ---- the stores. The facts are of the stores in use and of their used records
 
 abbrev pub EachStore : State → (ℕ → Type 0) → Type 0
-EachStore st P = Each 0 (st .books .stores) P
+EachStore st P = Each 0 (storesOf st) P
 
 abbrev pub EachRecord : State → ℕ → (ℕ → Type 0) → Type 0
-EachRecord st s P = Each 0 (at (st .books .records) s) P
+EachRecord st s P = Each 0 (recordsOf st s) P
 
 -- r stands before q: by node, and on one node it ends before q starts
 pub record Before (r q : Range) : Type 0 where
@@ -135,7 +126,7 @@ pub record Before (r q : Range) : Type 0 where
 
 -- "Each store's records stand by node, then start; on a node the ranges are .. disjoint"
 unfoldable pub RecordsStand : State → Type 0
-RecordsStand st = EachStore st (λ s. Pairs (at (st .books .records) s) (λ j k. Before (recordOf st s j) (recordOf st s k)))
+RecordsStand st = EachStore st (λ s. Pairs (recordsOf st s) (λ j k. Before (recordOf st s j) (recordOf st s k)))
 
 -- a range that is nonempty and inside a node in use
 pub record Inside (t : Tree) (r : Range) : Type 0 where
@@ -154,11 +145,11 @@ heldBy st s (suc n) = heldBy st s n + (recordOf st s n .end - recordOf st s n .s
 
 -- "Held is the sum of their lengths"
 unfoldable pub HeldIsSum : State → Type 0
-HeldIsSum st = EachStore st (λ s. at (st .books .held) s ≡ heldBy st s (at (st .books .records) s))
+HeldIsSum st = EachStore st (λ s. heldOf st s ≡ heldBy st s (recordsOf st s))
 
 -- "and 0 for a store of capacity 0"
 unfoldable pub HeldNoneAtZero : State → Type 0
-HeldNoneAtZero st = EachStore st (λ s. at (st .books .capacity) s ≡ 0 → at (st .books .held) s ≡ 0)
+HeldNoneAtZero st = EachStore st (λ s. capacityOf st s ≡ 0 → heldOf st s ≡ 0)
 
 -- "Ids differ": two records of one id are one record of one store
 pub record OneRecord (s j q k : ℕ) : Type 0 where
@@ -175,7 +166,7 @@ pub record IdBetween (next : ℕ) (r : Range) : Type 0 where
   pub high : r .id < next
 
 unfoldable pub IdsBelowNext : State → Type 0
-IdsBelowNext st = EachStore st (λ s. EachRecord st s (λ k. IdBetween (st .books .nextId) (recordOf st s k)))
+IdsBelowNext st = EachStore st (λ s. EachRecord st s (λ k. IdBetween (nextIdOf st) (recordOf st s k)))
 
 -- "stamps are from 1 up to the store's"
 pub record StampBetween (top : ℕ) (r : Range) : Type 0 where
@@ -183,7 +174,7 @@ pub record StampBetween (top : ℕ) (r : Range) : Type 0 where
   pub high : r .stamp ≤ top
 
 unfoldable pub StampsUpToStores : State → Type 0
-StampsUpToStores st = EachStore st (λ s. EachRecord st s (λ k. StampBetween (at (st .books .stamp) s) (recordOf st s k)))
+StampsUpToStores st = EachStore st (λ s. EachRecord st s (λ k. StampBetween (stampOf st s) (recordOf st s k)))
 
 -- neither an infinity nor no number
 abbrev pub Finite : Float → Type 0
@@ -198,7 +189,7 @@ TimesFinite st = EachStore st (λ s. EachRecord st s (λ k. Finite (recordOf st 
 -- ---- pins
 
 abbrev pub EachEntry : State → ℕ → (ℕ → Type 0) → Type 0
-EachEntry st s P = Each 0 (at (st .books .entries) s) P
+EachEntry st s P = Each 0 (entriesOf st s) P
 
 -- by node, start, end; two entries of one span are never in order
 pub record PinBefore (p q : Pin) : Type 0 where
@@ -208,7 +199,7 @@ pub record PinBefore (p q : Pin) : Type 0 where
 
 -- "Pin entries stand by node, start, end, are distinct"
 unfoldable pub PinsStand : State → Type 0
-PinsStand st = EachStore st (λ s. Pairs (at (st .books .entries) s) (λ j k. PinBefore (entryOf st s j) (entryOf st s k)))
+PinsStand st = EachStore st (λ s. Pairs (entriesOf st s) (λ j k. PinBefore (entryOf st s j) (entryOf st s k)))
 
 -- "nonempty, inside their node and of count 1 or more"
 pub record PinInside (t : Tree) (p : Pin) : Type 0 where
@@ -227,7 +218,7 @@ pinnedBy st s (suc n) = pinnedBy st s n + (entryOf st s n .end - entryOf st s n 
 
 -- "pinned is the sum of length times count"
 unfoldable pub PinnedIsSum : State → Type 0
-PinnedIsSum st = EachStore st (λ s. at (st .books .pinned) s ≡ pinnedBy st s (at (st .books .entries) s))
+PinnedIsSum st = EachStore st (λ s. pinnedOf st s ≡ pinnedBy st s (entriesOf st s))
 
 -- ---- marks, of all 256 node numbers
 

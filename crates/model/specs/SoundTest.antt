@@ -6,9 +6,10 @@ use mathlib.Core.List.{List, [], _∷_}
 use lib.ListN.{length}
 use lib.Dec.{leb, ltb, eqb}
 use lib.Ieee.{Float, nan, inf, fin}
+use Rattle.model.specs.declared.Book.{Book}
 use Rattle.model.specs.Words.{all, pairs, implies}
-use Rattle.model.specs.Sizes.{maxNodes, maxWords, maxHashes, maxStores, maxCapacity, storeRecords, storePins, maxRecords, maxPins, maxMarks, maxPinned, maxStamp, tableLength, maxBytes, maxStalls}
-use Rattle.model.specs.State.{Tree, Ranges, Pins, Books, State, Range, Pin, at, recordOf, entryOf, markOf, firstHash, endOf}
+use Rattle.model.specs.Sizes.{maxNodes, maxWords, maxHashes, maxStores, maxCapacity, storeRecords, storePins, maxRecords, maxPins, maxMarks, maxNumbers, maxPinned, maxStamp, tableLength, maxBytes, maxStalls}
+use Rattle.model.specs.State.{Tree, Ranges, Pins, State, Range, Pin, at, recordOf, entryOf, markOf, firstHash, endOf, storesOf, nextIdOf, stallsOf, bookOf, capacityOf, recordsOf, heldOf, stampOf, entriesOf, pinnedOf}
 use Rattle.model.specs.Sound.{heldBy, pinnedBy}
 
 unfoldable pub treeLent : Tree → Bool
@@ -29,27 +30,18 @@ pinsLent c =
     leb maxPins (length (c .node))
     && (leb maxPins (length (c .start)) && (leb maxPins (length (c .end)) && leb maxPins (length (c .count))))
 
-unfoldable pub booksLent : Books → Bool
-booksLent b =
-    eqb (length (b .capacity)) maxStores
-    && (eqb (length (b .refreshes)) maxStores
-    && (eqb (length (b .records)) maxStores
-    && (eqb (length (b .held)) maxStores
-    && (eqb (length (b .stamp)) maxStores
-    && (eqb (length (b .version)) maxStores && (eqb (length (b .entries)) maxStores && eqb (length (b .pinned)) maxStores))))))
-
 unfoldable pub lent : State → Bool
-unfolding treeLent rangesLent pinsLent booksLent
+unfolding treeLent rangesLent pinsLent
 lent st =
     treeLent (st .tree)
     && (rangesLent (st .ranges)
-    && (pinsLent (st .pins) && (leb maxMarks (length (st .marks)) && (leb tableLength (length (st .bytes)) && booksLent (st .books)))))
+    && (pinsLent (st .pins) && (leb maxMarks (length (st .marks)) && (leb tableLength (length (st .bytes)) && leb maxNumbers (length (st .books))))))
 
-unfoldable pub storeCounts : Books → ℕ → Bool
-storeCounts b s =
-    leb (at (b .capacity) s) maxCapacity
-    && (leb (at (b .records) s) storeRecords
-    && (leb (at (b .entries) s) storePins && (leb (at (b .pinned) s) maxPinned && leb (at (b .stamp) s) maxStamp)))
+unfoldable pub storeCounts : Book → Bool
+storeCounts b =
+    leb (b .capacity) maxCapacity
+    && (leb (b .policy) 1
+    && (leb (b .records) storeRecords && (leb (b .entries) storePins && (leb (b .pinned) maxPinned && leb (b .stamp) maxStamp))))
 
 unfoldable pub counts : State → Bool
 unfolding storeCounts all
@@ -57,10 +49,10 @@ counts st =
     leb 1 (st .tree .nodes)
     && (leb (st .tree .nodes) maxNodes
     && (leb (st .tree .used) maxWords
-    && (leb 1 (st .books .stores)
-    && (leb (st .books .stores) maxStores
-    && (leb 1 (st .books .nextId)
-    && (leb (st .books .nextId) maxStamp && (leb (st .books .stalls) maxStalls && all (st .books .stores) (storeCounts (st .books)))))))))
+    && (leb 1 (storesOf st)
+    && (leb (storesOf st) maxStores
+    && (leb 1 (nextIdOf st)
+    && (leb (nextIdOf st) maxStamp && (leb (stallsOf st) maxStalls && all (storesOf st) (λ s. storeCounts (bookOf st s)))))))))
 
 -- n numbers of the list, none below the one before it or above 2^48
 unfoldable pub risesFrom : ℕ → ℕ → List ℕ → Bool
@@ -117,17 +109,17 @@ siblingsDiffer t =
 -- ---- the stores
 
 abbrev pub eachStore : State → (ℕ → Bool) → Bool
-eachStore st f = all (st .books .stores) f
+eachStore st f = all (storesOf st) f
 
 abbrev pub eachRecord : State → ℕ → (ℕ → Bool) → Bool
-eachRecord st s f = all (at (st .books .records) s) f
+eachRecord st s f = all (recordsOf st s) f
 
 abbrev pub before : Range → Range → Bool
 before r q = leb (r .node) (q .node) && implies (eqb (r .node) (q .node)) (leb (r .end) (q .start))
 
 unfoldable pub recordsStand : State → Bool
 unfolding all pairs
-recordsStand st = eachStore st (λ s. pairs (at (st .books .records) s) (λ j k. before (recordOf st s j) (recordOf st s k)))
+recordsStand st = eachStore st (λ s. pairs (recordsOf st s) (λ j k. before (recordOf st s j) (recordOf st s k)))
 
 abbrev pub inside : Tree → Range → Bool
 inside t r = ltb (r .node) (t .nodes) && (ltb (r .start) (r .end) && leb (r .end) (at (t .len) (r .node)))
@@ -138,11 +130,11 @@ recordsInside st = eachStore st (λ s. eachRecord st s (λ k. inside (st .tree) 
 
 unfoldable pub heldIsSum : State → Bool
 unfolding all heldBy
-heldIsSum st = eachStore st (λ s. eqb (at (st .books .held) s) (heldBy st s (at (st .books .records) s)))
+heldIsSum st = eachStore st (λ s. eqb (heldOf st s) (heldBy st s (recordsOf st s)))
 
 unfoldable pub heldNoneAtZero : State → Bool
 unfolding all
-heldNoneAtZero st = eachStore st (λ s. implies (eqb (at (st .books .capacity) s) 0) (eqb (at (st .books .held) s) 0))
+heldNoneAtZero st = eachStore st (λ s. implies (eqb (capacityOf st s) 0) (eqb (heldOf st s) 0))
 
 unfoldable pub idsDiffer : State → Bool
 unfolding all
@@ -152,12 +144,12 @@ idsDiffer st =
 
 unfoldable pub idsBelowNext : State → Bool
 unfolding all
-idsBelowNext st = eachStore st (λ s. eachRecord st s (λ k. leb 1 (recordOf st s k .id) && ltb (recordOf st s k .id) (st .books .nextId)))
+idsBelowNext st = eachStore st (λ s. eachRecord st s (λ k. leb 1 (recordOf st s k .id) && ltb (recordOf st s k .id) (nextIdOf st)))
 
 unfoldable pub stampsUpToStores : State → Bool
 unfolding all
 stampsUpToStores st =
-    eachStore st (λ s. eachRecord st s (λ k. leb 1 (recordOf st s k .stamp) && leb (recordOf st s k .stamp) (at (st .books .stamp) s)))
+    eachStore st (λ s. eachRecord st s (λ k. leb 1 (recordOf st s k .stamp) && leb (recordOf st s k .stamp) (stampOf st s)))
 
 abbrev pub finite : Float → Bool
 finite nan = false
@@ -171,7 +163,7 @@ timesFinite st = eachStore st (λ s. eachRecord st s (λ k. finite (recordOf st 
 -- ---- pins
 
 abbrev pub eachEntry : State → ℕ → (ℕ → Bool) → Bool
-eachEntry st s f = all (at (st .books .entries) s) f
+eachEntry st s f = all (entriesOf st s) f
 
 abbrev pub pinBefore : Pin → Pin → Bool
 pinBefore p q =
@@ -181,7 +173,7 @@ pinBefore p q =
 
 unfoldable pub pinsStand : State → Bool
 unfolding all pairs
-pinsStand st = eachStore st (λ s. pairs (at (st .books .entries) s) (λ j k. pinBefore (entryOf st s j) (entryOf st s k)))
+pinsStand st = eachStore st (λ s. pairs (entriesOf st s) (λ j k. pinBefore (entryOf st s j) (entryOf st s k)))
 
 abbrev pub pinInside : Tree → Pin → Bool
 pinInside t p = ltb (p .node) (t .nodes) && (ltb (p .start) (p .end) && (leb (p .end) (at (t .len) (p .node)) && leb 1 (p .count)))
@@ -192,7 +184,7 @@ pinsInside st = eachStore st (λ s. eachEntry st s (λ k. pinInside (st .tree) (
 
 unfoldable pub pinnedIsSum : State → Bool
 unfolding all pinnedBy
-pinnedIsSum st = eachStore st (λ s. eqb (at (st .books .pinned) s) (pinnedBy st s (at (st .books .entries) s)))
+pinnedIsSum st = eachStore st (λ s. eqb (pinnedOf st s) (pinnedBy st s (entriesOf st s)))
 
 -- ---- marks
 

@@ -1,10 +1,12 @@
--- The state: lent pools with counts, and the small numbers. A pool is the list of what stands in it, of whatever length it was lent. Assumes nothing.
+-- The state: lent pools, and the small numbers in one lent list. A pool is the list of what stands in it, of whatever length it was lent. Assumes nothing.
 use Prim.Native.Nat.{ℕ, zero, suc, _+_, _*_}
 use mathlib.Core.Bool.{Bool, true, false}
 use mathlib.Core.List.{List, [], _∷_}
-use lib.ListN.{length, getD}
+use lib.ListN.{length, getD, take, drop}
+use lib.Dec.{eqb}
 use lib.Ieee.{Float, nan}
-use Rattle.model.specs.Sizes.{storeRecords, storePins, storeMarks}
+use Rattle.model.specs.declared.Book.{Book}
+use Rattle.model.specs.Sizes.{storeRecords, storePins, storeMarks, storeNumbers}
 
 -- The tree: for each node its parent, the blocks before it (depth), its number of blocks, and where its run of hash words begins;
 -- how many nodes are in use, the root counted, and how many hash words
@@ -34,29 +36,15 @@ pub record Pins : Type 0 where
   pub end : List ℕ
   pub count : List ℕ
 
--- The small numbers: how many stores there are, the next id, the stalls; and for each store its capacity, whether it refreshes (else it is `Fifo`),
--- its used records, the blocks it holds, its stamp, its version, its used pin entries and its pinned blocks
-pub record Books : Type 0 where
-  pub stores : ℕ
-  pub nextId : ℕ
-  pub stalls : ℕ
-  pub capacity : List ℕ
-  pub refreshes : List Bool
-  pub records : List ℕ
-  pub held : List ℕ
-  pub stamp : List ℕ
-  pub version : List ℕ
-  pub entries : List ℕ
-  pub pinned : List ℕ
-
--- a read mark for each store and node: store s has the 256 places from 256 times s
+-- A read mark for each store and node: store s has the 256 places from 256 times s. The books are the small numbers; the tree's two counts stand in them
+-- too, and are read from there
 pub record State : Type 0 where
   pub tree : Tree
   pub ranges : Ranges
   pub pins : Pins
   pub marks : List ℕ
   pub bytes : List ℕ
-  pub books : Books
+  pub books : List ℕ
 
 -- ---- what stands at a place
 
@@ -93,6 +81,89 @@ rangeAt c i =
 
 abbrev pub pinAt : Pins → ℕ → Pin
 pinAt c i = record { node = at (c .node) i; start = at (c .start) i; end = at (c .end) i; count = at (c .count) i }
+
+-- ---- the small numbers: five of the whole, then a part for each store, which has the store's own
+
+-- how many nodes and hash words are in use, how many stores there are, the next id, the stalls; then the stores' parts
+abbrev pub whole : ℕ → ℕ → ℕ → ℕ → ℕ → List ℕ → List ℕ
+whole nodes used stores nextId stalls parts = nodes ∷ used ∷ stores ∷ nextId ∷ stalls ∷ parts
+
+abbrev pub nodesIn : List ℕ → ℕ
+nodesIn l = at l 0
+
+abbrev pub usedIn : List ℕ → ℕ
+usedIn l = at l 1
+
+abbrev pub storesIn : List ℕ → ℕ
+storesIn l = at l 2
+
+abbrev pub nextIdIn : List ℕ → ℕ
+nextIdIn l = at l 3
+
+abbrev pub stallsIn : List ℕ → ℕ
+stallsIn l = at l 4
+
+abbrev pub partsIn : List ℕ → List ℕ
+partsIn l = drop 5 l
+
+-- a store's own numbers, as they stand in its part
+abbrev pub numbers : Book → List ℕ
+numbers b = b .capacity ∷ b .policy ∷ b .records ∷ b .held ∷ b .stamp ∷ b .version ∷ b .entries ∷ b .pinned ∷ []
+
+abbrev pub bookFrom : List ℕ → Book
+bookFrom l =
+    record {
+      capacity = at l 0;
+      policy = at l 1;
+      records = at l 2;
+      held = at l 3;
+      stamp = at l 4;
+      version = at l 5;
+      entries = at l 6;
+      pinned = at l 7;
+    }
+
+unfoldable pub bookIn : List ℕ → ℕ → Book
+bookIn l s = bookFrom (take storeNumbers (drop (storeNumbers * s) (partsIn l)))
+
+-- a policy is a number: 1 refreshes, 0 is `Fifo`
+abbrev pub refreshes : Book → Bool
+refreshes b = eqb (b .policy) 1
+
+-- ---- the state's, by name
+
+abbrev pub storesOf : State → ℕ
+storesOf st = storesIn (st .books)
+
+abbrev pub nextIdOf : State → ℕ
+nextIdOf st = nextIdIn (st .books)
+
+abbrev pub stallsOf : State → ℕ
+stallsOf st = stallsIn (st .books)
+
+abbrev pub bookOf : State → ℕ → Book
+bookOf st s = bookIn (st .books) s
+
+abbrev pub capacityOf : State → ℕ → ℕ
+capacityOf st s = bookOf st s .capacity
+
+abbrev pub recordsOf : State → ℕ → ℕ
+recordsOf st s = bookOf st s .records
+
+abbrev pub heldOf : State → ℕ → ℕ
+heldOf st s = bookOf st s .held
+
+abbrev pub stampOf : State → ℕ → ℕ
+stampOf st s = bookOf st s .stamp
+
+abbrev pub versionOf : State → ℕ → ℕ
+versionOf st s = bookOf st s .version
+
+abbrev pub entriesOf : State → ℕ → ℕ
+entriesOf st s = bookOf st s .entries
+
+abbrev pub pinnedOf : State → ℕ → ℕ
+pinnedOf st s = bookOf st s .pinned
 
 -- record k, pin entry k, and the mark of node v, of store s
 abbrev pub recordOf : State → ℕ → ℕ → Range

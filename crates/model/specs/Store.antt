@@ -6,16 +6,12 @@ use lib.ListN.{length, getD, take, drop, set, replicate}
 use lib.Dec.{ltb, leb, eqb}
 use lib.IntN.{pos}
 use lib.Ieee.{Float, nan, fin}
-use Rattle.model.specs.Sizes.{storeRecords, storePins, storeMarks}
-use Rattle.model.specs.State.{Ranges, Pins, Books, State, Range, Pin, at, rangeAt, pinAt}
+use Rattle.model.specs.declared.Book.{Book}
+use Rattle.model.specs.Sizes.{storeRecords, storePins, storeMarks, storeNumbers}
+use Rattle.model.specs.State.{Ranges, Pins, State, Range, Pin, at, rangeAt, pinAt, whole, nodesIn, usedIn, storesIn, nextIdIn, stallsIn, partsIn, numbers, bookOf, recordsOf, entriesOf}
 
 pub record Store : Type 0 where
-  pub capacity : ℕ
-  pub refreshes : Bool
-  pub held : ℕ
-  pub stamp : ℕ
-  pub version : ℕ
-  pub pinned : ℕ
+  pub book : Book
   pub ranges : List Range
   pub pins : List Pin
   pub marks : List ℕ
@@ -34,16 +30,10 @@ pins c a (suc n) = pinAt c a ∷ pins c (suc a) n
 unfoldable pub storeOf : State → ℕ → Store
 unfolding ranges pins
 storeOf st s =
-    let b = st .books in
     record {
-      capacity = at (b .capacity) s;
-      refreshes = getD (b .refreshes) s false;
-      held = at (b .held) s;
-      stamp = at (b .stamp) s;
-      version = at (b .version) s;
-      pinned = at (b .pinned) s;
-      ranges = ranges (st .ranges) (storeRecords * s) (at (b .records) s);
-      pins = pins (st .pins) (storePins * s) (at (b .entries) s);
+      book = bookOf st s;
+      ranges = ranges (st .ranges) (storeRecords * s) (recordsOf st s);
+      pins = pins (st .pins) (storePins * s) (entriesOf st s);
       marks = take storeMarks (drop (storeMarks * s) (st .marks));
     }
 
@@ -80,83 +70,79 @@ layPins a k ps c =
       count = lay 0 a k (map (λ p. p .count) ps) (c .count);
     }
 
+-- the small numbers with these counts of the tree, with this next id and these stalls, with b for store s
+unfoldable pub layCounts : ℕ → ℕ → List ℕ → List ℕ
+layCounts nodes used l = whole nodes used (storesIn l) (nextIdIn l) (stallsIn l) (partsIn l)
+
+unfoldable pub layNext : ℕ → ℕ → List ℕ → List ℕ
+layNext nextId stalls l = whole (nodesIn l) (usedIn l) (storesIn l) nextId stalls (partsIn l)
+
+unfoldable pub layBook : ℕ → Book → List ℕ → List ℕ
+unfolding lay
+layBook s b l =
+    whole (nodesIn l) (usedIn l) (storesIn l) (nextIdIn l) (stallsIn l) (lay 0 (storeNumbers * s) storeNumbers (numbers b) (partsIn l))
+
 -- The store's ranges, marks and small numbers in the state. `need` is how many new records the call needed: no place past the used ones and these is
 -- written, and of the places up to there those that aren't used any more are left blank
 unfoldable pub withRanges : ℕ → ℕ → Store → State → State
-unfolding layRanges lay
+unfolding layRanges lay layBook
 withRanges s need x st =
-    let b = st .books in
     record {
       tree = st .tree;
-      ranges = layRanges (storeRecords * s) (at (b .records) s + need) (x .ranges) (st .ranges);
+      ranges = layRanges (storeRecords * s) (recordsOf st s + need) (x .ranges) (st .ranges);
       pins = st .pins;
       marks = lay 0 (storeMarks * s) storeMarks (x .marks) (st .marks);
       bytes = st .bytes;
-      books = record {
-        stores = b .stores;
-        nextId = b .nextId;
-        stalls = b .stalls;
-        capacity = b .capacity;
-        refreshes = b .refreshes;
-        records = set (b .records) s (length (x .ranges));
-        held = set (b .held) s (x .held);
-        stamp = set (b .stamp) s (x .stamp);
-        version = set (b .version) s (x .version);
-        entries = b .entries;
-        pinned = b .pinned;
-      };
+      books = layBook s (x .book) (st .books);
     }
 
 -- the same of its pin entries
 unfoldable pub withPins : ℕ → ℕ → Store → State → State
-unfolding layPins
+unfolding layPins layBook
 withPins s need x st =
-    let b = st .books in
     record {
       tree = st .tree;
       ranges = st .ranges;
-      pins = layPins (storePins * s) (at (b .entries) s + need) (x .pins) (st .pins);
+      pins = layPins (storePins * s) (entriesOf st s + need) (x .pins) (st .pins);
       marks = st .marks;
       bytes = st .bytes;
-      books = record {
-        stores = b .stores;
-        nextId = b .nextId;
-        stalls = b .stalls;
-        capacity = b .capacity;
-        refreshes = b .refreshes;
-        records = b .records;
-        held = b .held;
-        stamp = b .stamp;
-        version = b .version;
-        entries = set (b .entries) s (length (x .pins));
-        pinned = set (b .pinned) s (x .pinned);
-      };
+      books = layBook s (x .book) (st .books);
     }
 
 -- the state with this next id and this number of stalls
 unfoldable pub withNext : ℕ → ℕ → State → State
+unfolding layNext
 withNext next stalls st =
-    let b = st .books in
     record {
       tree = st .tree;
       ranges = st .ranges;
       pins = st .pins;
       marks = st .marks;
       bytes = st .bytes;
-      books = record {
-        stores = b .stores;
-        nextId = next;
-        stalls = stalls;
-        capacity = b .capacity;
-        refreshes = b .refreshes;
-        records = b .records;
-        held = b .held;
-        stamp = b .stamp;
-        version = b .version;
-        entries = b .entries;
-        pinned = b .pinned;
-      };
+      books = layNext next stalls (st .books);
     }
+
+-- ---- a store's own numbers, as a rule changes them
+
+abbrev pub changed : Book → ℕ → ℕ → ℕ → ℕ → ℕ → ℕ → Book
+changed b records held stamp version entries pinned =
+    record {
+      capacity = b .capacity;
+      policy = b .policy;
+      records = records;
+      held = held;
+      stamp = stamp;
+      version = version;
+      entries = entries;
+      pinned = pinned;
+    }
+
+-- so many ranges, the blocks they hold, a stamp and a version; so many pin entries and the blocks they pin
+abbrev pub ranged : Book → ℕ → ℕ → ℕ → ℕ → Book
+ranged b records held stamp version = changed b records held stamp version (b .entries) (b .pinned)
+
+abbrev pub pinning : Book → ℕ → ℕ → Book
+pinning b entries pinned = changed b (b .records) (b .held) (b .stamp) (b .version) entries pinned
 
 -- ---- ranges
 

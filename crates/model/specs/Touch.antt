@@ -6,8 +6,8 @@ use lib.ListN.{length, set}
 use lib.Dec.{ltb, leb, eqb}
 use lib.Ieee.{Float}
 use Rattle.model.specs.declared.Span.{Span}
-use Rattle.model.specs.State.{Tree, Range, at}
-use Rattle.model.specs.Store.{Store, meets, part, put, plus}
+use Rattle.model.specs.State.{Tree, Range, at, refreshes}
+use Rattle.model.specs.Store.{Store, ranged, meets, part, put, plus}
 use Rattle.model.specs.Trim.{bytesOf}
 
 -- ---- what the span overlaps
@@ -99,12 +99,7 @@ pub record Touched : Type 0 where
 abbrev pub reranged : Store → List Range → ℕ → List ℕ → Store
 reranged x rs stamp ms =
     record {
-      capacity = x .capacity;
-      refreshes = x .refreshes;
-      held = x .held;
-      stamp = stamp;
-      version = x .version;
-      pinned = x .pinned;
+      book = ranged (x .book) (length rs) (x .book .held) stamp (x .book .version);
       ranges = rs;
       pins = x .pins;
       marks = ms;
@@ -124,7 +119,7 @@ unfoldable pub split : Store → ℕ → Span → Float → List ℕ → ℕ →
 unfolding recut join newPieces
 split x next sp time ms read =
     record {
-      store = reranged x (join (sp .node) (recut (sp .node) (sp .start) (sp .end) (suc (x .stamp)) time next (x .ranges))) (suc (x .stamp)) ms;
+      store = reranged x (join (sp .node) (recut (sp .node) (sp .start) (sp .end) (suc (x .book .stamp)) time next (x .ranges))) (suc (x .book .stamp)) ms;
       need = newPieces (sp .node) (sp .start) (sp .end) (x .ranges);
       stamps = 1;
       bytes = read;
@@ -134,7 +129,7 @@ unfoldable pub renew : Store → Span → Float → List ℕ → ℕ → Touched
 unfolding restamp
 renew x sp time ms read =
     record {
-      store = reranged x (restamp (sp .node) (sp .start) (sp .end) (suc (x .stamp)) time (x .ranges)) (suc (x .stamp)) ms;
+      store = reranged x (restamp (sp .node) (sp .start) (sp .end) (suc (x .book .stamp)) time (x .ranges)) (suc (x .book .stamp)) ms;
       need = 0;
       stamps = 1;
       bytes = read;
@@ -142,7 +137,7 @@ renew x sp time ms read =
 
 -- the ranges stay as they are: "Under `Fifo` nothing else happens"
 abbrev pub onlyRead : Store → List ℕ → ℕ → Touched
-onlyRead x ms read = record { store = reranged x (x .ranges) (x .stamp) ms; need = 0; stamps = 0; bytes = read }
+onlyRead x ms read = record { store = reranged x (x .ranges) (x .book .stamp) ms; need = 0; stamps = 0; bytes = read }
 
 abbrev pub refresh : Bool → Bool → Store → ℕ → Span → Float → List ℕ → ℕ → Touched
 refresh false one x next sp time ms read = onlyRead x ms read
@@ -153,7 +148,7 @@ refresh true false x next sp time ms read = split x next sp time ms read
 abbrev pub touchHits : List Range → Tree → List ℕ → Store → ℕ → Span → Float → Bool → Touched
 touchHits [] t table x next sp time counted = onlyRead x (x .marks) 0
 touchHits (r ∷ rs) t table x next sp time counted =
-    refresh (x .refreshes) (oneInside (sp .start) (sp .end) (r ∷ rs)) x next sp time (markRead counted sp (x .marks))
+    refresh (refreshes (x .book)) (oneInside (sp .start) (sp .end) (r ∷ rs)) x next sp time (markRead counted sp (x .marks))
     (bytesRead counted t table sp (r ∷ rs))
 
 unfoldable pub touch : Tree → List ℕ → Store → ℕ → Span → Float → Bool → Touched

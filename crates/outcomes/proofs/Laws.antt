@@ -4,7 +4,7 @@ use Prim.Native.Nat.{ℕ}
 use mathlib.Core.Path.{_≡_, refl, sym, ap, _∙_}
 use mathlib.Core.List.{List, [], _∷_}
 use native.Mathlib.Omega.{arith}
-use Rattle.model.specs.State.{State}
+use Rattle.model.specs.State.{State, storesOf, nextIdOf, stallsOf}
 use Rattle.model.specs.Refusals.{Condition}
 use Rattle.model.specs.Insert.{Cut as CutAt}
 use Rattle.model.specs.Calls.{Outcome, Answer, InsertAnswer}
@@ -49,22 +49,7 @@ poolsOf s =
     }
 
 smallOf : State → Small
-smallOf s =
-    record {
-      nodes = s .tree .nodes;
-      used = s .tree .used;
-      stores = s .books .stores;
-      next = s .books .nextId;
-      stalls = s .books .stalls;
-      capacity = s .books .capacity;
-      refreshes = s .books .refreshes;
-      records = s .books .records;
-      held = s .books .held;
-      stamp = s .books .stamp;
-      version = s .books .version;
-      entries = s .books .entries;
-      pinned = s .books .pinned;
-    }
+smallOf s = record { books = s .books }
 
 worldOf : {L : Type 0} → State → L → World L
 worldOf s l = record { pools = poolsOf s; small = smallOf s; lists = l }

@@ -3,9 +3,8 @@ use Prim.Native.Nat.{ℕ}
 use mathlib.Core.Path.{_≡_}
 use mathlib.Core.List.{List}
 use Rattle.model.specs.State.{State}
-use Rattle.model.specs.SetUp.{zeros}
 use Rattle.model.specs.Refusals.{First, lookupRefusals}
-use Rattle.model.specs.Calls.{LookupLists}
+use Rattle.model.specs.Calls.{LookupLists, zeros}
 use Rattle.sure.specs.Refused.{SomeHolds}
 use Rattle.answers.specs.declared.Looked.{Looked}
 use Rattle.answers.specs.declared.Reading.the-variants.{Refused}

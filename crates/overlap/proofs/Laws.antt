@@ -7,13 +7,14 @@ use Prim.Native.Nat.{ℕ, _+_, _-_, _*_, _≤_, _<_, min, max}
 use native.Mathlib.Nat.{zero-add}
 use native.Mathlib.Omega.{arith}
 use lib.ListN.{length, set, length-append}
-use lib.Dec.{ltb}
+use lib.Dec.{ltb, eqb}
 use lib.Ieee.{Float, nan}
 use borrow.Author.Tests.{le-ltb, lt-ltb, leb-true}
 use Rattle.model.specs.declared.Span.{Span}
 use Rattle.model.specs.Sizes.{maxBytes, maxStamp}
 use Rattle.model.specs.Words.{Each}
-use Rattle.model.specs.State.{Tree, Ranges, Range, at, rangeAt}
+use Rattle.model.specs.State.{Tree, Ranges, Range, at, rangeAt, bookFrom}
+use Rattle.model.specs.SetUp.{policy}
 use Rattle.model.specs.Store.{Store, ranges, layRanges, meets, plus, part}
 use Rattle.model.specs.Trim.{bytesOf}
 use Rattle.model.specs.Touch.{overlapped, heldBytes, newPieces, oneInside, renewed, markRead, bytesRead, refresh, renew, split, touchHits, touch}
@@ -106,7 +107,7 @@ module _ (t : Tree) (table : List ℕ) (x : Store) (next : ℕ) (sp : Span) (tim
   unfolding touch
   touch-none e = rw e (refl, refl)
 
-  pub touch-off : x .refreshes ≡ false → (0 ≡ touch t table x next sp time counted .need) × (0 ≡ touch t table x next sp time counted .stamps)
+  pub touch-off : eqb (x .book .policy) 1 ≡ false → (0 ≡ touch t table x next sp time counted .need) × (0 ≡ touch t table x next sp time counted .stamps)
   unfolding touch
   touch-off e = go over
     where
@@ -114,10 +115,10 @@ module _ (t : Tree) (table : List ℕ) (x : Store) (next : ℕ) (sp : Span) (tim
       go [] = (refl, refl)
       go (r ∷ hits) = rw e (refl, refl)
 
-  pub touch-on : x .refreshes ≡ true → (r : Range) (hits : List Range) → over ≡ r ∷ hits
+  pub touch-on : eqb (x .book .policy) 1 ≡ true → (r : Range) (hits : List Range) → over ≡ r ∷ hits
       → (newPieces (sp .node) (sp .start) (sp .end) (x .ranges) ≡ touch t table x next sp time counted .need) × (1 ≡ touch t table x next sp time counted .stamps)
   unfolding touch renew split
-  touch-on e r hits h = rw h (go (x .refreshes) (oneInside (sp .start) (sp .end) (r ∷ hits)) e refl)
+  touch-on e r hits h = rw h (go (eqb (x .book .policy) 1) (oneInside (sp .start) (sp .end) (r ∷ hits)) e refl)
     where
       go : (on b : Bool) → on ≡ true → oneInside (sp .start) (sp .end) (r ∷ hits) ≡ b
           → (newPieces (sp .node) (sp .start) (sp .end) (x .ranges) ≡ refresh on b x next sp time (markRead counted sp (x .marks)) (bytesRead counted t table sp (r ∷ hits)) .need)
@@ -283,8 +284,11 @@ shares c n lo hi sp az w o i l u =
 
 -- a store of which only the ranges and the policy are looked at
 abbrev bare : Bool → List Range → Store
-bare refreshes rs =
-    record { capacity = 0; refreshes = refreshes; held = 0; stamp = 0; version = 0; pinned = 0; ranges = rs; pins = []; marks = [] }
+bare refreshes rs = record { book = bookFrom (0 ∷ policy refreshes ∷ []); ranges = rs; pins = []; marks = [] }
+
+policy-back : (b : Bool) → eqb (policy b) 1 ≡ b
+policy-back true = refl
+policy-back false = refl
 
 module _ (c : Ranges) (n lo hi : ℕ) (sp : Span) (w : Overlap (c .node) (c .start) (c .end) n sp lo hi) (d : lo ≡ hi → ⊥) where
   over-cons : overlapped (sp .node) (sp .start) (sp .end) (ranges c 0 n) ≡ rangeAt c lo ∷ ranges c (lo + 1) (hi - (lo + 1))
@@ -296,8 +300,8 @@ module _ (c : Ranges) (n lo hi : ℕ) (sp : Span) (w : Overlap (c .node) (c .sta
   touch-fits refreshes top next f e =
       let x = bare refreshes (ranges c 0 n) in
       let t = onlyDepth [] in
-      let a = f .are (c .id) (c .stamp) (c .write) (c .touched) t [] x 0 nan false refl refl in
-      let b = touch-on t [] x 0 sp nan false e (rangeAt c lo) (ranges c (lo + 1) (hi - (lo + 1))) over-cons in
+      let a = f .are (c .id) (c .stamp) (c .write) (c .touched) t [] x 0 nan false refl (policy-back refreshes) in
+      let b = touch-on t [] x 0 sp nan false (policy-back refreshes ∙ e) (rangeAt c lo) (ranges c (lo + 1) (hi - (lo + 1))) over-cons in
       (omega (arith, f .stamps, a .1, b .1), omega (arith, f .ids, a .0, b .0), omega (arith, f .records, a .0, b .0))
 
   pub remove-fits : RemoveFits (c .node) (c .start) (c .end) n sp → n + middleCuts (sp .node) (sp .start) (sp .end) (ranges c 0 n) ≤ 128

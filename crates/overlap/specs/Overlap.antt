@@ -70,7 +70,7 @@ halves m i r rs = part r (r .node) (r .start) m (r .id) ∷ part r (r .node) m (
 abbrev pub TouchNeeds : List ℕ → List ℕ → List ℕ → ℕ → Span → Bool → Needs → Type 0
 TouchNeeds node start end n sp refreshes r =
     (id stamp write : List ℕ) (touched : List Float) (t : Tree) (table : List ℕ) (x : Store) (next : ℕ) (time : Float) (counted : Bool)
-    → x .ranges ≡ ranges (rangesOf node start end id stamp touched write) 0 n → x .refreshes ≡ refreshes
+    → x .ranges ≡ ranges (rangesOf node start end id stamp touched write) 0 n → eqb (x .book .policy) 1 ≡ refreshes
     → (r .records ≡ touch t table x next sp time counted .need) × (r .stamps ≡ touch t table x next sp time counted .stamps)
 
 abbrev pub RemoveNeeds : List ℕ → List ℕ → List ℕ → ℕ → Span → ℕ → Type 0

@@ -12,14 +12,13 @@ use borrow.Author.Tests.{le-leb, lt-leb, ltb-true, not-false}
 use mir.Val.{Fits}
 use mir.Syntax.{w64}
 use Rattle.model.specs.declared.Span.{Span}
-use Rattle.model.specs.State.{Tree, Ranges, Pins, Pin, State, at}
+use Rattle.model.specs.State.{Tree, Ranges, Pins, Pin, State, at, storesOf, entriesOf, pinnedOf, storesIn, nextIdIn, bookIn}
 use Rattle.model.specs.Sound.{Sound, PinInside, PinsLent}
 use Rattle.model.specs.SoundTest.{sound}
-use Rattle.model.specs.Store.{storeOf, pins, layPins, withPins, plus}
+use Rattle.model.specs.Store.{storeOf, pins, layPins, layBook, withPins, pinning, plus}
 use Rattle.model.specs.Pins.{pinOf, addPin, takePin, hasPin, pinnedIn, repinned, pin, pinNeed, unpin}
 use Rattle.model.specs.Refusals.{firstOf, spanIn, pinRefusals, unpinRefusals}
 use Rattle.model.specs.Calls.{Outcome, refused, done, unless, NoList, NoValue, pinSource, unpinSource}
-use Rattle.lent.specs.declared.Small.{Small}
 use Rattle.lent.specs.Lent.{stateOf}
 use Rattle.answers.specs.Answers.{outcome}
 use Rattle.sure.proofs.Says.{true-says}
@@ -69,7 +68,7 @@ module _ (st : State) (h : Sound st) where
 -- the tests of 9 and of 10
 abbrev full : State → ℕ → Span → Bool
 full st s sp =
-    ltb 32 (at (st .books .entries) s + pinNeed (storeOf st s) sp) || ltb 1000000 (at (st .books .pinned) s + (sp .end - sp .start))
+    ltb 32 (entriesOf st s + pinNeed (storeOf st s) sp) || ltb 1000000 (pinnedOf st s + (sp .end - sp .start))
 
 abbrev absent : State → ℕ → Span → Bool
 absent st s sp = not (hasPin (pinOf sp 1) (storeOf st s .pins))
@@ -96,24 +95,24 @@ module _ (st : State) (s : ℕ) (sp : Span) (h : Sound st) where
 
   -- each way through the four tests, of a call whose last is n, tested by d
   module _ (n : ℕ) (d : Bool) where
-    at-2 : st .books .stores ≤ s → chosen n (not (sound st)) (leb (st .books .stores) s) (not (spanIn (st .tree) sp)) d ≡ 2
+    at-2 : storesOf st ≤ s → chosen n (not (sound st)) (leb (storesOf st) s) (not (spanIn (st .tree) sp)) d ≡ 2
     at-2 l =
-        second n (not (sound st)) (leb (st .books .stores) s) (not (spanIn (st .tree) sp)) d (is-sound st h) (le-leb (st .books .stores) s l)
+        second n (not (sound st)) (leb (storesOf st) s) (not (spanIn (st .tree) sp)) d (is-sound st h) (le-leb (storesOf st) s l)
 
-    at-4 : s < st .books .stores → not (spanIn (st .tree) sp) ≡ true
-        → chosen n (not (sound st)) (leb (st .books .stores) s) (not (spanIn (st .tree) sp)) d ≡ 4
+    at-4 : s < storesOf st → not (spanIn (st .tree) sp) ≡ true
+        → chosen n (not (sound st)) (leb (storesOf st) s) (not (spanIn (st .tree) sp)) d ≡ 4
     at-4 l e =
-        fourth n (not (sound st)) (leb (st .books .stores) s) (not (spanIn (st .tree) sp)) d (is-sound st h) (lt-leb (st .books .stores) s l) e
+        fourth n (not (sound st)) (leb (storesOf st) s) (not (spanIn (st .tree) sp)) d (is-sound st h) (lt-leb (storesOf st) s l) e
 
-    at-last : s < st .books .stores → not (spanIn (st .tree) sp) ≡ false → d ≡ true
-        → chosen n (not (sound st)) (leb (st .books .stores) s) (not (spanIn (st .tree) sp)) d ≡ n
+    at-last : s < storesOf st → not (spanIn (st .tree) sp) ≡ false → d ≡ true
+        → chosen n (not (sound st)) (leb (storesOf st) s) (not (spanIn (st .tree) sp)) d ≡ n
     at-last l e f =
-        last n (not (sound st)) (leb (st .books .stores) s) (not (spanIn (st .tree) sp)) d (is-sound st h) (lt-leb (st .books .stores) s l) e f
+        last n (not (sound st)) (leb (storesOf st) s) (not (spanIn (st .tree) sp)) d (is-sound st h) (lt-leb (storesOf st) s l) e f
 
-    at-none : s < st .books .stores → not (spanIn (st .tree) sp) ≡ false → d ≡ false
-        → chosen n (not (sound st)) (leb (st .books .stores) s) (not (spanIn (st .tree) sp)) d ≡ 0
+    at-none : s < storesOf st → not (spanIn (st .tree) sp) ≡ false → d ≡ false
+        → chosen n (not (sound st)) (leb (storesOf st) s) (not (spanIn (st .tree) sp)) d ≡ 0
     at-none l e f =
-        none n (not (sound st)) (leb (st .books .stores) s) (not (spanIn (st .tree) sp)) d (is-sound st h) (lt-leb (st .books .stores) s l) e f
+        none n (not (sound st)) (leb (storesOf st) s) (not (spanIn (st .tree) sp)) d (is-sound st h) (lt-leb (storesOf st) s l) e f
 
 -- the span test, in the code's words
 span-bad : (t : Tree) (sp : Span) (r : Bool) → r ≡ spanIn t sp → not r ≡ true → not (spanIn t sp) ≡ true
@@ -143,66 +142,47 @@ count-most t (p ∷ ps) zero d h l =
     omega (arith, one-mul (p .count))
 count-most t (p ∷ ps) (suc k) d h l = omega (arith, count-most t ps k d (h .1) (omega arith))
 
--- the small numbers with these entries and pinned blocks of store s
-abbrev pub recorded : Small → ℕ → ℕ → ℕ → Small
-recorded x s n p =
-    record {
-      nodes = x .nodes;
-      used = x .used;
-      stores = x .stores;
-      next = x .next;
-      stalls = x .stalls;
-      capacity = x .capacity;
-      refreshes = x .refreshes;
-      records = x .records;
-      held = x .held;
-      stamp = x .stamp;
-      version = x .version;
-      entries = set (x .entries) s n;
-      pinned = set (x .pinned) s p;
-    }
+module _ (t : Tree) (rs : Ranges) (c : Pins) (ms bs ns : List ℕ) (s : ℕ) where
+  laid-state : (need : ℕ) (ps : List Pin) (c′ : Pins) (n p : ℕ) → c′ ≡ layPins (32 * s) (bookIn ns s .entries + need) ps c → n ≡ length ps → p ≡ pinnedIn ps
+      → stateOf t rs c′ ms bs (layBook s (pinning (bookIn ns s) n p) ns) ≡ withPins s need (repinned (storeOf (stateOf t rs c ms bs ns) s) ps) (stateOf t rs c ms bs ns)
+  unfolding withPins storeOf
+  laid-state need ps c′ n p e f g = λ i. stateOf t rs (e i) ms bs (layBook s (pinning (bookIn ns s) (f i) (g i)) ns)
 
-module _ (t : Tree) (rs : Ranges) (c : Pins) (ms bs : List ℕ) (x : Small) (s : ℕ) where
-  laid-state : (need : ℕ) (ps : List Pin) (c′ : Pins) (n p : ℕ) → c′ ≡ layPins (32 * s) (at (x .entries) s + need) ps c → n ≡ length ps → p ≡ pinnedIn ps
-      → stateOf t rs c′ ms bs (recorded x s n p) ≡ withPins s need (repinned (storeOf (stateOf t rs c ms bs x) s) ps) (stateOf t rs c ms bs x)
-  unfolding withPins
-  laid-state need ps c′ n p e f g = λ i. stateOf t rs (e i) ms bs (recorded x s (f i) (g i))
-
-module _ (t : Tree) (rs : Ranges) (c : Pins) (ms bs : List ℕ) (x : Small) (s : ℕ) (sp : Span) (h : Sound (stateOf t rs c ms bs x)) where
+module _ (t : Tree) (rs : Ranges) (c : Pins) (ms bs ns : List ℕ) (s : ℕ) (sp : Span) (h : Sound (stateOf t rs c ms bs ns)) where
   -- ---- 2 and 4
 
-  pub pin-no-store : x .stores ≤ s → outcome (stateOf t rs c ms bs x) tt (refused 2) ≡ pinSource (stateOf t rs c ms bs x) s sp
+  pub pin-no-store : storesIn ns ≤ s → outcome (stateOf t rs c ms bs ns) tt (refused 2) ≡ pinSource (stateOf t rs c ms bs ns) s sp
   pin-no-store l =
-      pin-stops (stateOf t rs c ms bs x) s sp h 1 (at-2 (stateOf t rs c ms bs x) s sp h 9 (full (stateOf t rs c ms bs x) s sp) l)
+      pin-stops (stateOf t rs c ms bs ns) s sp h 1 (at-2 (stateOf t rs c ms bs ns) s sp h 9 (full (stateOf t rs c ms bs ns) s sp) l)
 
-  pub unpin-no-store : x .stores ≤ s → outcome (stateOf t rs c ms bs x) tt (refused 2) ≡ unpinSource (stateOf t rs c ms bs x) s sp
+  pub unpin-no-store : storesIn ns ≤ s → outcome (stateOf t rs c ms bs ns) tt (refused 2) ≡ unpinSource (stateOf t rs c ms bs ns) s sp
   unpin-no-store l =
-      unpin-stops (stateOf t rs c ms bs x) s sp h 1 (at-2 (stateOf t rs c ms bs x) s sp h 10 (absent (stateOf t rs c ms bs x) s sp) l)
+      unpin-stops (stateOf t rs c ms bs ns) s sp h 1 (at-2 (stateOf t rs c ms bs ns) s sp h 10 (absent (stateOf t rs c ms bs ns) s sp) l)
 
-  module _ (less : s < x .stores) (r : Bool) (is : r ≡ spanIn t sp) where
-    pub pin-bad-span : not r ≡ true → outcome (stateOf t rs c ms bs x) tt (refused 4) ≡ pinSource (stateOf t rs c ms bs x) s sp
+  module _ (less : s < storesIn ns) (r : Bool) (is : r ≡ spanIn t sp) where
+    pub pin-bad-span : not r ≡ true → outcome (stateOf t rs c ms bs ns) tt (refused 4) ≡ pinSource (stateOf t rs c ms bs ns) s sp
     pin-bad-span e =
-        pin-stops (stateOf t rs c ms bs x) s sp h 3 (at-4 (stateOf t rs c ms bs x) s sp h 9 (full (stateOf t rs c ms bs x) s sp) less (span-bad t sp r is e))
+        pin-stops (stateOf t rs c ms bs ns) s sp h 3 (at-4 (stateOf t rs c ms bs ns) s sp h 9 (full (stateOf t rs c ms bs ns) s sp) less (span-bad t sp r is e))
 
-    pub unpin-bad-span : not r ≡ true → outcome (stateOf t rs c ms bs x) tt (refused 4) ≡ unpinSource (stateOf t rs c ms bs x) s sp
+    pub unpin-bad-span : not r ≡ true → outcome (stateOf t rs c ms bs ns) tt (refused 4) ≡ unpinSource (stateOf t rs c ms bs ns) s sp
     unpin-bad-span e =
-        unpin-stops (stateOf t rs c ms bs x) s sp h 3 (at-4 (stateOf t rs c ms bs x) s sp h 10 (absent (stateOf t rs c ms bs x) s sp) less (span-bad t sp r is e))
+        unpin-stops (stateOf t rs c ms bs ns) s sp h 3 (at-4 (stateOf t rs c ms bs ns) s sp h 10 (absent (stateOf t rs c ms bs ns) s sp) less (span-bad t sp r is e))
 
     -- ---- the span is good and has this place
 
-    module _ (good : not r ≡ false) (p : Place) (place : Placed (c .node) (c .start) (c .end) (32 * s) (at (x .entries) s) sp p) where
-      own : StoreSound t (x .next) (storeOf (stateOf t rs c ms bs x) s)
-      own = store-sound (stateOf t rs c ms bs x) s h less
+    module _ (good : not r ≡ false) (p : Place) (place : Placed (c .node) (c .start) (c .end) (32 * s) (bookIn ns s .entries) sp p) where
+      own : StoreSound t (nextIdIn ns) (storeOf (stateOf t rs c ms bs ns) s)
+      own = store-sound (stateOf t rs c ms bs ns) s h less
 
-      has : hasPin (pinOf sp 1) (storeOf (stateOf t rs c ms bs x) s .pins) ≡ p .there
+      has : hasPin (pinOf sp 1) (storeOf (stateOf t rs c ms bs ns) s .pins) ≡ p .there
       unfolding storeOf
-      has = has-is s (at (x .entries) s) c sp p place (own .pins .sorted)
+      has = has-is s (bookIn ns s .entries) c sp p place (own .pins .sorted)
 
-      need : pinNeed (storeOf (stateOf t rs c ms bs x) s) sp ≡ plus (not (p .there)) 0
+      need : pinNeed (storeOf (stateOf t rs c ms bs ns) s) sp ≡ plus (not (p .there)) 0
       unfolding pinNeed
       need = ap (λ (b : Bool). plus (not b) 0) has
 
-      sum : at (x .pinned) s ≡ pinnedIn (pins c (32 * s) (at (x .entries) s))
+      sum : bookIn ns s .pinned ≡ pinnedIn (pins c (32 * s) (bookIn ns s .entries))
       unfolding storeOf
       sum = own .pinned
 
@@ -210,87 +190,87 @@ module _ (t : Tree) (rs : Ranges) (c : Pins) (ms bs : List ℕ) (x : Small) (s :
       pub count-low : p .there ≡ true → at (c .count) (32 * s + p .at) ≤ 1000000
       unfolding storeOf
       count-low e =
-          let l : p .at < at (x .entries) s = inside s (at (x .entries) s) c sp p place e in
+          let l : p .at < bookIn ns s .entries = inside s (bookIn ns s .entries) c sp p place e in
           omega (
             arith,
             own .pinnedMost,
             sum,
-            ap (λ (q : Pin). q .count) (pins-at c (32 * s) (at (x .entries) s) (p .at) (pinOf sp 1) l),
-            count-most t (pins c (32 * s) (at (x .entries) s)) (p .at) (pinOf sp 1) (own .pins .inside) (rw pins-length l),
+            ap (λ (q : Pin). q .count) (pins-at c (32 * s) (bookIn ns s .entries) (p .at) (pinOf sp 1) l),
+            count-most t (pins c (32 * s) (bookIn ns s .entries)) (p .at) (pinOf sp 1) (own .pins .inside) (rw pins-length l),
           )
 
       -- an unpin takes no more off than is pinned
-      pub taken-off : p .there ≡ true → at (x .pinned) s ≡ pinnedIn (takePin (pinOf sp 1) (pins c (32 * s) (at (x .entries) s))) + (sp .end - sp .start)
+      pub taken-off : p .there ≡ true → bookIn ns s .pinned ≡ pinnedIn (takePin (pinOf sp 1) (pins c (32 * s) (bookIn ns s .entries))) + (sp .end - sp .start)
       unfolding storeOf
       taken-off e =
-          let k = take-pinned (pinOf sp 1) (pins c (32 * s) (at (x .entries) s)) (all-map (λ q w. w .counted) (pins c (32 * s) (at (x .entries) s)) (own .pins .inside)) (has ∙ e) in
+          let k = take-pinned (pinOf sp 1) (pins c (32 * s) (bookIn ns s .entries)) (all-map (λ q w. w .counted) (pins c (32 * s) (bookIn ns s .entries)) (own .pins .inside)) (has ∙ e) in
           sum ∙ sym k
 
       -- ---- 9
 
-      module _ (o : Bool) (over : o ≡ (ltb 32 (at (x .entries) s + plus (not (p .there)) 0) || ltb 1000000 (at (x .pinned) s + (sp .end - sp .start)))) where
+      module _ (o : Bool) (over : o ≡ (ltb 32 (bookIn ns s .entries + plus (not (p .there)) 0) || ltb 1000000 (bookIn ns s .pinned + (sp .end - sp .start)))) where
         tested : (b : Bool) → o ≡ b
-            → (ltb 32 (at (x .entries) s + pinNeed (storeOf (stateOf t rs c ms bs x) s) sp) || ltb 1000000 (at (x .pinned) s + (sp .end - sp .start))) ≡ b
+            → (ltb 32 (bookIn ns s .entries + pinNeed (storeOf (stateOf t rs c ms bs ns) s) sp) || ltb 1000000 (bookIn ns s .pinned + (sp .end - sp .start))) ≡ b
         tested b e =
-            ap (λ (k : ℕ). ltb 32 (at (x .entries) s + k) || ltb 1000000 (at (x .pinned) s + (sp .end - sp .start))) need ∙ sym over ∙ e
+            ap (λ (k : ℕ). ltb 32 (bookIn ns s .entries + k) || ltb 1000000 (bookIn ns s .pinned + (sp .end - sp .start))) need ∙ sym over ∙ e
 
         -- what `pin_at` asks, and the sum that is recorded
         pub pin-asked : o ≡ false
-            → (s < 8) × (at (x .entries) s + plus (not (p .there)) 0 ≤ 32) × Placed (c .node) (c .start) (c .end) (32 * s) (at (x .entries) s) sp p
+            → (s < 8) × (bookIn ns s .entries + plus (not (p .there)) 0 ≤ 32) × Placed (c .node) (c .start) (c .end) (32 * s) (bookIn ns s .entries) sp p
             × (p .there ≡ true → at (c .count) (32 * s + p .at) ≤ 1000000) × PinsLent c
         pin-asked e =
-            (omega (arith, h .counts .stores), fits-in (p .there) (at (x .entries) s) (at (x .pinned) s) (sp .end - sp .start) o over e .0, place, count-low, h .lent .pins)
+            (omega (arith, h .counts .stores), fits-in (p .there) (bookIn ns s .entries) (bookIn ns s .pinned) (sp .end - sp .start) o over e .0, place, count-low, h .lent .pins)
 
-        pub sum-low : o ≡ false → at (x .pinned) s + (sp .end - sp .start) ≤ 1000000
-        sum-low e = fits-in (p .there) (at (x .entries) s) (at (x .pinned) s) (sp .end - sp .start) o over e .1
+        pub sum-low : o ≡ false → bookIn ns s .pinned + (sp .end - sp .start) ≤ 1000000
+        sum-low e = fits-in (p .there) (bookIn ns s .entries) (bookIn ns s .pinned) (sp .end - sp .start) o over e .1
 
-        pub pin-over : o ≡ true → outcome (stateOf t rs c ms bs x) tt (refused 9) ≡ pinSource (stateOf t rs c ms bs x) s sp
+        pub pin-over : o ≡ true → outcome (stateOf t rs c ms bs ns) tt (refused 9) ≡ pinSource (stateOf t rs c ms bs ns) s sp
         pin-over e =
-            pin-stops (stateOf t rs c ms bs x) s sp h 8
-            (at-last (stateOf t rs c ms bs x) s sp h 9 (full (stateOf t rs c ms bs x) s sp) less (span-good t sp r is good) (tested true e))
+            pin-stops (stateOf t rs c ms bs ns) s sp h 8
+            (at-last (stateOf t rs c ms bs ns) s sp h 9 (full (stateOf t rs c ms bs ns) s sp) less (span-good t sp r is good) (tested true e))
 
         pub pin-done : o ≡ false → (c′ : Pins) (n : ℕ)
-            → (c′ ≡ layPins (32 * s) (at (x .entries) s + plus (not (p .there)) 0) (addPin (pinOf sp 1) (pins c (32 * s) (at (x .entries) s))) c)
-            × (n ≡ length (addPin (pinOf sp 1) (pins c (32 * s) (at (x .entries) s))))
-            → outcome (stateOf t rs c′ ms bs (recorded x s n (at (x .pinned) s + (sp .end - sp .start)))) tt (done tt) ≡ pinSource (stateOf t rs c ms bs x) s sp
+            → (c′ ≡ layPins (32 * s) (bookIn ns s .entries + plus (not (p .there)) 0) (addPin (pinOf sp 1) (pins c (32 * s) (bookIn ns s .entries))) c)
+            × (n ≡ length (addPin (pinOf sp 1) (pins c (32 * s) (bookIn ns s .entries))))
+            → outcome (stateOf t rs c′ ms bs (layBook s (pinning (bookIn ns s) n (bookIn ns s .pinned + (sp .end - sp .start))) ns)) tt (done tt) ≡ pinSource (stateOf t rs c ms bs ns) s sp
         unfolding pin storeOf
         pin-done e c′ n k =
-            let ps = addPin (pinOf sp 1) (pins c (32 * s) (at (x .entries) s)) in
-            let laid = k .0 ∙ ap (λ (m : ℕ). layPins (32 * s) (at (x .entries) s + m) ps c) (sym need) in
-            let more : at (x .pinned) s + (sp .end - sp .start) ≡ pinnedIn ps = omega (arith, add-pinned (pinOf sp 1) (pins c (32 * s) (at (x .entries) s)), sum) in
-            ap (λ (st : State). outcome {L = NoList} {A = NoValue} st tt (done tt)) (laid-state t rs c ms bs x s (pinNeed (storeOf (stateOf t rs c ms bs x) s) sp) ps c′ n _ laid (k .1) more)
-            ∙ pin-goes (stateOf t rs c ms bs x) s sp h
-            (at-none (stateOf t rs c ms bs x) s sp h 9 (full (stateOf t rs c ms bs x) s sp) less (span-good t sp r is good) (tested false e))
+            let ps = addPin (pinOf sp 1) (pins c (32 * s) (bookIn ns s .entries)) in
+            let laid = k .0 ∙ ap (λ (m : ℕ). layPins (32 * s) (bookIn ns s .entries + m) ps c) (sym need) in
+            let more : bookIn ns s .pinned + (sp .end - sp .start) ≡ pinnedIn ps = omega (arith, add-pinned (pinOf sp 1) (pins c (32 * s) (bookIn ns s .entries)), sum) in
+            ap (λ (st : State). outcome {L = NoList} {A = NoValue} st tt (done tt)) (laid-state t rs c ms bs ns s (pinNeed (storeOf (stateOf t rs c ms bs ns) s) sp) ps c′ n _ laid (k .1) more)
+            ∙ pin-goes (stateOf t rs c ms bs ns) s sp h
+            (at-none (stateOf t rs c ms bs ns) s sp h 9 (full (stateOf t rs c ms bs ns) s sp) less (span-good t sp r is good) (tested false e))
 
       -- ---- 10
 
       -- what `unpin_at` asks, and the difference that is recorded
       pub unpin-asked : not (p .there) ≡ false
-          → (s < 8) × (at (x .entries) s ≤ 32) × (p .there ≡ true) × Placed (c .node) (c .start) (c .end) (32 * s) (at (x .entries) s) sp p × PinsLent c
+          → (s < 8) × (bookIn ns s .entries ≤ 32) × (p .there ≡ true) × Placed (c .node) (c .start) (c .end) (32 * s) (bookIn ns s .entries) sp p × PinsLent c
       unpin-asked e =
           (omega (arith, h .counts .stores), h .counts .each s zero-le less .entries, not-false (p .there) e, place, h .lent .pins)
 
-      pub enough : not (p .there) ≡ false → sp .end - sp .start ≤ at (x .pinned) s
+      pub enough : not (p .there) ≡ false → sp .end - sp .start ≤ bookIn ns s .pinned
       enough e = omega (arith, taken-off (not-false (p .there) e))
 
-      pub unpin-none : not (p .there) ≡ true → outcome (stateOf t rs c ms bs x) tt (refused 10) ≡ unpinSource (stateOf t rs c ms bs x) s sp
+      pub unpin-none : not (p .there) ≡ true → outcome (stateOf t rs c ms bs ns) tt (refused 10) ≡ unpinSource (stateOf t rs c ms bs ns) s sp
       unpin-none e =
-          unpin-stops (stateOf t rs c ms bs x) s sp h 9
-          (at-last (stateOf t rs c ms bs x) s sp h 10 (absent (stateOf t rs c ms bs x) s sp) less (span-good t sp r is good) (ap not has ∙ e))
+          unpin-stops (stateOf t rs c ms bs ns) s sp h 9
+          (at-last (stateOf t rs c ms bs ns) s sp h 10 (absent (stateOf t rs c ms bs ns) s sp) less (span-good t sp r is good) (ap not has ∙ e))
 
       pub unpin-done : not (p .there) ≡ false → (c′ : Pins) (n : ℕ)
-          → (c′ ≡ layPins (32 * s) (at (x .entries) s) (takePin (pinOf sp 1) (pins c (32 * s) (at (x .entries) s))) c)
-          × (n ≡ length (takePin (pinOf sp 1) (pins c (32 * s) (at (x .entries) s))))
-          → outcome (stateOf t rs c′ ms bs (recorded x s n (at (x .pinned) s - (sp .end - sp .start)))) tt (done tt) ≡ unpinSource (stateOf t rs c ms bs x) s sp
+          → (c′ ≡ layPins (32 * s) (bookIn ns s .entries) (takePin (pinOf sp 1) (pins c (32 * s) (bookIn ns s .entries))) c)
+          × (n ≡ length (takePin (pinOf sp 1) (pins c (32 * s) (bookIn ns s .entries))))
+          → outcome (stateOf t rs c′ ms bs (layBook s (pinning (bookIn ns s) n (bookIn ns s .pinned - (sp .end - sp .start))) ns)) tt (done tt) ≡ unpinSource (stateOf t rs c ms bs ns) s sp
       unfolding unpin storeOf
       unpin-done e c′ n k =
-          let ps = takePin (pinOf sp 1) (pins c (32 * s) (at (x .entries) s)) in
-          let zero-more : at (x .entries) s ≡ at (x .entries) s + 0 = omega arith in
+          let ps = takePin (pinOf sp 1) (pins c (32 * s) (bookIn ns s .entries)) in
+          let zero-more : bookIn ns s .entries ≡ bookIn ns s .entries + 0 = omega arith in
           let laid = k .0 ∙ ap (λ (m : ℕ). layPins (32 * s) m ps c) zero-more in
-          let left : at (x .pinned) s - (sp .end - sp .start) ≡ pinnedIn ps = omega (arith, taken-off (not-false (p .there) e)) in
-          ap (λ (st : State). outcome {L = NoList} {A = NoValue} st tt (done tt)) (laid-state t rs c ms bs x s 0 ps c′ n _ laid (k .1) left)
-          ∙ unpin-goes (stateOf t rs c ms bs x) s sp h
-          (at-none (stateOf t rs c ms bs x) s sp h 10 (absent (stateOf t rs c ms bs x) s sp) less (span-good t sp r is good) (ap not has ∙ e))
+          let left : bookIn ns s .pinned - (sp .end - sp .start) ≡ pinnedIn ps = omega (arith, taken-off (not-false (p .there) e)) in
+          ap (λ (st : State). outcome {L = NoList} {A = NoValue} st tt (done tt)) (laid-state t rs c ms bs ns s 0 ps c′ n _ laid (k .1) left)
+          ∙ unpin-goes (stateOf t rs c ms bs ns) s sp h
+          (at-none (stateOf t rs c ms bs ns) s sp h 10 (absent (stateOf t rs c ms bs ns) s sp) less (span-good t sp r is good) (ap not has ∙ e))
 
 -- ---- what the tests and the search ask
 
@@ -298,17 +278,13 @@ module _ {st : State} (h : Sound st) where
   pub nodes-in : st .tree .nodes ≤ length (st .tree .len)
   nodes-in = omega (arith, h .counts .nodes, h .lent .tree .len)
 
-  -- a store in use has a place in each array of the small numbers
-  pub in-books : {s : ℕ} → s < st .books .stores → s < 8
+  pub in-books : {s : ℕ} → s < storesOf st → s < 8
   in-books {s} less = omega (arith, h .counts .stores)
 
-  pub in-bytes : {s : ℕ} → s < st .books .stores → Fits w64 (s * 8)
-  in-bytes {s} less = omega (arith, h .counts .stores)
-
-  pub limits : {s : ℕ} → s < st .books .stores → (at (st .books .entries) s ≤ 32) × (at (st .books .pinned) s ≤ 1000000)
+  pub limits : {s : ℕ} → s < storesOf st → (entriesOf st s ≤ 32) × (pinnedOf st s ≤ 1000000)
   limits {s} less = (h .counts .each s zero-le less .entries, h .counts .each s zero-le less .pinned)
 
-  pub place-asked : {s : ℕ} → s < st .books .stores
-      → (s < 8) × (at (st .books .entries) s ≤ 32) × (256 ≤ length (st .pins .node)) × (256 ≤ length (st .pins .start)) × (256 ≤ length (st .pins .end))
+  pub place-asked : {s : ℕ} → s < storesOf st
+      → (s < 8) × (entriesOf st s ≤ 32) × (256 ≤ length (st .pins .node)) × (256 ≤ length (st .pins .start)) × (256 ≤ length (st .pins .end))
   place-asked {s} less =
       (omega (arith, h .counts .stores), h .counts .each s zero-le less .entries, h .lent .pins .node, h .lent .pins .start, h .lent .pins .end)

@@ -228,21 +228,24 @@ pub fn pin_source(
     requires { ⌜ Sound (stateFrom (now parent) (now depth) (now len) (now run) (now words) (now node) (now start) (now end) (now id) (now stamp) (now touched) (now write) (now «pin_node») (now «pin_start») (now «pin_end») (now «pin_count») (now marks) (now bytes) x) ⌝ }
     ensures { λ r. ⌜ outcome (stateFrom (now (parent .entry)) (now (depth .entry)) (now (len .entry)) (now (run .entry)) (now (words .entry)) (now (node .entry)) (now (start .entry)) (now (end .entry)) (now (id .entry)) (now (stamp .entry)) (now (touched .entry)) (now (write .entry)) (now («pin_node» .exit)) (now («pin_start» .exit)) (now («pin_end» .exit)) (now («pin_count» .exit)) (now (marks .entry)) (now (bytes .entry)) (r .small)) tt (plainOf (r .answer)) ≡ pinSource (stateFrom (now (parent .entry)) (now (depth .entry)) (now (len .entry)) (now (run .entry)) (now (words .entry)) (now (node .entry)) (now (start .entry)) (now (end .entry)) (now (id .entry)) (now (stamp .entry)) (now (touched .entry)) (now (write .entry)) (now («pin_node» .entry)) (now («pin_start» .entry)) (now («pin_end» .entry)) (now («pin_count» .entry)) (now (marks .entry)) (now (bytes .entry)) x) s sp ⌝ }
 {
-    if x.stores <= s {
+    let stores = x.books[2] as usize;
+    if stores <= s {
         return Plainly {
             small: x,
             answer: Plain::Refused(2),
         };
     }
-    if !refuse::span_in(len, x.nodes, sp) {
+    let nodes = x.books[0] as usize;
+    if !refuse::span_in(len, nodes, sp) {
         return Plainly {
             small: x,
             answer: Plain::Refused(4),
         };
     }
-    let n = x.entries[s];
+    let mut b = books::book_of(&x.books, s);
+    let n = b.entries;
     let place = place_of(pin_node, pin_start, pin_end, s, n, sp);
-    let pinned = x.pinned[s];
+    let pinned = b.pinned;
     let blocks = sp.end - sp.start;
     if too_many(place.there, n, pinned, blocks) {
         return Plainly {
@@ -250,11 +253,12 @@ pub fn pin_source(
             answer: Plain::Refused(9),
         };
     }
-    let mut out = x;
-    out.entries[s] = pin_at(pin_node, pin_start, pin_end, pin_count, s, n, place, sp);
-    out.pinned[s] = pinned + blocks as u64;
+    b.entries = pin_at(pin_node, pin_start, pin_end, pin_count, s, n, place, sp);
+    b.pinned = pinned + blocks as u64;
+    let mut y = x;
+    books::put_book(&mut y.books, s, b);
     Plainly {
-        small: out,
+        small: y,
         answer: Plain::Done,
     }
 }
@@ -286,21 +290,24 @@ pub fn unpin_source(
     requires { ⌜ Sound (stateFrom (now parent) (now depth) (now len) (now run) (now words) (now node) (now start) (now end) (now id) (now stamp) (now touched) (now write) (now «pin_node») (now «pin_start») (now «pin_end») (now «pin_count») (now marks) (now bytes) x) ⌝ }
     ensures { λ r. ⌜ outcome (stateFrom (now (parent .entry)) (now (depth .entry)) (now (len .entry)) (now (run .entry)) (now (words .entry)) (now (node .entry)) (now (start .entry)) (now (end .entry)) (now (id .entry)) (now (stamp .entry)) (now (touched .entry)) (now (write .entry)) (now («pin_node» .exit)) (now («pin_start» .exit)) (now («pin_end» .exit)) (now («pin_count» .exit)) (now (marks .entry)) (now (bytes .entry)) (r .small)) tt (plainOf (r .answer)) ≡ unpinSource (stateFrom (now (parent .entry)) (now (depth .entry)) (now (len .entry)) (now (run .entry)) (now (words .entry)) (now (node .entry)) (now (start .entry)) (now (end .entry)) (now (id .entry)) (now (stamp .entry)) (now (touched .entry)) (now (write .entry)) (now («pin_node» .entry)) (now («pin_start» .entry)) (now («pin_end» .entry)) (now («pin_count» .entry)) (now (marks .entry)) (now (bytes .entry)) x) s sp ⌝ }
 {
-    if x.stores <= s {
+    let stores = x.books[2] as usize;
+    if stores <= s {
         return Plainly {
             small: x,
             answer: Plain::Refused(2),
         };
     }
-    if !refuse::span_in(len, x.nodes, sp) {
+    let nodes = x.books[0] as usize;
+    if !refuse::span_in(len, nodes, sp) {
         return Plainly {
             small: x,
             answer: Plain::Refused(4),
         };
     }
-    let n = x.entries[s];
+    let mut b = books::book_of(&x.books, s);
+    let n = b.entries;
     let place = place_of(pin_node, pin_start, pin_end, s, n, sp);
-    let pinned = x.pinned[s];
+    let pinned = b.pinned;
     let blocks = sp.end - sp.start;
     if !place.there {
         return Plainly {
@@ -308,11 +315,12 @@ pub fn unpin_source(
             answer: Plain::Refused(10),
         };
     }
-    let mut out = x;
-    out.entries[s] = unpin_at(pin_node, pin_start, pin_end, pin_count, s, n, place, sp);
-    out.pinned[s] = pinned - blocks as u64;
+    b.entries = unpin_at(pin_node, pin_start, pin_end, pin_count, s, n, place, sp);
+    b.pinned = pinned - blocks as u64;
+    let mut y = x;
+    books::put_book(&mut y.books, s, b);
     Plainly {
-        small: out,
+        small: y,
         answer: Plain::Done,
     }
 }

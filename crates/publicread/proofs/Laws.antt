@@ -3,7 +3,7 @@ use Prim.Native.Nat.{ℕ}
 use mathlib.Core.Path.{_≡_, ap}
 use mathlib.Core.List.{List}
 use Rattle.model.specs.State.{State}
-use Rattle.model.specs.SetUp.{zeros}
+use Rattle.model.specs.Calls.{zeros}
 use Rattle.model.specs.Calls.{refused, LookupLists, lookup, blockSums, byteSums}
 use Rattle.answers.specs.declared.Reading.the-variants.{Refused}
 use Rattle.answers.specs.Answers.{outcome}

@@ -613,5 +613,5 @@ module _ (c : Ranges) (n lo hi : ℕ) (sp : Span) (next : ℕ) (w : Cuttable c n
         writes = l .1 ∙ ap length lists;
         removed =
             omega (arith, g .0, gone-same a z c lo (hi - lo), ap (gone a z) (hits-are c n sp lo hi (w .over)), ap total out, total-gone v a z az (ranges c 0 n) filled next);
-        version = past-some removed (x .version) (omega (arith, g .1));
+        version = past-some removed (x .book .version) (omega (arith, g .1));
       })

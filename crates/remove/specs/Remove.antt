@@ -54,4 +54,4 @@ pub record Freed (x : Store) (w : Removed) (c c′ : Ranges) (ms′ ls ls′ : L
   pub need : r .need ≡ w .need
   pub writes : r .writes ≡ length (w .writes)
   pub removed : r .removed + total (w .store .ranges) ≡ total (ranges c 0 n)
-  pub version : w .store .version ≡ versionPast (r .removed) (x .version)
+  pub version : w .store .book .version ≡ versionPast (r .removed) (x .book .version)

@@ -54,7 +54,7 @@ pub fn set_up(
     requires { ⌜ Ready on (stateFrom (now parent) (now depth) (now len) (now run) (now words) (now node) (now start) (now end) (now id) (now stamp) (now touched) (now write) (now «pin_node») (now «pin_start») (now «pin_end») (now «pin_count») (now marks) (now bytes) x) × (at ≤ 500000) × (k ≤ length (now list)) × (n ≤ length (now capacity)) × (n ≤ length (now refreshes)) ⌝ }
     ensures { λ r. ⌜ Ready (r .on) (stateFrom (now (parent .exit)) (now (depth .exit)) (now (len .exit)) (now (run .exit)) (now (words .entry)) (now (node .entry)) (now (start .entry)) (now (end .entry)) (now (id .entry)) (now (stamp .entry)) (now (touched .entry)) (now (write .entry)) (now («pin_node» .entry)) (now («pin_start» .entry)) (now («pin_end» .entry)) (now («pin_count» .entry)) (now (marks .exit)) (now (bytes .exit)) (r .small)) × (r .at ≤ 1048576) ⌝ }
 {
-    let r = setup::set_up(
+    let r = known::set_up(
         parent,
         depth,
         len,
@@ -129,7 +129,7 @@ pub fn pin(
     requires { ⌜ Sound (stateFrom (now parent) (now depth) (now len) (now run) (now words) (now node) (now start) (now end) (now id) (now stamp) (now touched) (now write) (now «pin_node») (now «pin_start») (now «pin_end») (now «pin_count») (now marks) (now bytes) x) × (at ≤ 500000) ⌝ }
     ensures { λ r. ⌜ Sound (stateFrom (now (parent .entry)) (now (depth .entry)) (now (len .entry)) (now (run .entry)) (now (words .entry)) (now (node .entry)) (now (start .entry)) (now (end .entry)) (now (id .entry)) (now (stamp .entry)) (now (touched .entry)) (now (write .entry)) (now («pin_node» .exit)) (now («pin_start» .exit)) (now («pin_end» .exit)) (now («pin_count» .exit)) (now (marks .entry)) (now (bytes .entry)) (r .small)) × (r .at ≤ 1048576) ⌝ }
 {
-    let r = pinning::pin_source(
+    let r = known::pin_source(
         parent,
         depth,
         len,
@@ -187,7 +187,7 @@ pub fn unpin(
     requires { ⌜ Sound (stateFrom (now parent) (now depth) (now len) (now run) (now words) (now node) (now start) (now end) (now id) (now stamp) (now touched) (now write) (now «pin_node») (now «pin_start») (now «pin_end») (now «pin_count») (now marks) (now bytes) x) × (at ≤ 500000) ⌝ }
     ensures { λ r. ⌜ Sound (stateFrom (now (parent .entry)) (now (depth .entry)) (now (len .entry)) (now (run .entry)) (now (words .entry)) (now (node .entry)) (now (start .entry)) (now (end .entry)) (now (id .entry)) (now (stamp .entry)) (now (touched .entry)) (now (write .entry)) (now («pin_node» .exit)) (now («pin_start» .exit)) (now («pin_end» .exit)) (now («pin_count» .exit)) (now (marks .entry)) (now (bytes .entry)) (r .small)) × (r .at ≤ 1048576) ⌝ }
 {
-    let r = pinning::unpin_source(
+    let r = known::unpin_source(
         parent,
         depth,
         len,
@@ -247,7 +247,7 @@ pub fn resolve(
 {
     let mut path_node = [0usize; 255];
     let mut path_len = [0usize; 255];
-    let r = resolving::resolve(
+    let r = known::resolve(
         parent,
         depth,
         len,
@@ -305,7 +305,7 @@ pub fn insert(
 {
     let mut path_node = [0usize; 255];
     let mut path_len = [0usize; 255];
-    let r = inserting::insert(
+    let r = known::insert(
         parent,
         depth,
         len,
@@ -372,7 +372,7 @@ pub fn bring(
     let mut out_write = [0u32; 128];
     let mut out_bytes = [0u64; 128];
     let mut out_dead = [0u64; 128];
-    let r = storeinsert::store_insert(
+    let r = known::store_insert(
         parent,
         depth,
         len,
@@ -455,7 +455,7 @@ pub fn expire(
     let mut out_write = [0u32; 128];
     let mut out_bytes = [0u64; 128];
     let mut out_dead = [0u64; 128];
-    let r = storeexpire::store_expire(
+    let r = known::store_expire(
         parent,
         depth,
         len,
@@ -531,7 +531,7 @@ pub fn remove(
     ensures { λ r. ⌜ Sound (stateFrom (now (parent .entry)) (now (depth .entry)) (now (len .entry)) (now (run .entry)) (now (words .entry)) (now (node .exit)) (now (start .exit)) (now (end .exit)) (now (id .exit)) (now (stamp .exit)) (now (touched .exit)) (now (write .exit)) (now («pin_node» .entry)) (now («pin_start» .entry)) (now («pin_end» .entry)) (now («pin_count» .entry)) (now (marks .exit)) (now (bytes .entry)) (r .small)) × (r .at ≤ 1048576) ⌝ }
 {
     let mut writes = [0u32; 128];
-    let r = storeremove::store_remove(
+    let r = known::store_remove(
         parent,
         depth,
         len,
@@ -621,11 +621,12 @@ pub fn touch(
     ensures { λ r. ⌜ Sound (stateFrom (now (parent .entry)) (now (depth .entry)) (now (len .entry)) (now (run .entry)) (now (words .entry)) (now (node .exit)) (now (start .exit)) (now (end .exit)) (now (id .exit)) (now (stamp .exit)) (now (touched .exit)) (now (write .exit)) (now («pin_node» .entry)) (now («pin_start» .entry)) (now («pin_end» .entry)) (now («pin_count» .entry)) (now (marks .exit)) (now (bytes .entry)) (r .small)) × (r .at ≤ 1048576) ⌝ }
 {
     if 64 < n {
-        let next = statetext::put_refused(out, at, too_many(x.stores, s));
+        let stores = x.books[2] as usize;
+        let next = statetext::put_refused(out, at, too_many(stores, s));
         return After { small: x, at: next };
     }
     let sps = spans_of(spans);
-    let r = storeused::store_used_array(
+    let r = known::store_used_array(
         parent,
         depth,
         len,
@@ -694,7 +695,7 @@ pub fn lookup(
     let mut span_node = [0usize; 1024];
     let mut span_start = [0usize; 1024];
     let mut span_end = [0usize; 1024];
-    let r = looking::lookup(
+    let r = known::lookup(
         parent,
         depth,
         len,

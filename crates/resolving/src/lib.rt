@@ -44,7 +44,7 @@ pub fn resolve(
         len,
         run,
         words,
-        x.nodes,
+        x.books[0] as usize,
         hashes,
         path_node,
         path_len,

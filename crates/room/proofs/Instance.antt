@@ -5,7 +5,7 @@ use mathlib.Core.Path.{_≡_, refl}
 use mathlib.Core.List.{List, [], _∷_}
 use lib.Ieee.{lt, sub, add, neg, sum, round, size, units, span, climb, odd, ofInt}
 use lib.Count.{trailingZeros}
-use Rattle.model.specs.State.{State, at}
+use Rattle.model.specs.State.{State, at, heldOf, bookIn}
 use Rattle.model.specs.Words.{any}
 use Rattle.model.specs.SoundTest.{sound}
 use Rattle.model.specs.SetUp.{setUpFits}
@@ -19,10 +19,10 @@ use Rattle.room.specs.Room.{withCapacity, sumOf, blocksIn}
 abbrev figures : State → List ℕ
 figures st =
     let after = storeInsert st E.outs 0 (E.span 0 5) (E.time 10) 7 .state in
-    at (after .books .held) 0
+    heldOf after 0
     ∷ blocksIn (lookup after (record { path = E.paths; spans = E.tierSpans }) (0 ∷ []) E.listA .answer)
     ∷ []
 
 pub four-and-five : (figures (E.run2 .state) ≡ 4 ∷ 4 ∷ []) × (figures (withCapacity 0 5 (E.run2 .state)) ≡ 5 ∷ 5 ∷ [])
-unfolding withCapacity sumOf E.multiples setUp insert storeInsert lookup any sound setUpFits bringNeed pathFits outFits tierFits nodeNeed newBlocks cutRecords cutEntries cutIds lt sub add neg sum round size units span climb odd trailingZeros ofInt
+unfolding bookIn withCapacity sumOf E.multiples setUp insert storeInsert lookup any sound setUpFits bringNeed pathFits outFits tierFits nodeNeed newBlocks cutRecords cutEntries cutIds lt sub add neg sum round size units span climb odd trailingZeros ofInt
 four-and-five = (refl, refl)

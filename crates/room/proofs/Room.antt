@@ -1,6 +1,6 @@
 -- Demand 3 of the definitions. A bring-in tests nothing that the capacity changes, so two capacities refuse alike; the trim to the larger one keeps what
 -- the trim to the smaller keeps; and where every tier holds at least as much, a lookup reads at least as far. Assumes nothing.
-use Prim.Native.Nat.{ℕ, zero, suc, _+_, _-_, _≤_, _<_, zero-le}
+use Prim.Native.Nat.{ℕ, zero, suc, _+_, _-_, _*_, _≤_, _<_, zero-le}
 use mathlib.Core.Path.{_≡_, refl, sym, ap, subst, _∙_}
 use mathlib.Core.Logic.{_⊎_, inl, inr, _≢_}
 use mathlib.Core.Bool.{Bool, true, false}
@@ -9,15 +9,15 @@ use native.Mathlib.Omega.{arith}
 use native.Mathlib.Decide.{ℕ-discrete}
 use lib.ListN.{length}
 use lib.Ieee.{Float}
-use lib.Seq.{getD-set-same}
 use Rattle.model.specs.declared.Span.{Span}
+use Rattle.model.specs.declared.Book.{Book}
 use Rattle.model.specs.Words.{Some}
-use Rattle.model.specs.Sizes.{maxStores, maxHashes, maxTiers}
-use Rattle.model.specs.State.{Tree, State, at}
+use Rattle.model.specs.Sizes.{maxStores, maxHashes, maxTiers, maxNumbers, storeRecords, storePins}
+use Rattle.model.specs.State.{Tree, State, at, storesOf, nextIdOf, bookOf, capacityOf, recordsOf}
 use Rattle.model.specs.Sound.{Sound}
 use Rattle.model.specs.SoundTest.{sound}
 use Rattle.model.specs.Tree.{Seg, resolve}
-use Rattle.model.specs.Store.{Store, storeOf}
+use Rattle.model.specs.Store.{Store, ranges, pins, storeOf, layBook}
 use Rattle.model.specs.Trim.{trim}
 use Rattle.model.specs.Bring.{gaps, fill, keep, bring, bringNeed}
 use Rattle.model.specs.Refusals.{Condition, firstOf, OutList, PathList, TierList, storeInsertRefusals, lookupRefusals}
@@ -31,7 +31,8 @@ use Rattle.keptbring.proofs.Bring.{bring-cases}
 use Rattle.keptcalls.proofs.Accepted.{NoneHolds, Accepted, unless-done, span-in, is-finite, neither}
 use Rattle.keptcalls.proofs.Calls.{storeInsert-sound}
 use Rattle.kepttouch.proofs.Holds.{Holds}
-use Rattle.room.specs.Room.{withCapacity, ButCapacity, Alike, sumOf, blocksIn, MoreRoom}
+use Rattle.laid.proofs.Books.{book-read, book-other}
+use Rattle.room.specs.Room.{resized, withCapacity, ButCapacity, Alike, sumOf, blocksIn, MoreRoom}
 use Rattle.room.proofs.Trim.{Sub, trim-room}
 use Rattle.room.proofs.Lookup.{Richer, path-tiers, path-more, sums-all}
 use Rattle.room.proofs.After.{Taken, own, others, tree-stays, stores-stay}
@@ -39,32 +40,32 @@ use Rattle.room.proofs.After.{Taken, own, others, tree-stays, stores-st
 -- ---- one store
 
 module _ (t : Tree) (table : List ℕ) (next : ℕ) (sp : Span) (time : Float) (write : ℕ) where
-  need-is : (x : Store) → (x .capacity ≡ 0 → ⊥) → bringNeed x sp ≡ length (gaps (sp .node) (x .ranges) (sp .start) (sp .end))
+  need-is : (x : Store) → (x .book .capacity ≡ 0 → ⊥) → bringNeed x sp ≡ length (gaps (sp .node) (x .ranges) (sp .start) (sp .end))
   need-is x c =
       bring-cases t table next x sp time write (λ k b. k ≡ length (gaps (sp .node) (x .ranges) (sp .start) (sp .end))) (λ z. absurd (c z)) (λ z. refl)
 
-  ranges-are : (x : Store) → (x .capacity ≡ 0 → ⊥)
+  ranges-are : (x : Store) → (x .book .capacity ≡ 0 → ⊥)
       → bring t table x next sp time write .store .ranges
-      ≡ trim t table (x .pins) (x .capacity)
-      (fill (sp .node) (gaps (sp .node) (x .ranges) (sp .start) (sp .end)) (x .stamp) next time write (x .ranges)) (x .marks)
+      ≡ trim t table (x .pins) (x .book .capacity)
+      (fill (sp .node) (gaps (sp .node) (x .ranges) (sp .start) (sp .end)) (x .book .stamp) next time write (x .ranges)) (x .marks)
       .ranges
   unfolding keep
   ranges-are x c =
       bring-cases t table next x sp time write
       (λ k b.
       b .store .ranges
-      ≡ trim t table (x .pins) (x .capacity)
-      (fill (sp .node) (gaps (sp .node) (x .ranges) (sp .start) (sp .end)) (x .stamp) next time write (x .ranges)) (x .marks)
+      ≡ trim t table (x .pins) (x .book .capacity)
+      (fill (sp .node) (gaps (sp .node) (x .ranges) (sp .start) (sp .end)) (x .book .stamp) next time write (x .ranges)) (x .marks)
       .ranges)
       (λ z. absurd (c z)) (λ z. refl)
 
-  bring-room : (x y : Store) → (x .capacity ≡ 0 → ⊥) → (y .capacity ≡ 0 → ⊥) → x .capacity ≤ y .capacity → y .ranges ≡ x .ranges → y .pins ≡ x .pins
-      → y .marks ≡ x .marks → y .stamp ≡ x .stamp
+  bring-room : (x y : Store) → (x .book .capacity ≡ 0 → ⊥) → (y .book .capacity ≡ 0 → ⊥) → x .book .capacity ≤ y .book .capacity → y .ranges ≡ x .ranges → y .pins ≡ x .pins
+      → y .marks ≡ x .marks → y .book .stamp ≡ x .book .stamp
       → Sub (bring t table x next sp time write .store .ranges) (bring t table y next sp time write .store .ranges)
   bring-room x y c d le er ep em es n o =
       rw (ranges-are x c, ranges-are y d, er, ep, em, es)
-      (trim-room t table (x .pins) (fill (sp .node) (gaps (sp .node) (x .ranges) (sp .start) (sp .end)) (x .stamp) next time write (x .ranges)) (x .marks)
-      (x .capacity) (y .capacity) le n o)
+      (trim-room t table (x .pins) (fill (sp .node) (gaps (sp .node) (x .ranges) (sp .start) (sp .end)) (x .book .stamp) next time write (x .ranges)) (x .marks)
+      (x .book .capacity) (y .book .capacity) le n o)
 
 -- ---- outcomes
 
@@ -84,43 +85,59 @@ unless-zero {L} {A} (suc n) x p k k′ u v e = let z : _≡_ {A = ℕ} 0 1 = ap 
 
 -- ---- the bring-in under two capacities
 
-module _ (a : State) (s D : ℕ) (l : OutList) (sp : Span) (time : Float) (write : ℕ) where
+module _ (a : State) (s D : ℕ) (less : s < maxStores) (long : maxNumbers ≤ length (a .books)) (l : OutList) (sp : Span) (time : Float) (write : ℕ) where
   abbrev b : State
   b = withCapacity s D a
 
+  own-book : bookOf b s ≡ resized D (bookOf a s)
+  unfolding withCapacity
+  own-book = book-read s (a .books) less long (resized D (bookOf a s))
+
+  -- what the capacity does not change is one in both
+  same-number : (f : Book → ℕ) → ((c : ℕ) (x : Book) → f (resized c x) ≡ f x) → (q : ℕ) → f (bookOf b q) ≡ f (bookOf a q)
+  unfolding withCapacity
+  same-number f same q = go (ℕ-discrete q s)
+    where
+      go : Dec (q ≡ s) → f (bookOf b q) ≡ f (bookOf a q)
+      go (yes e) = rw e (ap f own-book ∙ same D (bookOf a s))
+      go (no other) = ap f (book-other s (a .books) less long (resized D (bookOf a s)) q other)
+
+  same-records : (q : ℕ) → recordsOf b q ≡ recordsOf a q
+  same-records = same-number (λ x. x .records) (λ c x. refl)
+
   same-ranges : (q : ℕ) → storeOf b q .ranges ≡ storeOf a q .ranges
   unfolding withCapacity storeOf
-  same-ranges q = refl
+  same-ranges q = ap (ranges (a .ranges) (storeRecords * q)) (same-records q)
 
   same-pins : storeOf b s .pins ≡ storeOf a s .pins
   unfolding withCapacity storeOf
-  same-pins = refl
+  same-pins = ap (pins (a .pins) (storePins * s)) (same-number (λ x. x .entries) (λ c x. refl) s)
 
   same-marks : storeOf b s .marks ≡ storeOf a s .marks
   unfolding withCapacity storeOf
   same-marks = refl
 
-  same-stamp : storeOf b s .stamp ≡ storeOf a s .stamp
-  unfolding withCapacity storeOf
-  same-stamp = refl
+  same-stamp : storeOf b s .book .stamp ≡ storeOf a s .book .stamp
+  unfolding storeOf
+  same-stamp = same-number (λ x. x .stamp) (λ c x. refl) s
 
-  small : storeOf a s .capacity ≡ at (a .books .capacity) s
+  small : storeOf a s .book .capacity ≡ capacityOf a s
   unfolding storeOf
   small = refl
 
-  large : length (a .books .capacity) ≡ maxStores → s < maxStores → storeOf b s .capacity ≡ D
-  unfolding withCapacity storeOf
-  large long less = getD-set-same (a .books .capacity) s D 0 (omega arith)
+  large : storeOf b s .book .capacity ≡ D
+  unfolding storeOf
+  large = ap (λ (x : Book). x .capacity) own-book
 
-  need-same : (storeOf a s .capacity ≡ 0 → ⊥) → (storeOf b s .capacity ≡ 0 → ⊥) → bringNeed (storeOf a s) sp ≡ bringNeed (storeOf b s) sp
+  need-same : (storeOf a s .book .capacity ≡ 0 → ⊥) → (storeOf b s .book .capacity ≡ 0 → ⊥) → bringNeed (storeOf a s) sp ≡ bringNeed (storeOf b s) sp
   need-same c d =
       need-is (a .tree) (a .bytes) 0 sp time write (storeOf a s) c
       ∙ (ap (λ rs. length (gaps (sp .node) rs (sp .start) (sp .end))) (sym (same-ranges s)) ∙ sym (need-is (a .tree) (a .bytes) 0 sp time write (storeOf b s) d))
 
   refused-alike : sound a ≡ true → sound b ≡ true → bringNeed (storeOf a s) sp ≡ bringNeed (storeOf b s) sp
       → firstOf (storeInsertRefusals a l s sp time) ≡ firstOf (storeInsertRefusals b l s sp time)
-  unfolding withCapacity
-  refused-alike ha hb e = rw (ha, hb, e) refl
+  unfolding withCapacity layBook storeOf
+  refused-alike ha hb e = rw (ha, hb, e, same-records s, same-stamp) refl
 
 pub taken : (st : State) (l : OutList) (s : ℕ) (sp : Span) (time : Float) → Sound st → NoneHolds (storeInsertRefusals st l s sp time) → Taken st s sp time
 taken st l s sp time h (unsound, (short, (noStore, (badSpan, (badTime, (fewRecords, (late, end))))))) =
@@ -155,8 +172,8 @@ pub record Beside (x y : State) : Type 0 where
   pub first : Sound x
   pub second : Sound y
   pub tree : x .tree ≡ y .tree
-  pub stores : x .books .stores ≡ y .books .stores
-  pub richer : (q : ℕ) → q < x .books .stores → Richer x y q
+  pub stores : storesOf x ≡ storesOf y
+  pub richer : (q : ℕ) → q < storesOf x → Richer x y q
 
 all-each : (P : ℕ → Type 0) (ts : List ℕ) → ((i : ℕ) → i < length ts → P (at ts i)) → All P ts
 unfolding All
@@ -174,7 +191,7 @@ module _ (x y : State) (h : Beside x y) (l : LookupLists) (ts hs : List ℕ) whe
 
   tiers : NoneHolds (lookupRefusals x (l .path) (l .spans) ts hs) → All (Richer x y) ts
   tiers (unsound, (short, (shortTiers, (noTier, rest)))) =
-      all-each (Richer x y) ts (λ i less. h .richer (at ts i) (let g : x .books .stores ≤ at ts i → ⊥ = λ k. noTier (i, less, k) in omega arith))
+      all-each (Richer x y) ts (λ i less. h .richer (at ts i) (let g : storesOf x ≤ at ts i → ⊥ = λ k. noTier (i, less, k) in omega arith))
 
   none-held : firstOf (lookupRefusals x (l .path) (l .spans) ts hs) ≡ 0 → NoneHolds (lookupRefusals x (l .path) (l .spans) ts hs)
   unfolding lookup
@@ -226,23 +243,26 @@ module _ (x y : State) (h : Beside x y) (l : LookupLists) (ts hs : List ℕ) whe
 -- ---- the demand
 
 module _ (a : State) (s D : ℕ) (l : OutList) (sp : Span) (time : Float) (write : ℕ) (ha : Sound a) (hb : Sound (withCapacity s D a))
-    (less : s < a .books .stores) (some : 0 < at (a .books .capacity) s) (le : at (a .books .capacity) s ≤ D) where
+    (less : s < storesOf a) (some : 0 < capacityOf a s) (le : capacityOf a s ≤ D) where
   abbrev c : State
   c = withCapacity s D a
 
-  room-a : storeOf a s .capacity ≡ 0 → ⊥
-  room-a e = omega (arith, small a s D l sp time write)
+  inEight : s < maxStores
+  inEight = omega (arith, ha .counts .stores)
 
-  room-is : storeOf c s .capacity ≡ D
-  room-is = large a s D l sp time write (ha .lent .books .capacity) (omega (arith, ha .counts .stores))
+  room-a : storeOf a s .book .capacity ≡ 0 → ⊥
+  room-a e = omega (arith, small a s D inEight (ha .lent .books) l sp time write)
 
-  room-c : storeOf c s .capacity ≡ 0 → ⊥
+  room-is : storeOf c s .book .capacity ≡ D
+  room-is = large a s D inEight (ha .lent .books) l sp time write
+
+  room-c : storeOf c s .book .capacity ≡ 0 → ⊥
   room-c e = omega (arith, room-is)
 
   first-alike : firstOf (storeInsertRefusals a l s sp time) ≡ firstOf (storeInsertRefusals c l s sp time)
   first-alike =
-      refused-alike a s D l sp time write (true-says (sound a) (sound-says a) ha) (true-says (sound c) (sound-says c) hb)
-      (need-same a s D l sp time write room-a room-c)
+      refused-alike a s D inEight (ha .lent .books) l sp time write (true-says (sound a) (sound-says a) ha) (true-says (sound c) (sound-says c) hb)
+      (need-same a s D inEight (ha .lent .books) l sp time write room-a room-c)
 
   pub answers-alike : Alike (storeInsert a l s sp time write .answer) (storeInsert c l s sp time write .answer)
   unfolding storeInsert
@@ -262,25 +282,25 @@ module _ (a : State) (s D : ℕ) (l : OutList) (sp : Span) (time : Float) (write
     brings-c = brings c l s sp time write (length (brought c s sp time write .outs)) hb second
 
     own-more : Sub (brought a s sp time write .store .ranges) (brought c s sp time write .store .ranges)
-    unfolding brought withCapacity
+    unfolding brought withCapacity layBook
     own-more =
-        bring-room (a .tree) (a .bytes) (a .books .nextId) sp time write (storeOf a s) (storeOf c s) room-a room-c
-        (omega (arith, room-is, small a s D l sp time write)) (same-ranges a s D l sp time write s) (same-pins a s D l sp time write)
-        (same-marks a s D l sp time write) (same-stamp a s D l sp time write)
+        bring-room (a .tree) (a .bytes) (nextIdOf a) sp time write (storeOf a s) (storeOf c s) room-a room-c
+        (omega (arith, room-is, small a s D inEight (ha .lent .books) l sp time write)) (same-ranges a s D inEight (ha .lent .books) l sp time write s) (same-pins a s D inEight (ha .lent .books) l sp time write)
+        (same-marks a s D inEight (ha .lent .books) l sp time write) (same-stamp a s D inEight (ha .lent .books) l sp time write)
 
-    richer : (q : ℕ) → q < a .books .stores → Richer (bringIn a s sp time write) (bringIn c s sp time write) q
-    unfolding withCapacity
+    richer : (q : ℕ) → q < storesOf a → Richer (bringIn a s sp time write) (bringIn c s sp time write) q
+    unfolding withCapacity layBook
     richer q below = go (ℕ-discrete q s)
       where
         go : Dec (q ≡ s) → Richer (bringIn a s sp time write) (bringIn c s sp time write) q
         go (yes i) = λ n o. rw (i, own a s sp time write (brings-a .took), own c s sp time write (brings-c .took)) (own-more n o)
         go (no i) =
             λ n o.
-            rw (others a s sp time write (brings-a .took) q i below, others c s sp time write (brings-c .took) q i below, same-ranges a s D l sp time write q)
+            rw (others a s sp time write (brings-a .took) q i below, others c s sp time write (brings-c .took) q i below, same-ranges a s D inEight (ha .lent .books) l sp time write q)
             (λ h. h)
 
     beside : Beside (storeInsert a l s sp time write .state) (storeInsert c l s sp time write .state)
-    unfolding withCapacity
+    unfolding withCapacity layBook
     beside =
         record {
           first = storeInsert-sound a l s sp time write ha;
@@ -289,8 +309,8 @@ module _ (a : State) (s D : ℕ) (l : OutList) (sp : Span) (time : Float) (write
               ap (λ x. x .tree) (brings-a .left) ∙ (tree-stays a s sp time write (brings-a .took)
               ∙ sym (ap (λ x. x .tree) (brings-c .left) ∙ tree-stays c s sp time write (brings-c .took)));
           stores =
-              ap (λ x. x .books .stores) (brings-a .left) ∙ (stores-stay a s sp time write (brings-a .took)
-              ∙ sym (ap (λ x. x .books .stores) (brings-c .left) ∙ stores-stay c s sp time write (brings-c .took)));
+              ap (λ x. storesOf x) (brings-a .left) ∙ (stores-stay a s sp time write (brings-a .took)
+              ∙ sym (ap (λ x. storesOf x) (brings-c .left) ∙ stores-stay c s sp time write (brings-c .took)));
           richer = rw (brings-a .left, brings-c .left) (λ q below. richer q (rw (stores-stay a s sp time write (brings-a .took)) at below));
         }
 
@@ -308,7 +328,7 @@ module _ (a : State) (s D : ℕ) (l : OutList) (sp : Span) (time : Float) (write
       }
 
 -- "More room never shortens a reading"
-pub more-room : (a b : State) (s C D : ℕ) → Sound a → Sound b → ButCapacity s C D a b → s < a .books .stores → 0 < C → C ≤ D
+pub more-room : (a b : State) (s C D : ℕ) → Sound a → Sound b → ButCapacity s C D a b → s < storesOf a → 0 < C → C ≤ D
     → (l : OutList) (sp : Span) (time : Float) (write : ℕ) → MoreRoom a b l s sp time write
 more-room a b s C D ha hb but less some le l sp time write =
     subst (λ x. MoreRoom a x l s sp time write) (sym (but .same))

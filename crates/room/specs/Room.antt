@@ -2,44 +2,37 @@
 use Prim.Native.Nat.{ℕ, _+_, _≤_}
 use mathlib.Core.Path.{_≡_}
 use mathlib.Core.List.{List, [], _∷_}
-use lib.ListN.{set}
-use Rattle.model.specs.State.{State, at}
+use lib.ListN.{drop}
+use Rattle.model.specs.declared.Book.{Book}
+use Rattle.model.specs.State.{State, numbers, bookFrom, bookOf, capacityOf}
 use lib.Ieee.{Float}
 use Rattle.model.specs.declared.Span.{Span}
-use Rattle.model.specs.Store.{storeOf}
+use Rattle.model.specs.Store.{storeOf, layBook}
 use Rattle.model.specs.Refusals.{OutList}
 use Rattle.model.specs.Calls.{Outcome, Answer, refused, done, storeInsert, LookupLists, LookupAnswer, lookup}
 use Rattle.kepttouch.proofs.Holds.{Holds}
 
+-- a store's own numbers with capacity c, and all else as it is
+abbrev pub resized : ℕ → Book → Book
+resized c b = bookFrom (c ∷ drop 1 (numbers b))
+
 -- the state with capacity c for store s, and all else as it is
 unfoldable pub withCapacity : ℕ → ℕ → State → State
+unfolding layBook
 withCapacity s c st =
-    let b = st .books in
     record {
       tree = st .tree;
       ranges = st .ranges;
       pins = st .pins;
       marks = st .marks;
       bytes = st .bytes;
-      books = record {
-        stores = b .stores;
-        nextId = b .nextId;
-        stalls = b .stalls;
-        capacity = set (b .capacity) s c;
-        refreshes = b .refreshes;
-        records = b .records;
-        held = b .held;
-        stamp = b .stamp;
-        version = b .version;
-        entries = b .entries;
-        pinned = b .pinned;
-      };
+      books = layBook s (resized c (bookOf st s)) (st .books);
     }
 
 -- "two equal .. states but for one store's capacity, C in one and D in the other"
 pub record ButCapacity (s C D : ℕ) (a b : State) : Type 0 where
-  pub small : at (a .books .capacity) s ≡ C
-  pub large : at (b .books .capacity) s ≡ D
+  pub small : capacityOf a s ≡ C
+  pub large : capacityOf b s ≡ D
   pub same : b ≡ withCapacity s D a
 
 -- "Both accept or both refuse alike"

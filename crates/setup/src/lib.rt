@@ -1,14 +1,15 @@
 use answers::Plain;
 use answers::Plainly;
 use lent::Small;
+use model::Book;
 ghost use mathlib.Core.Path.{_≡_};
-ghost use mathlib.Core.Bool.{false};
+ghost use mathlib.Core.List.{[], _∷_};
 ghost use Prim.Native.Nat.{ℕ, _≤_};
 ghost use lib.ListN.{length, set, replicate};
 ghost use Rattle.model.specs.Words.{Says, Each};
-ghost use Rattle.model.specs.State.{at};
+ghost use Rattle.model.specs.State.{at, bookFrom};
 ghost use Rattle.model.specs.Sound.{TreeLent, RangesLent, PinsLent};
-ghost use Rattle.model.specs.SetUp.{SetUpFits, eight};
+ghost use Rattle.model.specs.SetUp.{SetUpFits, policy};
 ghost use Rattle.model.specs.Calls.{front, setUp};
 ghost use Rattle.lent.specs.Lent.{treeOf, rangesOf, pinsOf};
 ghost use Rattle.setup.specs.Fresh.{freshSmall};
@@ -180,17 +181,6 @@ fn copy_in(to: &mut [u64], from: &[u64])
     }
 }
 
-fn copy_flags_in(to: &mut [bool], from: &[bool])
-    requires { ⌜ length (now from) ≤ length (now to) ⌝ }
-    ensures { λ _. ⌜ now (to .exit) ≡ front (now (from .entry)) (now (to .entry)) ⌝ }
-{
-    let mut i = 0;
-    while i < from.len() {
-        to[i] = from[i];
-        i += 1;
-    }
-}
-
 fn clear_marks(marks: &mut [usize])
     requires { ⌜ 2048 ≤ length (now marks) ⌝ }
     ensures { λ _. ⌜ now (marks .exit) ≡ front (replicate 2048 0) (now (marks .entry)) ⌝ }
@@ -202,47 +192,49 @@ fn clear_marks(marks: &mut [usize])
     }
 }
 
-// One number for each of the eight stores.
-fn eight_of(xs: &[u64]) -> [u64; 8]
-    requires { ⌜ length (now xs) ≤ 8 ⌝ }
-    ensures { λ r. ⌜ r ≡ eight 0 (now (xs .entry)) ⌝ }
+// A policy as its number.
+fn policy_of(refreshes: bool) -> u64
+    ensures { λ r. ⌜ r ≡ policy refreshes ⌝ }
 {
-    let mut out = [0u64; 8];
-    copy_in(&mut out, xs);
-    out
+    if refreshes {
+        return 1;
+    }
+    0
 }
 
-fn eight_flags_of(xs: &[bool]) -> [bool; 8]
-    requires { ⌜ length (now xs) ≤ 8 ⌝ }
-    ensures { λ r. ⌜ r ≡ eight false (now (xs .entry)) ⌝ }
+// A store's own numbers: its capacity and its policy, everything else 0.
+fn new_book(capacity: u64, refreshes: bool) -> Book
+    ensures { λ r. ⌜ r ≡ bookFrom (capacity ∷ policy refreshes ∷ []) ⌝ }
 {
-    let mut out = [false; 8];
-    copy_flags_in(&mut out, xs);
-    out
+    let policy = policy_of(refreshes);
+    Book {
+        capacity: capacity,
+        policy: policy,
+        records: 0,
+        held: 0,
+        stamp: 0,
+        version: 0,
+        entries: 0,
+        pinned: 0,
+    }
 }
 
-// The small numbers: the root only, next id 1, everything else 0.
+// The small numbers: the root only, the stores, next id 1, everything else 0.
 fn fresh_small(capacity: &[u64], refreshes: &[bool]) -> Small
-    requires { ⌜ (length (now capacity) ≤ 8) × (length (now refreshes) ≤ 8) ⌝ }
+    requires { ⌜ (length (now capacity) ≤ 8) × (length (now refreshes) ≡ length (now capacity)) ⌝ }
     ensures { λ r. ⌜ r ≡ freshSmall (now (capacity .entry)) (now (refreshes .entry)) ⌝ }
 {
-    let capacities = eight_of(capacity);
-    let policies = eight_flags_of(refreshes);
-    Small {
-        nodes: 1,
-        used: 0,
-        stores: capacity.len(),
-        next: 1,
-        stalls: 0,
-        capacity: capacities,
-        refreshes: policies,
-        records: [0usize; 8],
-        held: [0u64; 8],
-        stamp: [0u64; 8],
-        version: [0u64; 8],
-        entries: [0usize; 8],
-        pinned: [0u64; 8],
+    let mut numbers = [0u64; 69];
+    numbers[0] = 1;
+    numbers[2] = capacity.len() as u64;
+    numbers[3] = 1;
+    let mut s = 0;
+    while s < capacity.len() {
+        let b = new_book(capacity[s], refreshes[s]);
+        books::put_book(&mut numbers, s, b);
+        s += 1;
     }
+    Small { books: numbers }
 }
 
 // Node 0 with length and depth 0.

@@ -1,3 +1,4 @@
 pub mod Places
+pub mod Books
 pub mod Ids
 pub mod State

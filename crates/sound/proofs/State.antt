@@ -4,7 +4,7 @@ use mathlib.Core.Path.{_≡_, refl, sym, _∙_}
 use native.Mathlib.Omega.{arith}
 use Rattle.model.specs.Words.{Each}
 use Rattle.model.specs.Sizes.{storeRecords, storePins}
-use Rattle.model.specs.State.{State, at, rangeAt, pinAt}
+use Rattle.model.specs.State.{State, at, rangeAt, pinAt, storesOf, nextIdOf, recordsOf, stampOf, entriesOf}
 use Rattle.model.specs.Sound.{Sound, Inside, Before, IdBetween, StampBetween, PinInside, PinBefore, heldBy, pinnedBy}
 use Rattle.model.specs.Sound.{RecordsStand, RecordsInside, HeldIsSum, HeldNoneAtZero, IdsBelowNext, StampsUpToStores, TimesFinite}
 use Rattle.model.specs.Sound.{PinsStand, PinsInside, PinnedIsSum, MarksNone, MarksWithin}
@@ -22,7 +22,7 @@ abbrev RangeBefore : State → ℕ → ℕ → Type 0
 RangeBefore st j k = BeforeAt (st .ranges .node) (st .ranges .start) (st .ranges .end) j k
 
 abbrev Numbered : State → ℕ → ℕ → Type 0
-Numbered st top i = NumberedAt (st .ranges .id) (st .ranges .stamp) (st .books .nextId) top i
+Numbered st top i = NumberedAt (st .ranges .id) (st .ranges .stamp) (nextIdOf st) top i
 
 abbrev PinIn : State → ℕ → Type 0
 PinIn st i = InsideAt (st .tree .len) (st .pins .node) (st .pins .start) (st .pins .end) (st .tree .nodes) i
@@ -53,10 +53,10 @@ module _ (st : State) where
   before-at : (j k : ℕ) → Before (rangeAt (st .ranges) j) (rangeAt (st .ranges) k) → RangeBefore st j k
   before-at j k h = record { byNode = h .byNode; apart = h .apart }
 
-  numbered-at : (top i : ℕ) → IdBetween (st .books .nextId) (rangeAt (st .ranges) i) → StampBetween top (rangeAt (st .ranges) i) → Numbered st top i
+  numbered-at : (top i : ℕ) → IdBetween (nextIdOf st) (rangeAt (st .ranges) i) → StampBetween top (rangeAt (st .ranges) i) → Numbered st top i
   numbered-at top i d t = record { idLow = d .low; idHigh = d .high; stampLow = t .low; stampHigh = t .high }
 
-  id-of : (top i : ℕ) → Numbered st top i → IdBetween (st .books .nextId) (rangeAt (st .ranges) i)
+  id-of : (top i : ℕ) → Numbered st top i → IdBetween (nextIdOf st) (rangeAt (st .ranges) i)
   id-of top i h = record { low = h .idLow; high = h .idHigh }
 
   stamp-of : (top i : ℕ) → Numbered st top i → StampBetween top (rangeAt (st .ranges) i)
@@ -77,28 +77,28 @@ module _ (st : State) where
   -- ---- a sound state passes each test
 
   pub records-at : Sound st
-      → Each 0 (st .books .stores) (StoreRecords (st .tree .len) (st .ranges .node) (st .ranges .start) (st .ranges .end) (st .ranges .id) (st .ranges .stamp) (st .ranges .touched) (st .tree .nodes) (st .books))
+      → Each 0 (storesOf st) (StoreRecords (st .tree .len) (st .ranges .node) (st .ranges .start) (st .ranges .end) (st .ranges .id) (st .ranges .stamp) (st .ranges .touched) (st .tree .nodes) (st .books))
   unfolding RecordsInside RecordsStand IdsBelowNext StampsUpToStores TimesFinite HeldIsSum HeldNoneAtZero
   records-at h s f l = record {
     inside = each-at (RangeIn st) (λ k g m. in-at _ (h .inside s f l k g m));
     stand = pairs-at (RangeBefore st) (λ j k g m. before-at _ _ (h .stand s f l j k g m));
-    numbered = each-at (Numbered st (at (st .books .stamp) s)) (λ k g m. numbered-at _ _ (h .idsBelow s f l k g m) (h .stamps s f l k g m));
+    numbered = each-at (Numbered st (stampOf st s)) (λ k g m. numbered-at _ _ (h .idsBelow s f l k g m) (h .stamps s f l k g m));
     finite = each-at (FiniteAt (st .ranges .touched)) (h .times s f l);
-    sum = h .held s f l ∙ sym (held-same s (at (st .books .records) s));
+    sum = h .held s f l ∙ sym (held-same s (recordsOf st s));
     empty = h .heldNone s f l;
   }
 
   pub entries-at : Sound st
-      → Each 0 (st .books .stores) (StorePins (st .tree .len) (st .pins .node) (st .pins .start) (st .pins .end) (st .pins .count) (st .tree .nodes) (st .books))
+      → Each 0 (storesOf st) (StorePins (st .tree .len) (st .pins .node) (st .pins .start) (st .pins .end) (st .pins .count) (st .tree .nodes) (st .books))
   unfolding PinsInside PinsStand PinnedIsSum
   entries-at h s f l = record {
     inside = each-at (PinIn st) (λ k g m. pin-at _ (h .pinsInside s f l k g m));
     counted = each-at (CountedAt (st .pins .count)) (λ k g m. h .pinsInside s f l k g m .counted);
     stand = pairs-at (PinOrder st) (λ j k g m. order-at _ _ (h .pinsStand s f l j k g m));
-    sum = h .pinned s f l ∙ sym (pinned-same s (at (st .books .entries) s));
+    sum = h .pinned s f l ∙ sym (pinned-same s (entriesOf st s));
   }
 
-  pub marked-at : Sound st → Each 0 (st .books .stores) (StoreMarks (st .tree .len) (st .ranges .node) (st .marks) (st .tree .nodes) (st .books))
+  pub marked-at : Sound st → Each 0 (storesOf st) (StoreMarks (st .tree .len) (st .ranges .node) (st .marks) (st .tree .nodes) (st .books))
   unfolding MarksNone MarksWithin
   marked-at h s f l v g m = record {
     none = λ n. h .marksNone s f l v g m (each-of (λ (i : ℕ). at (st .ranges .node) i ≡ v → ⊥) n);
@@ -148,7 +148,7 @@ module _ (st : State) where
 
   held-of : Tested st → HeldIsSum st
   unfolding HeldIsSum
-  held-of t s f l = t .records s f l .sum ∙ held-same s (at (st .books .records) s)
+  held-of t s f l = t .records s f l .sum ∙ held-same s (recordsOf st s)
 
   held-none-of : Tested st → HeldNoneAtZero st
   unfolding HeldNoneAtZero
@@ -156,11 +156,11 @@ module _ (st : State) where
 
   ids-below-of : Tested st → IdsBelowNext st
   unfolding IdsBelowNext
-  ids-below-of t s f l k g m = id-of _ _ (each-of (Numbered st (at (st .books .stamp) s)) (t .records s f l .numbered) k g m)
+  ids-below-of t s f l k g m = id-of _ _ (each-of (Numbered st (stampOf st s)) (t .records s f l .numbered) k g m)
 
   stamps-of : Tested st → StampsUpToStores st
   unfolding StampsUpToStores
-  stamps-of t s f l k g m = stamp-of _ _ (each-of (Numbered st (at (st .books .stamp) s)) (t .records s f l .numbered) k g m)
+  stamps-of t s f l k g m = stamp-of _ _ (each-of (Numbered st (stampOf st s)) (t .records s f l .numbered) k g m)
 
   times-of : Tested st → TimesFinite st
   unfolding TimesFinite
@@ -177,7 +177,7 @@ module _ (st : State) where
 
   pinned-of : Tested st → PinnedIsSum st
   unfolding PinnedIsSum
-  pinned-of t s f l = t .entries s f l .sum ∙ pinned-same s (at (st .books .entries) s)
+  pinned-of t s f l = t .entries s f l .sum ∙ pinned-same s (entriesOf st s)
 
   marks-none-of : Tested st → MarksNone st
   unfolding MarksNone

@@ -1,14 +1,15 @@
 use lent::Small;
+use model::Book;
 ghost use mathlib.Core.Path.{_≡_};
 ghost use Prim.Native.Nat.{ℕ, _+_, _*_, _%_, _≤_, _<_};
 ghost use lib.ListN.{length};
 ghost use Rattle.model.specs.Words.{Says, Each};
-ghost use Rattle.model.specs.State.{at};
+ghost use Rattle.model.specs.State.{at, nodesIn, usedIn, storesIn, bookIn};
 ghost use Rattle.model.specs.Sound.{RangesLent, PinsLent, StoreCounts, Sound};
-ghost use Rattle.lent.specs.Lent.{treeOf, rangesOf, pinsOf, booksOf, stateOf};
+ghost use Rattle.lent.specs.Lent.{treeOf, rangesOf, pinsOf, stateOf};
 ghost use Rattle.soundtree.specs.Chain.{Chain};
 ghost use Rattle.sound.specs.Ids.{Live, Differ, Fresh, idBucket};
-ghost use Rattle.sound.specs.Stores.{NumbersFit, StoreRecords, StorePins, StoreMarks};
+ghost use Rattle.sound.specs.Stores.{NumbersFit, CountsFit, StoreRecords, StorePins, StoreMarks};
 
 fn ranges_lent(
     node: &[usize],
@@ -64,55 +65,61 @@ fn pins_lent(node: &[usize], start: &[usize], end: &[usize], count: &[u64]) -> b
 }
 
 fn numbers_fit(x: Small) -> bool
-    ensures { λ r. ⌜ Says r (NumbersFit (booksOf x)) ⌝ }
+    ensures { λ r. ⌜ Says r (NumbersFit (x .books)) ⌝ }
 {
-    if x.stores < 1 {
+    let stores = x.books[2];
+    if stores < 1 {
         return false;
     }
-    if 8 < x.stores {
+    if 8 < stores {
         return false;
     }
-    if x.next < 1 {
+    let next = x.books[3];
+    if next < 1 {
         return false;
     }
-    if 281474976710655 < x.next {
+    if 281474976710655 < next {
         return false;
     }
-    if 281474976710656 < x.stalls {
+    if 281474976710656 < x.books[4] {
         return false;
     }
     true
 }
 
-fn store_counts_fit(x: Small, s: usize) -> bool
-    requires { ⌜ s < 8 ⌝ }
-    ensures { λ r. ⌜ Says r (StoreCounts (booksOf x) s) ⌝ }
+fn counts_fit(b: Book) -> bool
+    ensures { λ r. ⌜ Says r (StoreCounts b) ⌝ }
 {
-    if 1000000 < x.capacity[s] {
+    if 1000000 < b.capacity {
         return false;
     }
-    if 128 < x.records[s] {
+    if 1 < b.policy {
         return false;
     }
-    if 32 < x.entries[s] {
+    if 128 < b.records {
         return false;
     }
-    if 1000000 < x.pinned[s] {
+    if 32 < b.entries {
         return false;
     }
-    if 281474976710655 < x.stamp[s] {
+    if 1000000 < b.pinned {
+        return false;
+    }
+    if 281474976710655 < b.stamp {
         return false;
     }
     true
 }
 
-fn all_counts_fit(x: Small) -> bool
-    requires { ⌜ x .stores ≤ 8 ⌝ }
-    ensures { λ r. ⌜ Says r (Each 0 (x .stores) (StoreCounts (booksOf x))) ⌝ }
+fn all_counts_fit(books: &[u64; 69]) -> bool
+    requires { ⌜ storesIn (now books) ≤ 8 ⌝ }
+    ensures { λ r. ⌜ Says r (Each 0 (storesIn (now (books .entry))) (CountsFit (now (books .entry)))) ⌝ }
 {
+    let stores = books[2] as usize;
     let mut s = 0;
-    while s < x.stores {
-        if !store_counts_fit(x, s) {
+    while s < stores {
+        let b = books::book_of(books, s);
+        if !counts_fit(b) {
             return false;
         }
         s += 1;
@@ -129,18 +136,17 @@ fn all_records_fit(
     id: &[u64],
     stamp: &[u64],
     touched: &[f64],
-    x: Small,
+    books: &[u64; 69],
 ) -> bool
-    requires { ⌜ (x .stores ≤ 8) × (x .nodes ≤ length (now len)) × (1024 ≤ length (now node)) × (1024 ≤ length (now start)) × (1024 ≤ length (now end)) × (1024 ≤ length (now id)) × (1024 ≤ length (now stamp)) × (1024 ≤ length (now touched)) × ((k : ℕ) → k < x .nodes → at (now len) k ≤ 1024) × Each 0 (x .stores) (StoreCounts (booksOf x)) ⌝ }
-    ensures { λ r. ⌜ Says r (Each 0 (x .stores) (StoreRecords (now (len .entry)) (now (node .entry)) (now (start .entry)) (now (end .entry)) (now (id .entry)) (now (stamp .entry)) (now (touched .entry)) (x .nodes) (booksOf x))) ⌝ }
+    requires { ⌜ (storesIn (now books) ≤ 8) × (nodesIn (now books) ≤ length (now len)) × (1024 ≤ length (now node)) × (1024 ≤ length (now start)) × (1024 ≤ length (now end)) × (1024 ≤ length (now id)) × (1024 ≤ length (now stamp)) × (1024 ≤ length (now touched)) × ((k : ℕ) → k < nodesIn (now books) → at (now len) k ≤ 1024) × Each 0 (storesIn (now books)) (CountsFit (now books)) ⌝ }
+    ensures { λ r. ⌜ Says r (Each 0 (storesIn (now (books .entry))) (StoreRecords (now (len .entry)) (now (node .entry)) (now (start .entry)) (now (end .entry)) (now (id .entry)) (now (stamp .entry)) (now (touched .entry)) (nodesIn (now (books .entry))) (now (books .entry)))) ⌝ }
 {
+    let nodes = books[0] as usize;
+    let stores = books[2] as usize;
+    let next = books[3];
     let mut s = 0;
-    while s < x.stores {
-        let a = 128 * s;
-        let n = x.records[s];
-        let top = x.stamp[s];
-        let held = x.held[s];
-        let capacity = x.capacity[s];
+    while s < stores {
+        let b = books::book_of(books, s);
         if !soundstore::records_fit(
             len,
             node,
@@ -149,13 +155,13 @@ fn all_records_fit(
             id,
             stamp,
             touched,
-            x.nodes,
-            x.next,
-            a,
-            n,
-            top,
-            held,
-            capacity,
+            nodes,
+            next,
+            128 * s,
+            b.records,
+            b.stamp,
+            b.held,
+            b.capacity,
         ) {
             return false;
         }
@@ -171,17 +177,18 @@ fn all_pins_fit(
     start: &[usize],
     end: &[usize],
     count: &[u64],
-    x: Small,
+    books: &[u64; 69],
 ) -> bool
-    requires { ⌜ (x .stores ≤ 8) × (x .nodes ≤ length (now len)) × (256 ≤ length (now node)) × (256 ≤ length (now start)) × (256 ≤ length (now end)) × (256 ≤ length (now count)) × ((k : ℕ) → k < x .nodes → at (now len) k ≤ 1024) × Each 0 (x .stores) (StoreCounts (booksOf x)) ⌝ }
-    ensures { λ r. ⌜ Says r (Each 0 (x .stores) (StorePins (now (len .entry)) (now (node .entry)) (now (start .entry)) (now (end .entry)) (now (count .entry)) (x .nodes) (booksOf x))) ⌝ }
+    requires { ⌜ (storesIn (now books) ≤ 8) × (nodesIn (now books) ≤ length (now len)) × (256 ≤ length (now node)) × (256 ≤ length (now start)) × (256 ≤ length (now end)) × (256 ≤ length (now count)) × ((k : ℕ) → k < nodesIn (now books) → at (now len) k ≤ 1024) × Each 0 (storesIn (now books)) (CountsFit (now books)) ⌝ }
+    ensures { λ r. ⌜ Says r (Each 0 (storesIn (now (books .entry))) (StorePins (now (len .entry)) (now (node .entry)) (now (start .entry)) (now (end .entry)) (now (count .entry)) (nodesIn (now (books .entry))) (now (books .entry)))) ⌝ }
 {
+    let nodes = books[0] as usize;
+    let stores = books[2] as usize;
     let mut s = 0;
-    while s < x.stores {
+    while s < stores {
+        let b = books::book_of(books, s);
         let a = 32 * s;
-        let n = x.entries[s];
-        let pinned = x.pinned[s];
-        if !soundstore::pins_fit(len, node, start, end, count, x.nodes, a, n, pinned) {
+        if !soundstore::pins_fit(len, node, start, end, count, nodes, a, b.entries, b.pinned) {
             return false;
         }
         s += 1;
@@ -190,15 +197,17 @@ fn all_pins_fit(
 }
 
 // Each store's marks: its 256 places of the pool of marks.
-fn all_marks_fit(len: &[usize], node: &[usize], marks: &[usize], x: Small) -> bool
-    requires { ⌜ (x .stores ≤ 8) × (x .nodes ≤ 256) × (256 ≤ length (now len)) × (1024 ≤ length (now node)) × (2048 ≤ length (now marks)) × Each 0 (x .stores) (StoreCounts (booksOf x)) × Each 0 (x .stores) (λ (s : ℕ). Each (128 * s) (128 * s + at (x .records) s) (λ (i : ℕ). at (now node) i < x .nodes)) ⌝ }
-    ensures { λ r. ⌜ Says r (Each 0 (x .stores) (StoreMarks (now (len .entry)) (now (node .entry)) (now (marks .entry)) (x .nodes) (booksOf x))) ⌝ }
+fn all_marks_fit(len: &[usize], node: &[usize], marks: &[usize], books: &[u64; 69]) -> bool
+    requires { ⌜ (storesIn (now books) ≤ 8) × (nodesIn (now books) ≤ 256) × (256 ≤ length (now len)) × (1024 ≤ length (now node)) × (2048 ≤ length (now marks)) × Each 0 (storesIn (now books)) (CountsFit (now books)) × Each 0 (storesIn (now books)) (λ (s : ℕ). Each (128 * s) (128 * s + bookIn (now books) s .records) (λ (i : ℕ). at (now node) i < nodesIn (now books))) ⌝ }
+    ensures { λ r. ⌜ Says r (Each 0 (storesIn (now (books .entry))) (StoreMarks (now (len .entry)) (now (node .entry)) (now (marks .entry)) (nodesIn (now (books .entry))) (now (books .entry)))) ⌝ }
 {
+    let nodes = books[0] as usize;
+    let stores = books[2] as usize;
     let mut s = 0;
-    while s < x.stores {
+    while s < stores {
+        let b = books::book_of(books, s);
         let a = 128 * s;
-        let b = a + x.records[s];
-        if !soundstore::marks_fit(len, node, marks, x.nodes, a, b, 256 * s) {
+        if !soundstore::marks_fit(len, node, marks, nodes, a, a + b.records, 256 * s) {
             return false;
         }
         s += 1;
@@ -207,9 +216,9 @@ fn all_marks_fit(len: &[usize], node: &[usize], marks: &[usize], x: Small) -> bo
 }
 
 // No record of the chain that begins at the link `from` has the id `y`.
-fn fresh(id: &[u64], records: &[usize; 8], prev: &[usize], from: usize, y: u64) -> bool
-    requires { ⌜ (from ≤ length (now id)) × (from ≤ length (now prev)) × Chain (idBucket (now id)) (Live (now records)) (now prev) from × ((j : ℕ) → from ≡ j + 1 → Live (now records) j × (idBucket (now id) j ≡ y % 1024)) ⌝ }
-    ensures { λ r. ⌜ Says r (Fresh (now (id .entry)) (now (records .entry)) from y) ⌝ }
+fn fresh(id: &[u64], books: &[u64; 69], prev: &[usize], from: usize, y: u64) -> bool
+    requires { ⌜ (from ≤ length (now id)) × (from ≤ length (now prev)) × Chain (idBucket (now id)) (Live (now books)) (now prev) from × ((j : ℕ) → from ≡ j + 1 → Live (now books) j × (idBucket (now id) j ≡ y % 1024)) ⌝ }
+    ensures { λ r. ⌜ Says r (Fresh (now (id .entry)) (now (books .entry)) from y) ⌝ }
 {
     let mut link = from;
     while 0 < link {
@@ -222,24 +231,26 @@ fn fresh(id: &[u64], records: &[usize; 8], prev: &[usize], from: usize, y: u64) 
     true
 }
 
-fn ids_differ(id: &[u64], records: &[usize; 8], stores: usize) -> bool
-    requires { ⌜ (stores ≤ 8) × (1024 ≤ length (now id)) ⌝ }
-    ensures { λ r. ⌜ Says r (Differ (now (id .entry)) (now (records .entry)) (128 * stores)) ⌝ }
+fn ids_differ(id: &[u64], books: &[u64; 69]) -> bool
+    requires { ⌜ (storesIn (now books) ≤ 8) × (1024 ≤ length (now id)) ⌝ }
+    ensures { λ r. ⌜ Says r (Differ (now (id .entry)) (now (books .entry)) (128 * storesIn (now (books .entry)))) ⌝ }
 {
     let mut last = [0usize; 1024];
     let mut prev = [0usize; 1024];
+    let stores = books[2] as usize;
     let n = 128 * stores;
     let mut i = 0;
     while i < n {
         let k = i;
         i += 1;
-        if records[k / 128] <= k % 128 {
+        let store = books::book_of(books, k / 128);
+        if store.records <= k % 128 {
             continue;
         }
         let y = id[k];
         let b = (y % 1024) as usize;
         let from = last[b];
-        if !fresh(id, records, &prev, from, y) {
+        if !fresh(id, books, &prev, from, y) {
             return false;
         }
         prev[k] = from;
@@ -270,12 +281,12 @@ pub fn sound_state(
     bytes: &[u64],
     x: Small,
 ) -> bool
-    ensures { λ r. ⌜ Says r (Sound (stateOf (treeOf (now (parent .entry)) (now (depth .entry)) (now (len .entry)) (now (run .entry)) (now (words .entry)) (x .nodes) (x .used)) (rangesOf (now (node .entry)) (now (start .entry)) (now (end .entry)) (now (id .entry)) (now (stamp .entry)) (now (touched .entry)) (now (write .entry))) (pinsOf (now («pin_node» .entry)) (now («pin_start» .entry)) (now («pin_end» .entry)) (now («pin_count» .entry))) (now (marks .entry)) (now (bytes .entry)) x)) ⌝ }
+    ensures { λ r. ⌜ Says r (Sound (stateOf (treeOf (now (parent .entry)) (now (depth .entry)) (now (len .entry)) (now (run .entry)) (now (words .entry)) (nodesIn (x .books)) (usedIn (x .books))) (rangesOf (now (node .entry)) (now (start .entry)) (now (end .entry)) (now (id .entry)) (now (stamp .entry)) (now (touched .entry)) (now (write .entry))) (pinsOf (now («pin_node» .entry)) (now («pin_start» .entry)) (now («pin_end» .entry)) (now («pin_count» .entry))) (now (marks .entry)) (now (bytes .entry)) (x .books))) ⌝ }
 {
     if !numbers_fit(x) {
         return false;
     }
-    if !all_counts_fit(x) {
+    if !all_counts_fit(&x.books) {
         return false;
     }
     if !ranges_lent(node, start, end, id, stamp, touched, write) {
@@ -290,20 +301,21 @@ pub fn sound_state(
     if !soundtree::table_rises(bytes) {
         return false;
     }
-    if !soundtree::tree_sound(parent, depth, len, run, words, x.nodes, x.used) {
+    let nodes = x.books[0] as usize;
+    let used = x.books[1] as usize;
+    if !soundtree::tree_sound(parent, depth, len, run, words, nodes, used) {
         return false;
     }
-    if !all_records_fit(len, node, start, end, id, stamp, touched, x) {
+    if !all_records_fit(len, node, start, end, id, stamp, touched, &x.books) {
         return false;
     }
-    if !all_pins_fit(len, pin_node, pin_start, pin_end, pin_count, x) {
+    if !all_pins_fit(len, pin_node, pin_start, pin_end, pin_count, &x.books) {
         return false;
     }
-    if !all_marks_fit(len, node, marks, x) {
+    if !all_marks_fit(len, node, marks, &x.books) {
         return false;
     }
-    let records = x.records;
-    if !ids_differ(id, &records, x.stores) {
+    if !ids_differ(id, &x.books) {
         return false;
     }
     true

@@ -13,7 +13,7 @@ use Rattle.times.specs.declared.Size.{Size}
 use Rattle.times.specs.declared.Size.the-variants.{Whole, Other}
 use Rattle.times.specs.Times.{hexText, textOf, timeText}
 use Rattle.model.specs.Sizes.{storeRecords, storePins}
-use Rattle.model.specs.State.{State, at, recordOf, entryOf}
+use Rattle.model.specs.State.{State, at, recordOf, entryOf, storesOf, recordsOf, entriesOf}
 use Rattle.model.specs.Sound.{Sound, Inside, ParentsInUse, DepthsAdd, EndsWithin, NodesFilled, RunsBelow, RecordsInside, PinsInside}
 use Rattle.statetext.specs.Text.{Wrote, Run, Nodes, Spot, SpotAt, Spots}
 
@@ -92,8 +92,8 @@ module _ (st : State) (h : Sound st) where
             };
       }
 
-  pub record-spots : (s : ℕ) → s < st .books .stores
-      → Spots 128 s (at (st .books .records) s) (st .ranges .node) (st .ranges .start) (st .ranges .end) (st .tree .depth) (st .tree .run) (st .tree .words)
+  pub record-spots : (s : ℕ) → s < storesOf st
+      → Spots 128 s (recordsOf st s) (st .ranges .node) (st .ranges .start) (st .ranges .end) (st .tree .depth) (st .tree .run) (st .tree .words)
   unfolding RecordsInside
   record-spots s less k low few =
       let i = h .inside s (omega arith) less k low few in
@@ -106,8 +106,8 @@ module _ (st : State) (h : Sound st) where
         spot = spot (recordOf st s k .node) (recordOf st s k .start) (recordOf st s k .end) (i .inUse) (i .filled) (i .ends);
       }
 
-  pub pin-spots : (s : ℕ) → s < st .books .stores
-      → Spots 32 s (at (st .books .entries) s) (st .pins .node) (st .pins .start) (st .pins .end) (st .tree .depth) (st .tree .run) (st .tree .words)
+  pub pin-spots : (s : ℕ) → s < storesOf st
+      → Spots 32 s (entriesOf st s) (st .pins .node) (st .pins .start) (st .pins .end) (st .tree .depth) (st .tree .run) (st .tree .words)
   unfolding PinsInside
   pin-spots s less k low few =
       let i = h .pinsInside s (omega arith) less k low few in

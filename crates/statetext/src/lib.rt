@@ -7,8 +7,10 @@ use answers::Plain;
 use answers::Reading;
 use answers::Resolved;
 use lent::Small;
+use model::Book;
 ghost use Prim.Native.Nat.{_+_, _≤_, _<_};
 ghost use lib.ListN.{length};
+ghost use Rattle.model.specs.State.{storesIn};
 ghost use Rattle.model.specs.Sound.{Sound};
 ghost use Rattle.answers.specs.Answers.{stateFrom};
 ghost use Rattle.statetext.specs.Text.{Wrote, PathIn, InsertIn, CountIn, ReadingIn, Run, Nodes, Spot, SpotAt, Spots};
@@ -488,14 +490,13 @@ fn put_pinned(out: &mut [u8], at: usize, capacity: u64, pinned: u64) -> usize
 }
 
 // Store s's own numbers.
-fn put_store(out: &mut [u8], at: usize, s: usize, x: Small) -> usize
+fn put_store(out: &mut [u8], at: usize, s: usize, own: Book) -> usize
     requires { ⌜ (s < 8) × (at + 256 ≤ length (now out)) ⌝ }
     ensures { λ r. ⌜ Wrote at 200 r ⌝ }
 {
-    let capacity = x.capacity[s];
-    let a = put_policy(out, at, s, capacity, x.refreshes[s]);
-    let b = put_counts(out, a, x.held[s], x.stamp[s], x.version[s]);
-    put_pinned(out, b, capacity, x.pinned[s])
+    let a = put_policy(out, at, s, own.capacity, own.policy == 1);
+    let b = put_counts(out, a, own.held, own.stamp, own.version);
+    put_pinned(out, b, own.capacity, own.pinned)
 }
 
 // ` abs=FROM-UPTO last=HASH`
@@ -759,12 +760,11 @@ fn put_whole_store(
     x: Small,
     s: usize,
 ) -> usize
-    requires { ⌜ Sound (stateFrom (now parent) (now depth) (now len) (now run) (now words) (now node) (now start) (now end) (now id) (now stamp) (now touched) (now write) (now «pin_node») (now «pin_start») (now «pin_end») (now «pin_count») (now marks) (now bytes) x) × (s < x .stores) × (at + 61440 ≤ length (now out)) ⌝ }
+    requires { ⌜ Sound (stateFrom (now parent) (now depth) (now len) (now run) (now words) (now node) (now start) (now end) (now id) (now stamp) (now touched) (now write) (now «pin_node») (now «pin_start») (now «pin_end») (now «pin_count») (now marks) (now bytes) x) × (s < storesIn (x .books)) × (at + 61440 ≤ length (now out)) ⌝ }
     ensures { λ r. ⌜ Wrote at 60928 r ⌝ }
 {
-    let records = x.records;
-    let entries = x.entries;
-    let a = put_store(out, at, s, x);
+    let own = books::book_of(&x.books, s);
+    let a = put_store(out, at, s, own);
     let b = put_records(
         out,
         a,
@@ -779,7 +779,7 @@ fn put_whole_store(
         run,
         words,
         s,
-        records[s],
+        own.records,
     );
     let c = put_pins(
         out,
@@ -792,7 +792,7 @@ fn put_whole_store(
         run,
         words,
         s,
-        entries[s],
+        own.entries,
     );
     put_marks(out, c, marks, s)
 }
@@ -803,10 +803,10 @@ fn put_head(out: &mut [u8], at: usize, x: Small) -> usize
     ensures { λ r. ⌜ Wrote at 128 r ⌝ }
 {
     let t = print::put_bytes(out, at, b"state");
-    let a = put_field(out, t, b" nodes=", x.nodes as u64);
-    let b = put_field(out, a, b" words=", x.used as u64);
-    let c = put_field(out, b, b" nextid=", x.next);
-    put_field(out, c, b" stalls=", x.stalls)
+    let a = put_field(out, t, b" nodes=", x.books[0]);
+    let b = put_field(out, a, b" words=", x.books[1]);
+    let c = put_field(out, b, b" nextid=", x.books[3]);
+    put_field(out, c, b" stalls=", x.books[4])
 }
 
 // The whole state.
@@ -836,9 +836,10 @@ pub fn put_state(
     requires { ⌜ Sound (stateFrom (now parent) (now depth) (now len) (now run) (now words) (now node) (now start) (now end) (now id) (now stamp) (now touched) (now write) (now «pin_node») (now «pin_start») (now «pin_end») (now «pin_count») (now marks) (now bytes) x) × (at + 540672 ≤ length (now out)) ⌝ }
     ensures { λ r. ⌜ Wrote at 540672 r ⌝ }
 {
-    let stores = x.stores;
+    let nodes = x.books[0] as usize;
+    let stores = x.books[2] as usize;
     let a = put_head(out, at, x);
-    let mut next = put_nodes(out, a, parent, depth, len, run, words, x.nodes);
+    let mut next = put_nodes(out, a, parent, depth, len, run, words, nodes);
     let mut s = 0;
     while s < stores {
         next = put_whole_store(

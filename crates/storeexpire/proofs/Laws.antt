@@ -6,16 +6,15 @@ use mathlib.Core.Logic.{inl, inr, ⊎-elim}
 use mathlib.Core.Path.{_≡_, refl, sym, ap, subst, _∙_}
 use mathlib.Core.List.{List, [], _∷_, _++_}
 use native.Mathlib.Omega.{arith}
-use lib.ListN.{length, take, set}
-use lib.Seq.{drop-drop, set-getD}
+use lib.ListN.{length, take}
+use lib.Seq.{drop-drop}
 use lib.Ieee.{Float}
-use mir.Val.{Fits}
-use mir.Syntax.{w64}
+use Rattle.model.specs.declared.Book.{Book}
 use Rattle.model.specs.Words.{Says}
 use Rattle.model.specs.Sizes.{versions}
-use Rattle.model.specs.State.{Ranges, Range, Books, State, at}
+use Rattle.model.specs.State.{Tree, Ranges, Pins, Range, State, nodesIn, usedIn, bookIn, storesOf, nextIdOf, bookOf, recordsOf, heldOf}
 use Rattle.model.specs.Sound.{Sound, Finite}
-use Rattle.model.specs.Store.{ranges, storeOf, lay, layRanges, total, withRanges}
+use Rattle.model.specs.Store.{ranges, storeOf, lay, layRanges, layBook, ranged, total, withRanges}
 use Rattle.model.specs.Trim.{Trimmed}
 use Rattle.model.specs.Expire.{expire}
 use Rattle.model.specs.Refusals.{First, firstOf, OutList, OutFits, noStore, badTimes, storeExpireRefusals}
@@ -27,6 +26,7 @@ use Rattle.kept.specs.StoreSound.{RangesSound, MarksSound, StoreSound}
 use Rattle.keptstate.proofs.Parts.{sound-parts}
 use Rattle.keptcalls.proofs.Accepted.{NoneHolds, unless-done}
 use Rattle.keptcalls.proofs.Stores.{store-sound}
+use Rattle.lent.specs.Lent.{stateOf}
 use Rattle.parts.specs.Parts.{mid, back, midRanges, backRanges}
 use Rattle.parts.proofs.Parts.{mid-long, ranges-part, ranges-back, ranges-sized}
 use Rattle.tree.specs.Span.{onlyDepth}
@@ -38,7 +38,6 @@ use Rattle.expire.proofs.Laws.{expired-depth}
 use Rattle.bringpart.specs.Pool.{GivenOutAt}
 use Rattle.answers.specs.Answers.{outcome}
 use Rattle.storeexpire.specs.Pool.{PoolReady}
-use Rattle.storeexpire.specs.Settled.{settledBooks}
 
 -- ---- the refusals
 
@@ -46,12 +45,12 @@ module _ (st : State) (l : OutList) (s : ℕ) (time seconds : Float) (h : Sound 
   number : (n : ℕ) → First (noStore st s ∷ badTimes time seconds ∷ []) n → n ≡ firstOf (storeExpireRefusals st l s time seconds)
   number n f = sym (first-is (storeExpireRefusals st l s time seconds) (storeExpire-exact st l s time seconds) n (inr (λ g. g h, inr (λ g. g fits, f))))
 
-  module _ (stores : ℕ) (is : st .books .stores ≡ stores) where
+  module _ (stores : ℕ) (is : storesOf st ≡ stores) where
     pub refused-store : stores ≤ s → 2 ≡ firstOf (storeExpireRefusals st l s time seconds)
     refused-store k = number 2 (inl (omega arith, refl))
 
     module _ (k : s < stores) where
-      used : st .books .stores ≤ s → ⊥
+      used : storesOf st ≤ s → ⊥
       used e = omega arith
 
       pub refused-time : (b : Bool) → Says b (Finite time) → not b ≡ true → 5 ≡ firstOf (storeExpireRefusals st l s time seconds)
@@ -97,36 +96,6 @@ module _ {depth bytes : List ℕ} {s n h : ℕ} {c : Ranges} {ms : List ℕ} {l 
         let f = ranges-part c (128 * s) 128 n (p .part .few) in
         rw (ea, eb) (given-at _ long (rw f at (rw (ea, eb) at v)))
 
--- ---- the small numbers
-
-pub index-fits : {s : ℕ} → s < 8 → Fits w64 (s * 8)
-index-fits h = omega arith
-
--- the state by its columns, marks and books
-abbrev stateWith : State → Ranges → List ℕ → Books → State
-stateWith st c ms b = record { tree = st .tree; ranges = c; pins = st .pins; marks = ms; bytes = st .bytes; books = b }
-
--- the books of store s by what changes
-abbrev booksBy : ℕ → Books → ℕ → ℕ → List ℕ → ℕ → Books
-booksBy s x records held stamp version =
-    record {
-      stores = x .stores;
-      nextId = x .nextId;
-      stalls = x .stalls;
-      capacity = x .capacity;
-      refreshes = x .refreshes;
-      records = set (x .records) s records;
-      held = set (x .held) s held;
-      stamp = stamp;
-      version = set (x .version) s version;
-      entries = x .entries;
-      pinned = x .pinned;
-    }
-
-pub books-settled : (s : ℕ) (r : Expiring) (x : Books) (v : ℕ) → v ≡ (at (x .version) s + r .outs) % versions
-    → booksBy s x (r .n) (r .held) (x .stamp) v ≡ settledBooks s r x
-books-settled s r x v e = λ j. booksBy s x (r .n) (r .held) (x .stamp) (e j)
-
 -- ---- the call
 
 module _ {L A : Type 0} (st : State) (l : L) (o : Outcome L A) where
@@ -151,59 +120,68 @@ module _ (st : State) (l : OutList) (s : ℕ) (time seconds : Float) where
     unfolding storeExpire
     none-holds = unless-done _ _ _ (storeExpire-kept st l s time seconds) _ (ap (λ o. o .answer) (unless-none st l _ (firstOf (storeExpireRefusals st l s time seconds)) none)) .none
 
-    less : s < st .books .stores
+    less : s < storesOf st
     less = let f = none-holds .1 .1 .0 in omega arith
 
-    own : StoreSound (st .tree) (st .books .nextId) (storeOf st s)
+    own : StoreSound (st .tree) (nextIdOf st) (storeOf st s)
     own = store-sound st s h less
 
     pub store-in : s < 8
     store-in = omega (arith, less, h .counts .stores)
 
-    few : at (st .books .records) s ≤ 128
+    few : recordsOf st s ≤ 128
     few = h .counts .each s (omega arith) less .records
 
-    read : ranges (midRanges (128 * s) 128 (st .ranges)) 0 (at (st .books .records) s) ≡ storeOf st s .ranges
+    read : ranges (midRanges (128 * s) 128 (st .ranges)) 0 (recordsOf st s) ≡ storeOf st s .ranges
     unfolding storeOf
-    read = ranges-part (st .ranges) (128 * s) 128 (at (st .books .records) s) few
+    read = ranges-part (st .ranges) (128 * s) 128 (recordsOf st s) few
 
-    ready : Ready (st .tree .depth) (st .bytes) (at (st .books .records) s) (at (st .books .held) s) (midRanges (128 * s) 128 (st .ranges))
+    ready : Ready (st .tree .depth) (st .bytes) (recordsOf st s) (heldOf st s) (midRanges (128 * s) 128 (st .ranges))
         (mid (256 * s) 256 (st .marks)) l
     unfolding storeOf
     ready =
-        sound-ready {t = st .tree} {next = st .books .nextId} {top = storeOf st s .stamp} (sound-parts st h .tree) (h .table) (h .lent .bytes)
+        sound-ready {t = st .tree} {next = nextIdOf st} {top = storeOf st s .book .stamp} (sound-parts st h .tree) (h .table) (h .lent .bytes)
         (ranges-sized (128 * s) (st .ranges) (h .lent .ranges) (omega (arith, store-in))) few
-        (subst (λ (rs : List Range). RangesSound (st .tree) (st .books .nextId) (storeOf st s .stamp) rs) (sym read) (own .ranges))
+        (subst (λ (rs : List Range). RangesSound (st .tree) (nextIdOf st) (storeOf st s .book .stamp) rs) (sym read) (own .ranges))
         (own .held ∙ ap total (sym read))
         (subst (λ (rs : List Range). MarksSound (st .tree) rs (storeOf st s .marks)) (sym read) (own .marks)) fits
-
-    pub pool-in : PoolReady (st .tree .depth) (st .bytes) s (at (st .books .records) s) (at (st .books .held) s) (st .ranges) (st .marks) l
-    pool-in = record { store = store-in; ranges = h .lent .ranges; marks = h .lent .marks; part = ready }
 
     -- what goes of the store
     abbrev gone : Trimmed
     gone = expired (st .tree) (st .bytes) time seconds (storeOf st s .ranges) (storeOf st s .marks)
 
-    stamp-left : st .books .stamp ≡ set (st .books .stamp) s (storeOf st s .stamp)
-    unfolding storeOf
-    stamp-left = sym (set-getD (st .books .stamp) s 0)
+    module _ (b : Book) (is : b ≡ bookOf st s) where
+      pub pool-in : PoolReady (st .tree .depth) (st .bytes) s (b .records) (b .held) (st .ranges) (st .marks) l
+      pool-in = rw is (record { store = store-in; ranges = h .lent .ranges; marks = h .lent .marks; part = ready })
 
-    module _ {c : Ranges} {ms : List ℕ} {lʹ : OutList} {r : Expiring} where
-      given-in : GivenOutAt s (expired (onlyDepth (st .tree .depth)) (st .bytes) time seconds (ranges (st .ranges) (128 * s) (at (st .books .records) s)) (mid (256 * s) 256 (st .marks))) (at (st .books .records) s) (st .ranges) (st .marks) l c ms lʹ (r .n) (r .held) (r .outs) false
-          → GivenOutAt s gone (at (st .books .records) s) (st .ranges) (st .marks) l c ms lʹ (r .n) (r .held) (r .outs) false
-      unfolding storeOf
-      given-in u = rw (expired-depth (st .tree)) at u
+      module _ {c : Ranges} {ms : List ℕ} {lʹ : OutList} {r : Expiring} where
+        given-in : GivenOutAt s (expired (onlyDepth (st .tree .depth)) (st .bytes) time seconds (ranges (st .ranges) (128 * s) (b .records)) (mid (256 * s) 256 (st .marks))) (b .records) (st .ranges) (st .marks) l c ms lʹ (r .n) (r .held) (r .outs) false
+            → GivenOutAt s gone (recordsOf st s) (st .ranges) (st .marks) l c ms lʹ (r .n) (r .held) (r .outs) false
+        unfolding storeOf
+        given-in u = rw (expired-depth (st .tree), is) at u
 
-      call-laid : GivenOutAt s gone (at (st .books .records) s) (st .ranges) (st .marks) l c ms lʹ (r .n) (r .held) (r .outs) false
-          → outcome (stateWith st c ms (settledBooks s r (st .books))) lʹ (done (r .outs)) ≡ storeExpire st l s time seconds
-      unfolding storeExpire withRanges expire expired storeOf
-      call-laid u =
-          let more : at (st .books .records) s ≡ at (st .books .records) s + 0 = omega arith in
-          let cols = u .cols ∙ ap (λ (k : ℕ). layRanges (128 * s) k (gone .ranges) (st .ranges)) more in
-          (λ j. outcome (stateWith st (cols j) (u .marks j) (booksBy s (st .books) (u .records j) (u .held j) (stamp-left j) ((at (st .books .version) s + u .outs j) % versions))) (u .lists j) (done (u .outs j)))
-          ∙ sym (unless-none st l _ (firstOf (storeExpireRefusals st l s time seconds)) none)
+        call-laid : GivenOutAt s gone (recordsOf st s) (st .ranges) (st .marks) l c ms lʹ (r .n) (r .held) (r .outs) false
+            → (v : ℕ) → v ≡ (b .version + r .outs) % versions
+            → outcome (stateOf (st .tree) c (st .pins) ms (st .bytes) (layBook s (ranged b (r .n) (r .held) (b .stamp) v) (st .books))) lʹ (done (r .outs)) ≡ storeExpire st l s time seconds
+        unfolding storeExpire withRanges expire expired storeOf
+        call-laid u v e =
+            let more : recordsOf st s ≡ recordsOf st s + 0 = omega arith in
+            let cols = u .cols ∙ ap (λ (k : ℕ). layRanges (128 * s) k (gone .ranges) (st .ranges)) more in
+            let next = e ∙ (λ j. (is j .version + u .outs j) % versions) in
+            (λ j. outcome (stateOf (st .tree) (cols j) (st .pins) (u .marks j) (st .bytes) (layBook s (ranged (is j) (u .records j) (u .held j) (is j .stamp) (next j)) (st .books))) (u .lists j) (done (u .outs j)))
+            ∙ sym (unless-none st l _ (firstOf (storeExpireRefusals st l s time seconds)) none)
 
-      pub call-done : (st′ : State) {bs : Books} → st′ ≡ stateWith st c ms bs → bs ≡ settledBooks s r (st .books)
-          → GivenOutAt s (expired (onlyDepth (st .tree .depth)) (st .bytes) time seconds (ranges (st .ranges) (128 * s) (at (st .books .records) s)) (mid (256 * s) 256 (st .marks))) (at (st .books .records) s) (st .ranges) (st .marks) l c ms lʹ (r .n) (r .held) (r .outs) false
-          → outcome st′ lʹ (done (r .outs)) ≡ storeExpire st l s time seconds
-      call-done st′ e d u = (λ j. outcome (e j) lʹ (done (r .outs))) ∙ (λ j. outcome (stateWith st c ms (d j)) lʹ (done (r .outs))) ∙ call-laid (given-in u)
+-- The same of the columns: rs, ps, ms and table are the pools at entry, ns the small numbers, T the tree with so many nodes and hash words
+module _ (T : ℕ → ℕ → Tree) (rs : Ranges) (ps : Pins) (ms table ns : List ℕ) (l : OutList) (s : ℕ) (time seconds : Float) where
+  abbrev here : State
+  here = stateOf (T (nodesIn ns) (usedIn ns)) rs ps ms table ns
+
+  module _ (h : Sound here) (fits : OutFits l) (n : ℕ) (number : n ≡ firstOf (storeExpireRefusals here l s time seconds)) (zero : n ≡ 0) (b : Book) (is : b ≡ bookIn ns s) where
+    pub call-done : {c : Ranges} {ks : List ℕ} {lʹ : OutList} {r : Expiring}
+        → GivenOutAt s (expired (onlyDepth (T (nodesIn ns) (usedIn ns) .depth)) table time seconds (ranges rs (128 * s) (b .records)) (mid (256 * s) 256 ms)) (b .records) rs ms l c ks lʹ (r .n) (r .held) (r .outs) false
+        → (v : ℕ) → v ≡ (b .version + r .outs) % versions → (new : List ℕ) → new ≡ layBook s (ranged b (r .n) (r .held) (b .stamp) v) ns
+        → outcome (stateOf (T (nodesIn new) (usedIn new)) c ps ks table new) lʹ (done (r .outs)) ≡ storeExpire here l s time seconds
+    unfolding layBook
+    call-done {c} {ks} {lʹ} {r} u v e new d =
+        (λ j. outcome (stateOf (T (nodesIn (d j)) (usedIn (d j))) c ps ks table (d j)) lʹ (done (r .outs)))
+        ∙ call-laid here l s time seconds h fits n number zero b is {r = r} (given-in here l s time seconds h fits n number zero b is {r = r} u) v e

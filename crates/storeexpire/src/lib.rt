@@ -4,8 +4,8 @@ use expire::Expiring;
 use lent::Small;
 ghost use mathlib.Core.Path.{_≡_};
 ghost use mathlib.Core.Bool.{false};
-ghost use Prim.Native.Nat.{_*_, _<_};
-ghost use Rattle.model.specs.State.{State};
+ghost use Prim.Native.Nat.{_*_};
+ghost use Rattle.model.specs.State.{State, storesOf};
 ghost use Rattle.model.specs.Sound.{Sound};
 ghost use Rattle.model.specs.Store.{ranges};
 ghost use Rattle.model.specs.Refusals.{OutList, OutFits, firstOf, storeExpireRefusals};
@@ -18,11 +18,10 @@ ghost use Rattle.expire.specs.Expire.{expired};
 ghost use Rattle.bringpart.specs.Pool.{GivenOutAt};
 ghost use Rattle.answers.specs.Answers.{stateFrom, outcome, countOf};
 ghost use Rattle.storeexpire.specs.Pool.{PoolReady};
-ghost use Rattle.storeexpire.specs.Settled.{Settled};
 
 // What an expiry in a sound state is refused for, the lists long enough: 2, 5 or nothing, 0.
 fn refusal(stores: usize, s: usize, time: f64, seconds: f64) -> u8
-    ensures { λ r. ⌜ ((st : State) (l : OutList) → Sound st → OutFits l → st .books .stores ≡ stores → r ≡ firstOf (storeExpireRefusals st l s time seconds)) ⌝ }
+    ensures { λ r. ⌜ ((st : State) (l : OutList) → Sound st → OutFits l → storesOf st ≡ stores → r ≡ firstOf (storeExpireRefusals st l s time seconds)) ⌝ }
 {
     if stores <= s {
         return 2;
@@ -91,18 +90,6 @@ fn expire_pools(
     )
 }
 
-// The small numbers after an expiry of store s.
-fn settle(x: Small, s: usize, r: Expiring) -> Small
-    requires { ⌜ s < 8 ⌝ }
-    ensures { λ y. ⌜ Settled s r x y ⌝ }
-{
-    let mut y = x;
-    y.records[s] = r.n;
-    y.held[s] = r.held;
-    y.version[s] = std::num::wrapping_add_u64(x.version[s], r.outs as u64);
-    y
-}
-
 // The ranges of store s of a sound state that were touched more than the seconds ago, oldest first, pinned or not, given out.
 pub fn store_expire(
     parent: &[usize],
@@ -137,15 +124,17 @@ pub fn store_expire(
     requires { ⌜ Sound (stateFrom (now parent) (now depth) (now len) (now run) (now words) (now node) (now start) (now end) (now id) (now stamp) (now touched) (now write) (now «pin_node») (now «pin_start») (now «pin_end») (now «pin_count») (now marks) (now bytes) x) × OutFits (outList (now «out_node») (now «out_start») (now «out_end») (now «out_write») (now «out_bytes») (now «out_dead»)) ⌝ }
     ensures { λ r. ⌜ outcome (stateFrom (now (parent .entry)) (now (depth .entry)) (now (len .entry)) (now (run .entry)) (now (words .entry)) (now (node .exit)) (now (start .exit)) (now (end .exit)) (now (id .exit)) (now (stamp .exit)) (now (touched .exit)) (now (write .exit)) (now («pin_node» .entry)) (now («pin_start» .entry)) (now («pin_end» .entry)) (now («pin_count» .entry)) (now (marks .exit)) (now (bytes .entry)) (r .small)) (outList (now («out_node» .exit)) (now («out_start» .exit)) (now («out_end» .exit)) (now («out_write» .exit)) (now («out_bytes» .exit)) (now («out_dead» .exit))) (countOf (r .answer)) ≡ storeExpire (stateFrom (now (parent .entry)) (now (depth .entry)) (now (len .entry)) (now (run .entry)) (now (words .entry)) (now (node .entry)) (now (start .entry)) (now (end .entry)) (now (id .entry)) (now (stamp .entry)) (now (touched .entry)) (now (write .entry)) (now («pin_node» .entry)) (now («pin_start» .entry)) (now («pin_end» .entry)) (now («pin_count» .entry)) (now (marks .entry)) (now (bytes .entry)) x) (outList (now («out_node» .entry)) (now («out_start» .entry)) (now («out_end» .entry)) (now («out_write» .entry)) (now («out_bytes» .entry)) (now («out_dead» .entry))) s time seconds ⌝ }
 {
-    let number = refusal(x.stores, s, time, seconds);
+    let stores = x.books[2] as usize;
+    let number = refusal(stores, s, time, seconds);
     if number != 0 {
         return Counted {
             small: x,
             answer: Count::Refused(number),
         };
     }
-    let records = x.records;
-    let held = x.held;
+    let mut b = books::book_of(&x.books, s);
+    let n = b.records;
+    let held = b.held;
     let r = expire_pools(
         node,
         start,
@@ -164,12 +153,16 @@ pub fn store_expire(
         depth,
         bytes,
         s,
-        records[s],
-        held[s],
+        n,
+        held,
         time,
         seconds,
     );
-    let y = settle(x, s, r);
+    b.records = r.n;
+    b.held = r.held;
+    b.version = std::num::wrapping_add_u64(b.version, r.outs as u64);
+    let mut y = x;
+    books::put_book(&mut y.books, s, b);
     Counted {
         small: y,
         answer: Count::Done(r.outs as u64),

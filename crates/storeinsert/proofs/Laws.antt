@@ -11,8 +11,9 @@ use lib.Dec.{ltb}
 use lib.ListN.{length}
 use lib.Ieee.{Float}
 use Rattle.model.specs.declared.Span.{Span}
+use Rattle.model.specs.declared.Book.{Book}
 use Rattle.model.specs.Sizes.{storeRecords, maxStamp}
-use Rattle.model.specs.State.{Range, Books, State, at}
+use Rattle.model.specs.State.{Range, State, storesOf, nextIdOf, bookOf, capacityOf, recordsOf, stampOf}
 use Rattle.model.specs.Sound.{Sound, Finite}
 use Rattle.model.specs.SoundTest.{finite}
 use Rattle.model.specs.Store.{storeOf, ranges}
@@ -93,12 +94,12 @@ unless-none k st l o e = sym (ap (λ (m : ℕ). unless m st l o) e)
 -- ---- the tests for 2, 4 and 5
 
 module _ (st : State) (s : ℕ) (sp : Span) (time : Float) where
-  pub no-store : (n : ℕ) → st .books .stores ≡ n → n ≤ s → 2 ≡ firstOf (argumentRefusals st s sp time)
-  no-store n e h = hit (noStore st s) (badSpan st sp ∷ badTime time ∷ []) (le-leb (st .books .stores) s (omega arith))
+  pub no-store : (n : ℕ) → storesOf st ≡ n → n ≤ s → 2 ≡ firstOf (argumentRefusals st s sp time)
+  no-store n e h = hit (noStore st s) (badSpan st sp ∷ badTime time ∷ []) (le-leb (storesOf st) s (omega arith))
 
-  module _ (n : ℕ) (e : st .books .stores ≡ n) (h : s < n) where
+  module _ (n : ℕ) (e : storesOf st ≡ n) (h : s < n) where
     store-passes : firstOf (argumentRefusals st s sp time) ≡ firstOf (badSpan st sp ∷ badTime time ∷ [])
-    store-passes = pass (noStore st s) (badSpan st sp ∷ badTime time ∷ []) (lt-leb (st .books .stores) s (omega arith))
+    store-passes = pass (noStore st s) (badSpan st sp ∷ badTime time ∷ []) (lt-leb (storesOf st) s (omega arith))
 
     pub bad-span : (b : Bool) → b ≡ spanIn (st .tree) sp → not b ≡ true → 4 ≡ firstOf (argumentRefusals st s sp time)
     bad-span b d q = hit (badSpan st sp) (badTime time ∷ []) (ap not (sym d) ∙ q) ∙ sym store-passes
@@ -125,72 +126,80 @@ or-second false b e = e
 or-none : (a b : Bool) → a ≡ false → b ≡ false → (a || b) ≡ false
 or-none a b e d = rw e d
 
-module _ (st : State) (s n : ℕ) (x : Books) (e : st .books ≡ x) where
-  records-are : at (st .books .records) s ≡ at (x .records) s
-  records-are = ap (λ (b : Books). at (b .records) s) e
+module _ (st : State) (s n : ℕ) (b : Book) (next : ℕ) (e : bookOf st s ≡ b) (d : nextIdOf st ≡ next) where
+  records-are : recordsOf st s ≡ b .records
+  records-are = ap (λ (k : Book). k .records) e
 
-  stamp-is : at (st .books .stamp) s ≡ at (x .stamp) s
-  stamp-is = ap (λ (b : Books). at (b .stamp) s) e
+  stamp-is : stampOf st s ≡ b .stamp
+  stamp-is = ap (λ (k : Book). k .stamp) e
 
-  next-is : st .books .nextId ≡ x .nextId
-  next-is = ap (λ (b : Books). b .nextId) e
+  pub few-records : storeRecords < b .records + n → 8 ≡ firstOf (needRefusals st s n)
+  few-records h = hit (fewRecords st s n) (lateStamp st s n n ∷ []) (lt-ltb storeRecords (recordsOf st s + n) (omega (arith, records-are)))
 
-  pub few-records : storeRecords < at (x .records) s + n → 8 ≡ firstOf (needRefusals st s n)
-  few-records h = hit (fewRecords st s n) (lateStamp st s n n ∷ []) (lt-ltb storeRecords (at (st .books .records) s + n) (omega (arith, records-are)))
-
-  module _ (room : at (x .records) s + n ≤ storeRecords) where
+  module _ (room : b .records + n ≤ storeRecords) where
     records-pass : firstOf (needRefusals st s n) ≡ firstOf (lateStamp st s n n ∷ [])
-    records-pass = pass (fewRecords st s n) (lateStamp st s n n ∷ []) (le-ltb storeRecords (at (st .books .records) s + n) (omega (arith, records-are)))
+    records-pass = pass (fewRecords st s n) (lateStamp st s n n ∷ []) (le-ltb storeRecords (recordsOf st s + n) (omega (arith, records-are)))
 
-    pub late-stamp : maxStamp < at (x .stamp) s + n → 11 ≡ firstOf (needRefusals st s n)
+    pub late-stamp : maxStamp < b .stamp + n → 11 ≡ firstOf (needRefusals st s n)
     late-stamp h =
         hit (lateStamp st s n n) []
-        (or-first (ltb maxStamp (at (st .books .stamp) s + n)) (ltb maxStamp (st .books .nextId + n)) (lt-ltb maxStamp (at (st .books .stamp) s + n) (omega (arith, stamp-is))))
+        (or-first (ltb maxStamp (stampOf st s + n)) (ltb maxStamp (nextIdOf st + n)) (lt-ltb maxStamp (stampOf st s + n) (omega (arith, stamp-is))))
         ∙ sym records-pass
 
-    pub late-id : maxStamp < x .nextId + n → 11 ≡ firstOf (needRefusals st s n)
+    pub late-id : maxStamp < next + n → 11 ≡ firstOf (needRefusals st s n)
     late-id h =
         hit (lateStamp st s n n) []
-        (or-second (ltb maxStamp (at (st .books .stamp) s + n)) (ltb maxStamp (st .books .nextId + n)) (lt-ltb maxStamp (st .books .nextId + n) (omega (arith, next-is))))
+        (or-second (ltb maxStamp (stampOf st s + n)) (ltb maxStamp (nextIdOf st + n)) (lt-ltb maxStamp (nextIdOf st + n) (omega (arith, d))))
         ∙ sym records-pass
 
-    pub need-passes : at (x .stamp) s + n ≤ maxStamp → x .nextId + n ≤ maxStamp → 0 ≡ firstOf (needRefusals st s n)
+    pub need-passes : b .stamp + n ≤ maxStamp → next + n ≤ maxStamp → 0 ≡ firstOf (needRefusals st s n)
     need-passes h k =
         sym (records-pass ∙ pass (lateStamp st s n n) []
-        (or-none (ltb maxStamp (at (st .books .stamp) s + n)) (ltb maxStamp (st .books .nextId + n)) (le-ltb maxStamp (at (st .books .stamp) s + n) (omega (arith, stamp-is)))
-        (le-ltb maxStamp (st .books .nextId + n) (omega (arith, next-is)))))
+        (or-none (ltb maxStamp (stampOf st s + n)) (ltb maxStamp (nextIdOf st + n)) (le-ltb maxStamp (stampOf st s + n) (omega (arith, stamp-is)))
+        (le-ltb maxStamp (nextIdOf st + n) (omega (arith, d)))))
 
 -- ---- the gaps of a store's part are those of the store
 
 pub width : (s : ℕ) → (128 * s + 128) - 128 * s ≡ 128
 width s = omega arith
 
-pub gaps-part : (st : State) (s w n : ℕ) (sp : Span) (g : Gaps) (node start end records : List ℕ) → w ≡ 128 → n ≤ 128 → n ≡ at records s
+pub gaps-part : (st : State) (s w n : ℕ) (sp : Span) (g : Gaps) (node start end : List ℕ) → w ≡ 128 → n ≤ 128
     → ((id stamp write : List ℕ) (touched : List Float)
     → gapsOf g ≡ gaps (sp .node) (ranges (rangesOf (mid (128 * s) w node) (mid (128 * s) w start) (mid (128 * s) w end) id stamp touched write) 0 n) (sp .start) (sp .end))
-    → st .ranges .node ≡ node → st .ranges .start ≡ start → st .ranges .end ≡ end → st .books .records ≡ records
+    → st .ranges .node ≡ node → st .ranges .start ≡ start → st .ranges .end ≡ end → recordsOf st s ≡ n
     → gapsOf g ≡ gaps (sp .node) (storeOf st s .ranges) (sp .start) (sp .end)
 unfolding storeOf midRanges
-gaps-part st s w n sp g node start end records e few k f a b c d =
+gaps-part st s w n sp g node start end e few f a b c d =
     let q = st .ranges in
     f (mid (128 * s) w (q .id)) (mid (128 * s) w (q .stamp)) (mid (128 * s) w (q .write)) (mid (128 * s) w (q .touched))
     ∙ (λ j. gaps (sp .node) (ranges (rangesOf (mid (128 * s) w (sym a j)) (mid (128 * s) w (sym b j)) (mid (128 * s) w (sym c j)) (mid (128 * s) w (q .id)) (mid (128 * s) w (q .stamp)) (mid (128 * s) w (q .touched)) (mid (128 * s) w (q .write))) 0 n) (sp .start) (sp .end))
     ∙ (λ j. gaps (sp .node) (ranges (midRanges (128 * s) (e j) q) 0 n) (sp .start) (sp .end))
-    ∙ ap (λ (rs : List Range). gaps (sp .node) rs (sp .start) (sp .end)) (ranges-part q (128 * s) 128 n few ∙ ap (λ (m : ℕ). ranges q (128 * s) m) (k ∙ sym (ap (λ (r : List ℕ). at r s) d)))
+    ∙ ap (λ (rs : List Range). gaps (sp .node) rs (sp .start) (sp .end)) (ranges-part q (128 * s) 128 n few ∙ ap (λ (m : ℕ). ranges q (128 * s) m) (sym d))
 
 -- ---- what a sound state gives the calls
 
-pub in-eight : {st : State} {s : ℕ} → Sound st → s < st .books .stores → s < 8
+pub in-eight : {st : State} {s : ℕ} → Sound st → s < storesOf st → s < 8
 in-eight h l = omega (arith, h .counts .stores)
 
 pub nodes-lent : {st : State} → Sound st → st .tree .nodes ≤ length (st .tree .len)
 nodes-lent h = omega (arith, h .counts .nodes, h .lent .tree .len)
 
-pub gaps-asked : {st : State} {l : OutList} {s : ℕ} {sp : Span} {time : Float} → KeepReady st l s sp time
-    → (s < 8) × (at (st .books .records) s ≤ 128) × (1024 ≤ length (st .ranges .node)) × (1024 ≤ length (st .ranges .start)) × (1024 ≤ length (st .ranges .end))
-gaps-asked {st} {l} {s} {sp} {time} p =
+pub gaps-asked : {st : State} {l : OutList} {s : ℕ} {sp : Span} {time : Float} → KeepReady st l s sp time → (b : Book) → b ≡ bookOf st s
+    → (s < 8) × (b .records ≤ 128) × (1024 ≤ length (st .ranges .node)) × (1024 ≤ length (st .ranges .start)) × (1024 ≤ length (st .ranges .end))
+gaps-asked {st} {l} {s} {sp} {time} p b is =
     let r = p .sound .lent .ranges in
-    (in-eight (p .sound) (p .store), p .sound .counts .each s zero-le (p .store) .records, r .node, r .start, r .end)
+    (in-eight (p .sound) (p .store), rw is (p .sound .counts .each s zero-le (p .store) .records), r .node, r .start, r .end)
+
+-- a store's numbers that were read are its own
+module _ {b c : Book} (is : b ≡ c) where
+  pub records-read : c .records ≡ b .records
+  records-read = ap (λ (k : Book). k .records) (sym is)
+
+  pub none-read : b .capacity ≡ 0 → c .capacity ≡ 0
+  none-read e = ap (λ (k : Book). k .capacity) (sym is) ∙ e
+
+  pub some-read : (b .capacity ≡ 0 → ⊥) → c .capacity ≡ 0 → ⊥
+  some-read n e = n (ap (λ (k : Book). k .capacity) is ∙ e)
 
 -- a number that is not above 0 is none
 pub is-none : {n k : ℕ} → n ≤ 0 → n ≡ k → 0 ≡ k
@@ -199,13 +208,13 @@ is-none h e = omega arith
 -- ---- the whole call on a sound state
 
 -- where the arguments pass, the need decides
-need-decides : (st : State) (l : OutList) (s : ℕ) (sp : Span) (time : Float) → Sound st → OutFits l → s < st .books .stores → SpanIn (st .tree) sp → Finite time
+need-decides : (st : State) (l : OutList) (s : ℕ) (sp : Span) (time : Float) → Sound st → OutFits l → s < storesOf st → SpanIn (st .tree) sp → Finite time
     → firstOf (storeInsertRefusals st l s sp time) ≡ firstOf (needRefusals st s (bringNeed (storeOf st s) sp))
 need-decides st l s sp time h fits store span known =
     let x = storeInsert-exact st l s sp time in
     first-behind (unsound st ∷ shortOuts l ∷ argumentRefusals st s sp time) (needRefusals st s (bringNeed (storeOf st s) sp))
     (x .0, (x .1 .0, (x .1 .1 .0, (x .1 .1 .1 .0, (x .1 .1 .1 .1 .0, tt)))))
-    (λ n. n h, (λ n. n fits, (λ (n : st .books .stores ≤ s). omega arith, (λ n. n span, (λ n. n known, tt)))))
+    (λ n. n h, (λ n. n fits, (λ (n : storesOf st ≤ s). omega arith, (λ n. n span, (λ n. n known, tt)))))
 
 module _ (st : State) (l : OutList) (s : ℕ) (sp : Span) (time : Float) (h : Sound st) (fits : OutFits l) where
   abbrev need : ℕ
@@ -231,38 +240,41 @@ module _ (st : State) (l : OutList) (s : ℕ) (sp : Span) (time : Float) (h : So
 
   -- ---- a store, a span and a time that 01 takes
 
-  module _ (e : 0 ≡ firstOf (argumentRefusals st s sp time)) where
-    pub store-there : s < st .books .stores
-    store-there = let n : st .books .stores ≤ s → ⊥ = passed e .0 in omega arith
+  module _ (n : ℕ) (low : n ≤ 0) (is : n ≡ firstOf (argumentRefusals st s sp time)) where
+    accepted : NoneHolds (argumentRefusals st s sp time)
+    accepted = passed (is-none low is)
+
+    pub store-there : s < storesOf st
+    store-there = let h : storesOf st ≤ s → ⊥ = accepted .0 in omega arith
 
     pub span-there : SpanIn (st .tree) sp
-    span-there = span-in (st .tree) sp (passed e .1 .0)
+    span-there = span-in (st .tree) sp (accepted .1 .0)
 
     pub time-finite : Finite time
-    time-finite = is-finite time (passed e .1 .1 .0)
+    time-finite = is-finite time (accepted .1 .1 .0)
 
     pub priced : Priced (st .tree .depth) (st .bytes) sp
     priced = let i = span-there in sound-priced st h sp (i .node) (omega arith) (i .ends)
 
-    pub keep-ready : (at (st .books .capacity) s ≡ 0 → ⊥) → KeepReady st l s sp time
+    pub keep-ready : (capacityOf st s ≡ 0 → ⊥) → KeepReady st l s sp time
     keep-ready some = record { sound = h; fits = fits; store = store-there; span = span-there; finite = time-finite; some = some }
 
     -- with capacity 0 nothing is needed, so 8 and 11 pass
-    module _ (none : at (st .books .capacity) s ≡ 0) (w : ℕ) where
+    module _ (none : capacityOf st s ≡ 0) (w : ℕ) where
       gives : (need ≡ 0) × (brought st s sp time w ≡ giveBack (st .tree) (st .bytes) (storeOf st s) sp w)
       unfolding brought storeOf
       gives =
-          bring-cases (st .tree) (st .bytes) (st .books .nextId) (storeOf st s) sp time w
+          bring-cases (st .tree) (st .bytes) (nextIdOf st) (storeOf st s) sp time w
           (λ k b. (k ≡ 0) × (b ≡ giveBack (st .tree) (st .bytes) (storeOf st s) sp w)) (λ z. (refl, refl)) (λ n. absurd (n none))
 
       nothing-needed : 0 ≡ firstOf (needRefusals st s need)
       nothing-needed =
           let c = h .counts .each s zero-le store-there in
-          need-passes st s need (st .books) refl (omega (arith, gives .0)) (omega (arith, gives .0)) (omega (arith, gives .0, h .counts .nextId))
+          need-passes st s need (bookOf st s) (nextIdOf st) refl refl (omega (arith, gives .0)) (omega (arith, gives .0)) (omega (arith, gives .0, h .counts .nextId))
 
       same-state : bringIn st s sp time w ≡ st
       unfolding bringIn
-      same-state = go (at (st .books .capacity) s) _ none
+      same-state = go (capacityOf st s) _ none
         where
           go : (c : ℕ) (b : ℕ → State) → c ≡ 0 → elim c [ zero ↦ st | suc d ↦ b d ] ≡ st
           go zero b q = refl
@@ -290,7 +302,7 @@ module _ {st : State} {l : OutList} {s : ℕ} {sp : Span} {time : Float} (p : Ke
   unfolding storeOf
   kept-is =
       sym (gaps-length (g .from) (g .upto) (g .n)) ∙ ap length is
-      ∙ bring-cases (st .tree) (st .bytes) (st .books .nextId) (storeOf st s) sp time 0
+      ∙ bring-cases (st .tree) (st .bytes) (nextIdOf st) (storeOf st s) sp time 0
       (λ k b. length (gaps (sp .node) (storeOf st s .ranges) (sp .start) (sp .end)) ≡ k) (λ z. absurd (p .some z)) (λ z. refl)
 
   need-first : firstOf (storeInsertRefusals st l s sp time) ≡ firstOf (needRefusals st s (g .n))

@@ -5,7 +5,7 @@ use mathlib.Core.Path.{_≡_}
 use mathlib.Core.List.{List, [], _∷_}
 use lib.Ieee.{Float}
 use Rattle.model.specs.declared.Span.{Span}
-use Rattle.model.specs.State.{State, at}
+use Rattle.model.specs.State.{State, storesOf, capacityOf}
 use Rattle.model.specs.Sound.{Sound, Finite}
 use Rattle.model.specs.Refusals.{Condition, OutList, OutFits, SpanIn, noStore, badSpan, badTime, fewRecords, lateStamp}
 
@@ -20,7 +20,7 @@ needRefusals st s need = fewRecords st s need ∷ lateStamp st s need need ∷ [
 pub record KeepReady (st : State) (l : OutList) (s : ℕ) (sp : Span) (time : Float) : Type 0 where
   pub sound : Sound st
   pub fits : OutFits l
-  pub store : s < st .books .stores
+  pub store : s < storesOf st
   pub span : SpanIn (st .tree) sp
   pub finite : Finite time
-  pub some : at (st .books .capacity) s ≡ 0 → ⊥
+  pub some : capacityOf st s ≡ 0 → ⊥

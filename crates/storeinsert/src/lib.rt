@@ -2,31 +2,31 @@ use answers::Count;
 use answers::Counted;
 use gaps::Gaps;
 use lent::Small;
+use model::Book;
 use model::Span;
 ghost use mathlib.Core.Path.{_≡_};
-ghost use Prim.Native.Nat.{_+_, _≤_, _<_};
+ghost use Prim.Native.Nat.{ℕ, _+_, _≤_, _<_};
 ghost use lib.ListN.{length};
-ghost use Rattle.model.specs.State.{State, at};
+ghost use Rattle.model.specs.State.{State, storesOf, nextIdOf, bookOf, recordsOf};
 ghost use Rattle.model.specs.Store.{storeOf};
 ghost use Rattle.model.specs.Sound.{Sound};
 ghost use Rattle.model.specs.Bring.{gaps as gapsBetween};
 ghost use Rattle.model.specs.Refusals.{OutFits, firstOf};
 ghost use Rattle.model.specs.Calls.{storeInsert};
-ghost use Rattle.lent.specs.Lent.{booksOf};
 ghost use Rattle.evicted.specs.Evicted.{outList};
 ghost use Rattle.gaps.specs.Gaps.{gapsOf};
 ghost use Rattle.answers.specs.Answers.{stateFrom, outcome, countOf};
 ghost use Rattle.storeinsert.specs.Keep.{argumentRefusals, needRefusals, KeepReady};
 
 // What the arguments are refused for: 2, 4, 5 or nothing, 0.
-fn argument_refusal(len: &[usize], x: Small, s: usize, sp: Span, time: f64) -> u8
-    requires { ⌜ x .nodes ≤ length (now len) ⌝ }
-    ensures { λ r. ⌜ ((st : State) → st .tree .len ≡ now (len .entry) → st .tree .nodes ≡ x .nodes → st .books .stores ≡ x .stores → r ≡ firstOf (argumentRefusals st s sp time)) ⌝ }
+fn argument_refusal(len: &[usize], nodes: usize, stores: usize, s: usize, sp: Span, time: f64) -> u8
+    requires { ⌜ nodes ≤ length (now len) ⌝ }
+    ensures { λ r. ⌜ ((st : State) → st .tree .len ≡ now (len .entry) → st .tree .nodes ≡ nodes → storesOf st ≡ stores → r ≡ firstOf (argumentRefusals st s sp time)) ⌝ }
 {
-    if x.stores <= s {
+    if stores <= s {
         return 2;
     }
-    if !refuse::span_in(len, x.nodes, sp) {
+    if !refuse::span_in(len, nodes, sp) {
         return 4;
     }
     if !refuse::finite(time) {
@@ -35,13 +35,11 @@ fn argument_refusal(len: &[usize], x: Small, s: usize, sp: Span, time: f64) -> u
     0
 }
 
-// The gaps of a span in store s: its part of each column is lent on.
-fn gaps_of(node: &[usize], start: &[usize], end: &[usize], x: Small, s: usize, sp: Span) -> Gaps
-    requires { ⌜ (s < 8) × (at (x .records) s ≤ 128) × (1024 ≤ length (now node)) × (1024 ≤ length (now start)) × (1024 ≤ length (now end)) ⌝ }
-    ensures { λ r. ⌜ (r .n ≤ 129) × ((st : State) → st .ranges .node ≡ now (node .entry) → st .ranges .start ≡ now (start .entry) → st .ranges .end ≡ now (end .entry) → st .books .records ≡ x .records → gapsOf r ≡ gapsBetween (sp .node) (storeOf st s .ranges) (sp .start) (sp .end)) ⌝ }
+// The gaps of a span in store s, which has n records: its part of each column is lent on.
+fn gaps_of(node: &[usize], start: &[usize], end: &[usize], s: usize, n: usize, sp: Span) -> Gaps
+    requires { ⌜ (s < 8) × (n ≤ 128) × (1024 ≤ length (now node)) × (1024 ≤ length (now start)) × (1024 ≤ length (now end)) ⌝ }
+    ensures { λ r. ⌜ (r .n ≤ 129) × ((st : State) → st .ranges .node ≡ now (node .entry) → st .ranges .start ≡ now (start .entry) → st .ranges .end ≡ now (end .entry) → recordsOf st s ≡ n → gapsOf r ≡ gapsBetween (sp .node) (storeOf st s .ranges) (sp .start) (sp .end)) ⌝ }
 {
-    let records = x.records;
-    let n = records[s];
     let a = 128 * s;
     let e = a + 128;
     gaps::store_missing(
@@ -55,24 +53,22 @@ fn gaps_of(node: &[usize], start: &[usize], end: &[usize], x: Small, s: usize, s
     )
 }
 
-// What n new records, stamps and ids are refused for: 8, 11 or nothing, 0. Tested by differences, so that no sum can wrap.
-fn need_refusal(x: Small, s: usize, n: usize) -> u8
-    requires { ⌜ (s < 8) × (n ≤ 129) ⌝ }
-    ensures { λ r. ⌜ ((st : State) → st .books ≡ booksOf x → r ≡ firstOf (needRefusals st s n)) ⌝ }
+// What n new records, stamps and ids are refused for in a store whose numbers are b: 8, 11 or nothing, 0. Tested by differences, so that no sum can wrap.
+fn need_refusal(b: Book, next: u64, n: usize) -> u8
+    requires { ⌜ n ≤ 129 ⌝ }
+    ensures { λ r. ⌜ ((st : State) (s : ℕ) → bookOf st s ≡ b → nextIdOf st ≡ next → r ≡ firstOf (needRefusals st s n)) ⌝ }
 {
-    let records = x.records;
-    let stamps = x.stamp;
     if 128 < n {
         return 8;
     }
-    if 128 - n < records[s] {
+    if 128 - n < b.records {
         return 8;
     }
     let most = 281474976710655 - n as u64;
-    if most < stamps[s] {
+    if most < b.stamp {
         return 11;
     }
-    if most < x.next {
+    if most < next {
         return 11;
     }
     0
@@ -113,8 +109,9 @@ fn keep_span(
     requires { ⌜ KeepReady (stateFrom (now parent) (now depth) (now len) (now run) (now words) (now node) (now start) (now end) (now id) (now stamp) (now touched) (now write) (now «pin_node») (now «pin_start») (now «pin_end») (now «pin_count») (now marks) (now bytes) x) (outList (now «out_node») (now «out_start») (now «out_end») (now «out_write») (now «out_bytes») (now «out_dead»)) s sp time ⌝ }
     ensures { λ r. ⌜ outcome (stateFrom (now (parent .entry)) (now (depth .entry)) (now (len .entry)) (now (run .entry)) (now (words .entry)) (now (node .exit)) (now (start .exit)) (now (end .exit)) (now (id .exit)) (now (stamp .exit)) (now (touched .exit)) (now (write .exit)) (now («pin_node» .entry)) (now («pin_start» .entry)) (now («pin_end» .entry)) (now («pin_count» .entry)) (now (marks .exit)) (now (bytes .entry)) (r .small)) (outList (now («out_node» .exit)) (now («out_start» .exit)) (now («out_end» .exit)) (now («out_write» .exit)) (now («out_bytes» .exit)) (now («out_dead» .exit))) (countOf (r .answer)) ≡ storeInsert (stateFrom (now (parent .entry)) (now (depth .entry)) (now (len .entry)) (now (run .entry)) (now (words .entry)) (now (node .entry)) (now (start .entry)) (now (end .entry)) (now (id .entry)) (now (stamp .entry)) (now (touched .entry)) (now (write .entry)) (now («pin_node» .entry)) (now («pin_start» .entry)) (now («pin_end» .entry)) (now («pin_count» .entry)) (now (marks .entry)) (now (bytes .entry)) x) (outList (now («out_node» .entry)) (now («out_start» .entry)) (now («out_end» .entry)) (now («out_write» .entry)) (now («out_bytes» .entry)) (now («out_dead» .entry))) s sp time w ⌝ }
 {
-    let g = gaps_of(node, start, end, x, s, sp);
-    let number = need_refusal(x, s, g.n);
+    let own = books::book_of(&x.books, s);
+    let g = gaps_of(node, start, end, s, own.records, sp);
+    let number = need_refusal(own, x.books[3], g.n);
     if 0 < number {
         return Counted {
             small: x,
@@ -195,15 +192,17 @@ pub fn store_insert(
     requires { ⌜ Sound (stateFrom (now parent) (now depth) (now len) (now run) (now words) (now node) (now start) (now end) (now id) (now stamp) (now touched) (now write) (now «pin_node») (now «pin_start») (now «pin_end») (now «pin_count») (now marks) (now bytes) x) × OutFits (outList (now «out_node») (now «out_start») (now «out_end») (now «out_write») (now «out_bytes») (now «out_dead»)) ⌝ }
     ensures { λ r. ⌜ outcome (stateFrom (now (parent .entry)) (now (depth .entry)) (now (len .entry)) (now (run .entry)) (now (words .entry)) (now (node .exit)) (now (start .exit)) (now (end .exit)) (now (id .exit)) (now (stamp .exit)) (now (touched .exit)) (now (write .exit)) (now («pin_node» .entry)) (now («pin_start» .entry)) (now («pin_end» .entry)) (now («pin_count» .entry)) (now (marks .exit)) (now (bytes .entry)) (r .small)) (outList (now («out_node» .exit)) (now («out_start» .exit)) (now («out_end» .exit)) (now («out_write» .exit)) (now («out_bytes» .exit)) (now («out_dead» .exit))) (countOf (r .answer)) ≡ storeInsert (stateFrom (now (parent .entry)) (now (depth .entry)) (now (len .entry)) (now (run .entry)) (now (words .entry)) (now (node .entry)) (now (start .entry)) (now (end .entry)) (now (id .entry)) (now (stamp .entry)) (now (touched .entry)) (now (write .entry)) (now («pin_node» .entry)) (now («pin_start» .entry)) (now («pin_end» .entry)) (now («pin_count» .entry)) (now (marks .entry)) (now (bytes .entry)) x) (outList (now («out_node» .entry)) (now («out_start» .entry)) (now («out_end» .entry)) (now («out_write» .entry)) (now («out_bytes» .entry)) (now («out_dead» .entry))) s sp time w ⌝ }
 {
-    let number = argument_refusal(len, x, s, sp, time);
+    let nodes = x.books[0] as usize;
+    let stores = x.books[2] as usize;
+    let number = argument_refusal(len, nodes, stores, s, sp, time);
     if 0 < number {
         return Counted {
             small: x,
             answer: Count::Refused(number),
         };
     }
-    let capacity = x.capacity;
-    if capacity[s] == 0 {
+    let own = books::book_of(&x.books, s);
+    if own.capacity == 0 {
         bring::give_back(
             out_node,
             out_start,

@@ -7,15 +7,16 @@ use mathlib.Core.Path.{_≡_, refl, sym, ap, subst, _∙_}
 use mathlib.Core.List.{List, [], _∷_, _++_}
 use native.Mathlib.Numerals.{add-one}
 use native.Mathlib.Omega.{arith}
-use lib.ListN.{length, take, set}
-use lib.Seq.{drop-drop, set-getD}
+use lib.ListN.{length, take}
+use lib.Seq.{drop-drop}
 use mir.Val.{Fits}
 use mir.Syntax.{w64}
 use Rattle.model.specs.declared.Span.{Span}
+use Rattle.model.specs.declared.Book.{Book}
 use Rattle.model.specs.Sizes.{maxStamp, outPlaces, storeRecords, versions}
-use Rattle.model.specs.State.{Tree, Ranges, Books, State, at}
+use Rattle.model.specs.State.{Tree, Ranges, Pins, State, at, nodesIn, usedIn, nextIdIn, stallsIn, bookIn, storesOf, nextIdOf, stallsOf, bookOf, recordsOf, heldOf, versionOf}
 use Rattle.model.specs.Sound.{Sound, EndsWithin}
-use Rattle.model.specs.Store.{Store, ranges, storeOf, lay, total, withRanges, withNext}
+use Rattle.model.specs.Store.{Store, ranges, storeOf, lay, layBook, layNext, ranged, total, withRanges, withNext}
 use Rattle.model.specs.Remove.{Removed, remove}
 use Rattle.model.specs.Refusals.{First, firstOf, SpanIn, spanIn, noStore, badSpan, fewRecords, lateId, storeRemoveRefusals}
 use Rattle.model.specs.Calls.{Outcome, refused, done, unless, storeRemove}
@@ -23,11 +24,12 @@ use Rattle.sure.proofs.Says.{says-true, says-false}
 use Rattle.sure.proofs.Refusals.{first-is, storeRemove-exact}
 use Rattle.sure.proofs.Refused.{storeRemove-kept}
 use Rattle.kept.specs.StoreSound.{RangesSound, StoreSound}
-use Rattle.kepttouch.proofs.Remove.{remove-need, remove-stamp, remove-sound}
+use Rattle.keptbring.proofs.Facts.{Steady}
+use Rattle.kepttouch.proofs.Remove.{remove-steady, remove-need, remove-stamp, remove-sound}
 use Rattle.laid.proofs.Store.{records-length}
 use Rattle.keptcalls.proofs.Accepted.{NoneHolds, unless-done, span-in}
 use Rattle.keptcalls.proofs.Stores.{store-sound, removedBy}
-use Rattle.lent.specs.declared.Small.{Small}
+use Rattle.lent.specs.Lent.{stateOf}
 use Rattle.parts.specs.Parts.{mid, back, midRanges, backRanges}
 use Rattle.parts.proofs.Parts.{mid-long, ranges-part, ranges-back, ranges-sized}
 use Rattle.recs.specs.Part.{Sized}
@@ -37,7 +39,6 @@ use Rattle.remove.specs.declared.Removing.{Removing}
 use Rattle.remove.specs.Remove.{versionPast, Freed}
 use Rattle.answers.specs.Answers.{outcome}
 use Rattle.storeremove.specs.Pool.{Seen, Placed, NeedsAt, FitsAt, PoolReady, FreedAt}
-use Rattle.storeremove.specs.Settled.{settledBooks}
 
 -- ---- the part of store s, w places long
 
@@ -51,22 +52,22 @@ module _ (s n : ℕ) (node start end : List ℕ) (w : ℕ) (e : w ≡ 128) where
 
 -- ---- what a sound state gives
 
-module _ (st : State) (s : ℕ) (h : Sound st) (less : s < st .books .stores) where
-  own : StoreSound (st .tree) (st .books .nextId) (storeOf st s)
+module _ (st : State) (s : ℕ) (h : Sound st) (less : s < storesOf st) where
+  own : StoreSound (st .tree) (nextIdOf st) (storeOf st s)
   own = store-sound st s h less
 
   pub in-stores : s < 8
   in-stores = omega (arith, h .counts .stores)
 
-  few : at (st .books .records) s ≤ 128
+  few : recordsOf st s ≤ 128
   few = h .counts .each s (omega arith) less .records
 
   -- the store's ranges stand at the front of its part
-  read : ranges (midRanges (128 * s) 128 (st .ranges)) 0 (at (st .books .records) s) ≡ storeOf st s .ranges
+  read : ranges (midRanges (128 * s) 128 (st .ranges)) 0 (recordsOf st s) ≡ storeOf st s .ranges
   unfolding storeOf
-  read = ranges-part (st .ranges) (128 * s) 128 (at (st .books .records) s) few
+  read = ranges-part (st .ranges) (128 * s) 128 (recordsOf st s) few
 
-  placed : Placed s (at (st .books .records) s) (st .ranges .node) (st .ranges .start) (st .ranges .end)
+  placed : Placed s (recordsOf st s) (st .ranges .node) (st .ranges .start) (st .ranges .end)
   unfolding midRanges
   placed =
       record {
@@ -75,23 +76,23 @@ module _ (st : State) (s : ℕ) (h : Sound st) (less : s < st .books .stores) wh
         starts = h .lent .ranges .start;
         ends = h .lent .ranges .end;
         order =
-            sound-ordered (st .tree) (st .books .nextId) (storeOf st s .stamp) (at (st .books .records) s) (midRanges (128 * s) 128 (st .ranges))
+            sound-ordered (st .tree) (nextIdOf st) (storeOf st s .book .stamp) (recordsOf st s) (midRanges (128 * s) 128 (st .ranges))
             (ranges-sized (128 * s) (st .ranges) (h .lent .ranges) (omega (arith, in-stores))) few
-            (subst (λ rs. RangesSound (st .tree) (st .books .nextId) (storeOf st s .stamp) rs) (sym read) (own .ranges));
+            (subst (λ rs. RangesSound (st .tree) (nextIdOf st) (storeOf st s .book .stamp) rs) (sym read) (own .ranges));
       }
 
-  needed : (sp : Span) (r : ℕ) → NeedsAt s (at (st .books .records) s) (st .ranges .node) (st .ranges .start) (st .ranges .end) sp r
+  needed : (sp : Span) (r : ℕ) → NeedsAt s (recordsOf st s) (st .ranges .node) (st .ranges .start) (st .ranges .end) sp r
       → r ≡ removedBy st s sp .need
   unfolding midRanges
   needed sp r f =
       f (mid (128 * s) 128 (st .ranges .id)) (mid (128 * s) 128 (st .ranges .stamp)) (mid (128 * s) 128 (st .ranges .write))
-      (mid (128 * s) 128 (st .ranges .touched)) (storeOf st s) (st .books .nextId) (sym read)
+      (mid (128 * s) 128 (st .ranges .touched)) (storeOf st s) (nextIdOf st) (sym read)
 
   one-most : (sp : Span) → SpanIn (st .tree) sp → removedBy st s sp .need ≤ 1
-  one-most sp inside = remove-need (storeOf st s) (st .books .nextId) sp own inside (h .counts .firstId)
+  one-most sp inside = remove-need (storeOf st s) (nextIdOf st) sp own inside (h .counts .firstId)
 
   -- a node ends at 1,024 or before
-  pub low : (sp : Span) → SpanIn (st .tree) sp → sp .end ≤ 1024
+  low : (sp : Span) → SpanIn (st .tree) sp → sp .end ≤ 1024
   unfolding EndsWithin
   low sp inside = go (sp .node) refl
     where
@@ -100,9 +101,6 @@ module _ (st : State) (s : ℕ) (h : Sound st) (less : s < st .books .stores) wh
       go (suc k) e = omega (arith, inside .ends, h .ends (sp .node) (omega arith) (inside .node))
 
 -- ---- the refusals
-
-pub index-fits : {s : ℕ} → s < 8 → Fits w64 (s * 8)
-index-fits h = omega arith
 
 -- the sums that the tests of 8 and 11 make
 pub records-fit : {n r i : ℕ} → (n ≤ 128) × (r ≤ 1) × (i ≤ maxStamp) → Fits w64 (n + r)
@@ -114,84 +112,87 @@ id-fits {n} {r} {i} h = let a : i ≤ maxStamp = h .2 in let b : r ≤ 1 = h .1 
 pub none-zero : {P : Type 0} {n : ℕ} → 0 < n → n ≡ 0 → P
 none-zero l e = absurd (omega arith)
 
-module _ {len node start end : List ℕ} {x : Small} {st : State} (v : Seen len node start end x st) where
-  pub nodes-fit : x .nodes ≤ length len
-  nodes-fit = omega (arith, v .sound .counts .nodes, v .sound .lent .tree .len, v .count, ap (λ (k : List ℕ). length k) (v .lens))
+module _ (st : State) (l : List ℕ) (s : ℕ) (sp : Span) (h : Sound st) (long : outPlaces ≤ length l) where
+  number : (n : ℕ) → First (noStore st s ∷ badSpan st sp ∷ fewRecords st s (removedBy st s sp .need) ∷ lateId st (removedBy st s sp .need) ∷ []) n
+      → n ≡ firstOf (storeRemoveRefusals st l s sp)
+  number n f =
+      sym (first-is (storeRemoveRefusals st l s sp) (storeRemove-exact st l s sp) n (inr (λ g. g h, inr (λ (k : length l < outPlaces). omega arith, f))))
 
-  module _ (s : ℕ) where
-    pub in-use : s < x .stores → s < st .books .stores
-    in-use l = omega (arith, ap (λ (b : Books). b .stores) (v .books))
+  pub refused-store : storesOf st ≤ s → 2 ≡ firstOf (storeRemoveRefusals st l s sp)
+  refused-store k = number 2 (inl (k, refl))
 
-    pub placed-in : s < x .stores → Placed s (at (x .records) s) node start end
-    placed-in l = rw (v .books, v .nodes, v .starts, v .ends) at (placed st s (v .sound) (in-use l))
+pub seen : (st : State) (s : ℕ) → Sound st → s < storesOf st → (b : Book) → b ≡ bookOf st s
+    → Seen (st .tree .len) (st .ranges .node) (st .ranges .start) (st .ranges .end) (st .tree .nodes) (nextIdOf st) s (b .records) st
+seen st s h less b is =
+    record {
+      sound = h;
+      lens = refl;
+      count = refl;
+      nodes = refl;
+      starts = refl;
+      ends = refl;
+      nextId = refl;
+      store = less;
+      records = sym (ap (λ (k : Book). k .records) is);
+    }
 
-    needs-in : (sp : Span) (r : ℕ) → NeedsAt s (at (x .records) s) node start end sp r
-        → NeedsAt s (at (st .books .records) s) (st .ranges .node) (st .ranges .start) (st .ranges .end) sp r
-    needs-in sp r f = rw (v .books, v .nodes, v .starts, v .ends) f
+module _ {len node start end : List ℕ} {k i s n : ℕ} {st : State} (v : Seen len node start end k i s n st) where
+  pub nodes-fit : k ≤ length len
+  nodes-fit = omega (arith, v .sound .counts .nodes, v .sound .lent .tree .len, v .count, ap (λ (q : List ℕ). length q) (v .lens))
 
-    module _ (sp : Span) where
-      -- the need is the definition's, and 1 at most
-      pub need-is : s < x .stores → (r : ℕ) → NeedsAt s (at (x .records) s) node start end sp r → r ≡ removedBy st s sp .need
-      need-is l r f = needed st s (v .sound) (in-use l) sp r (needs-in sp r f)
+  pub placed-in : Placed s n node start end
+  placed-in = rw (v .records, v .nodes, v .starts, v .ends) at (placed st s (v .sound) (v .store))
 
-      pub sums-fit : s < x .stores → SpanIn (st .tree) sp → (r : ℕ) → NeedsAt s (at (x .records) s) node start end sp r
-          → (at (x .records) s ≤ 128) × (r ≤ 1) × (x .next ≤ maxStamp)
-      sums-fit l inside r f = (
-        omega (arith, few st s (v .sound) (in-use l), ap (λ (b : Books). at (b .records) s) (v .books)),
-        omega (arith, need-is l r f, one-most st s (v .sound) (in-use l) sp inside),
-        omega (arith, v .sound .counts .nextId, ap (λ (b : Books). b .nextId) (v .books)),
-      )
+  module _ (sp : Span) where
+    needs-in : (r : ℕ) → NeedsAt s n node start end sp r → NeedsAt s (recordsOf st s) (st .ranges .node) (st .ranges .start) (st .ranges .end) sp r
+    needs-in r f = rw (v .records, v .nodes, v .starts, v .ends) f
 
-      -- what the test of 4 tells
-      module _ {b : Bool} (f : (t : Tree) → t .len ≡ len → t .nodes ≡ x .nodes → b ≡ spanIn t sp) where
-        span-bad : not b ≡ true → SpanIn (st .tree) sp → ⊥
-        span-bad e = says-true (ap not (sym (f (st .tree) (v .lens) (v .count))) ∙ e) (storeRemove-exact st [] s sp .1 .1 .1 .0)
+    -- the need is the definition's, and 1 at most
+    need-is : (r : ℕ) → NeedsAt s n node start end sp r → r ≡ removedBy st s sp .need
+    need-is r f = needed st s (v .sound) (v .store) sp r (needs-in r f)
 
-        pub span-good : not b ≡ false → SpanIn (st .tree) sp
-        span-good e = span-in (st .tree) sp (says-false (ap not (sym (f (st .tree) (v .lens) (v .count))) ∙ e) (storeRemove-exact st [] s sp .1 .1 .1 .0))
+    pub sums-fit : SpanIn (st .tree) sp → (r : ℕ) → NeedsAt s n node start end sp r → (n ≤ 128) × (r ≤ 1) × (i ≤ maxStamp)
+    sums-fit inside r f = (
+      omega (arith, few st s (v .sound) (v .store), v .records),
+      omega (arith, need-is r f, one-most st s (v .sound) (v .store) sp inside),
+      omega (arith, v .sound .counts .nextId, v .nextId),
+    )
 
-      module _ (l : List ℕ) (long : outPlaces ≤ length l) where
-        number : (n : ℕ) → First (noStore st s ∷ badSpan st sp ∷ fewRecords st s (removedBy st s sp .need) ∷ lateId st (removedBy st s sp .need) ∷ []) n
-            → n ≡ firstOf (storeRemoveRefusals st l s sp)
-        number n f =
-            sym (first-is (storeRemoveRefusals st l s sp) (storeRemove-exact st l s sp) n
-            (inr (λ g. g (v .sound), inr (λ (k : length l < outPlaces). omega arith, f))))
+    -- what the test of 4 tells
+    module _ {b : Bool} (f : (t : Tree) → t .len ≡ len → t .nodes ≡ k → b ≡ spanIn t sp) where
+      span-bad : not b ≡ true → SpanIn (st .tree) sp → ⊥
+      span-bad e = says-true (ap not (sym (f (st .tree) (v .lens) (v .count))) ∙ e) (storeRemove-exact st [] s sp .1 .1 .1 .0)
 
-        pub refused-store : x .stores ≤ s → 2 ≡ firstOf (storeRemoveRefusals st l s sp)
-        refused-store k = number 2 (inl (omega (arith, ap (λ (b : Books). b .stores) (v .books)), refl))
+      pub span-good : not b ≡ false → SpanIn (st .tree) sp
+      span-good e = span-in (st .tree) sp (says-false (ap not (sym (f (st .tree) (v .lens) (v .count))) ∙ e) (storeRemove-exact st [] s sp .1 .1 .1 .0))
 
-        module _ (k : s < x .stores) where
-          used : st .books .stores ≤ s → ⊥
-          used e = omega (arith, in-use k)
+    module _ (l : List ℕ) (long : outPlaces ≤ length l) where
+      used : storesOf st ≤ s → ⊥
+      used e = omega (arith, v .store)
 
-          pub refused-span : {b : Bool} → ((t : Tree) → t .len ≡ len → t .nodes ≡ x .nodes → b ≡ spanIn t sp) → not b ≡ true
-              → 4 ≡ firstOf (storeRemoveRefusals st l s sp)
-          refused-span f e = number 4 (inr (used, inl (span-bad f e, refl)))
+      pub refused-span : {b : Bool} → ((t : Tree) → t .len ≡ len → t .nodes ≡ k → b ≡ spanIn t sp) → not b ≡ true
+          → 4 ≡ firstOf (storeRemoveRefusals st l s sp)
+      refused-span f e = number st l s sp (v .sound) long 4 (inr (used, inl (span-bad f e, refl)))
 
-          module _ (inside : SpanIn (st .tree) sp) (r : ℕ) (needs : NeedsAt s (at (x .records) s) node start end sp r) where
-            records-are : at (st .books .records) s ≡ at (x .records) s
-            records-are = ap (λ (b : Books). at (b .records) s) (v .books)
+      module _ (inside : SpanIn (st .tree) sp) (r : ℕ) (needs : NeedsAt s n node start end sp r) where
+        inside-in : (SpanIn (st .tree) sp → ⊥) → ⊥
+        inside-in g = g inside
 
-            next-is : st .books .nextId ≡ x .next
-            next-is = ap (λ (b : Books). b .nextId) (v .books)
+        pub refused-records : 128 < n + r → 8 ≡ firstOf (storeRemoveRefusals st l s sp)
+        refused-records m = number st l s sp (v .sound) long 8 (inr (used, inr (inside-in, inl (omega (arith, need-is r needs, v .records), refl))))
 
-            inside-in : (SpanIn (st .tree) sp → ⊥) → ⊥
-            inside-in n = n inside
+        module _ (m : n + r ≤ 128) where
+          room : storeRecords < recordsOf st s + removedBy st s sp .need → ⊥
+          room e = omega (arith, need-is r needs, v .records)
 
-            pub refused-records : 128 < at (x .records) s + r → 8 ≡ firstOf (storeRemoveRefusals st l s sp)
-            refused-records m = number 8 (inr (used, inr (inside-in, inl (omega (arith, need-is k r needs, records-are), refl))))
+          pub refused-late : maxStamp < i + r → 11 ≡ firstOf (storeRemoveRefusals st l s sp)
+          refused-late q =
+              number st l s sp (v .sound) long 11 (inr (used, inr (inside-in, inr (room, inl (omega (arith, need-is r needs, v .nextId), refl)))))
 
-            module _ (m : at (x .records) s + r ≤ 128) where
-              room : storeRecords < at (st .books .records) s + removedBy st s sp .need → ⊥
-              room e = omega (arith, need-is k r needs, records-are)
-
-              pub refused-late : maxStamp < x .next + r → 11 ≡ firstOf (storeRemoveRefusals st l s sp)
-              refused-late q = number 11 (inr (used, inr (inside-in, inr (room, inl (omega (arith, need-is k r needs, next-is), refl)))))
-
-              pub accepted : x .next + r ≤ maxStamp → 0 ≡ firstOf (storeRemoveRefusals st l s sp)
-              accepted q =
-                  number 0
-                  (inr (used, inr (inside-in, inr (room, inr (λ (e : maxStamp < st .books .nextId + removedBy st s sp .need). omega (arith, need-is k r needs, next-is), refl)))))
+          pub accepted : i + r ≤ maxStamp → 0 ≡ firstOf (storeRemoveRefusals st l s sp)
+          accepted q =
+              number st l s sp (v .sound) long 0
+              (inr (used, inr (inside-in, inr (room, inr (λ (e : maxStamp < nextIdOf st + removedBy st s sp .need). omega (arith, need-is r needs, v .nextId), refl)))))
 
 -- ---- the parts of store s
 
@@ -253,29 +254,21 @@ pub past-some : (k v r : ℕ) → (k ≡ 0 → ⊥) → r ≡ (v + 1) % versions
 past-some zero v r n e = absurd (n refl)
 past-some (suc k) v r n e = e ∙ ap (λ (y : ℕ). y % versions) (add-one v)
 
--- the state by its columns, marks and books
-abbrev stateWith : State → Ranges → List ℕ → Books → State
-stateWith st c ms b = record { tree = st .tree; ranges = c; pins = st .pins; marks = ms; bytes = st .bytes; books = b }
-
--- the books of store s by what changes
-abbrev booksBy : ℕ → Books → ℕ → ℕ → ℕ → List ℕ → ℕ → Books
-booksBy s x need records held stamp version =
+-- the numbers of a store of which a removal leaves y, by what it answers
+book-left : {x y : Store} {n k v : ℕ} → Steady x y → y .book .stamp ≡ x .book .stamp → n ≡ y .book .records → k ≡ y .book .held → v ≡ y .book .version
+    → ranged (x .book) n k (x .book .stamp) v ≡ y .book
+book-left f stamp records held version =
+    λ j.
     record {
-      stores = x .stores;
-      nextId = x .nextId + need;
-      stalls = x .stalls;
-      capacity = x .capacity;
-      refreshes = x .refreshes;
-      records = set (x .records) s records;
-      held = set (x .held) s held;
-      stamp = stamp;
-      version = set (x .version) s version;
-      entries = x .entries;
-      pinned = x .pinned;
+      capacity = sym (f .capacity) j;
+      policy = sym (f .policy) j;
+      records = records j;
+      held = held j;
+      stamp = sym stamp j;
+      version = version j;
+      entries = sym (f .entries) j;
+      pinned = sym (f .pinned) j;
     }
-
-pub books-settled : (s : ℕ) (r : Removing) (x : Books) (v : ℕ) → v ≡ versionPast (r .removed) (at (x .version) s) → booksBy s x (r .need) (r .n) (at (x .held) s - r .removed) (x .stamp) v ≡ settledBooks s r x
-books-settled s r x v e = λ j. booksBy s x (r .need) (r .n) (at (x .held) s - r .removed) (x .stamp) (e j)
 
 -- ---- the call
 
@@ -301,18 +294,14 @@ module _ (st : State) (l : List ℕ) (s : ℕ) (sp : Span) where
     unfolding storeRemove
     none-holds = unless-done _ _ _ (storeRemove-kept st l s sp) _ (ap (λ o. o .answer) (unless-none st l _ (firstOf (storeRemoveRefusals st l s sp)) none)) .none
 
-    less : s < st .books .stores
+    less : s < storesOf st
     less = let f = none-holds .1 .1 .0 in omega arith
 
     inside : SpanIn (st .tree) sp
     inside = span-in (st .tree) sp (none-holds .1 .1 .1 .0)
 
-    pub store-in : s < 8
-    store-in = in-stores st s h less
-
-    pub pool-in : FitsAt s (at (st .books .records) s) (st .ranges .node) (st .ranges .start) (st .ranges .end) sp
-        → PoolReady s (at (st .books .records) s) sp (st .ranges) (st .marks) l
-    pool-in f =
+    ready : FitsAt s (recordsOf st s) (st .ranges .node) (st .ranges .start) (st .ranges .end) sp → PoolReady s (recordsOf st s) sp (st .ranges) (st .marks) l
+    ready f =
         record {
           few = few st s h less;
           lent = h .lent .ranges;
@@ -325,44 +314,73 @@ module _ (st : State) (l : List ℕ) (s : ℕ) (sp : Span) where
           fits = f;
         }
 
-    held-is : at (st .books .held) s ≡ total (storeOf st s .ranges)
+    held-is : heldOf st s ≡ total (storeOf st s .ranges)
     unfolding storeOf
     held-is = own st s h less .held
 
-    -- what the removal says of any such store, it says of store s
-    pub freed-in : {c : Ranges} {ms ls : List ℕ} {r : Removing}
-        → ((x : Store) → x .ranges ≡ ranges (st .ranges) (128 * s) (at (st .books .records) s) → x .marks ≡ mid (256 * s) 256 (st .marks) → FreedAt s (at (st .books .records) s) x (remove x (st .books .nextId) sp) (st .ranges) (st .marks) l c ms ls r)
-        → FreedAt s (at (st .books .records) s) (storeOf st s) (removedBy st s sp) (st .ranges) (st .marks) l c ms ls r
-    unfolding storeOf
-    freed-in f = f (storeOf st s) refl refl
+    module _ (b : Book) (is : b ≡ bookOf st s) where
+      pub pool-in : FitsAt s (b .records) (st .ranges .node) (st .ranges .start) (st .ranges .end) sp → PoolReady s (b .records) sp (st .ranges) (st .marks) l
+      pool-in f = rw is (ready (rw is at f))
 
-    module _ {c : Ranges} {ms ls : List ℕ} {r : Removing}
-        (u : FreedAt s (at (st .books .records) s) (storeOf st s) (removedBy st s sp) (st .ranges) (st .marks) l c ms ls r) where
-      pub settle-in : (s < 8) × (r .removed ≤ at (st .books .held) s) × (st .books .nextId + r .need ≤ maxStamp)
-      settle-in =
-          let f = none-holds .1 .1 .1 .1 .1 .0 in
-          (store-in, omega (arith, u .removed, held-is), omega (arith, u .need))
+      module _ {c : Ranges} {ms ls : List ℕ} {r : Removing} where
+        -- what the removal says of any such store, it says of store s
+        pub freed-in :
+            ((x : Store) → x .ranges ≡ ranges (st .ranges) (128 * s) (b .records) → x .marks ≡ mid (256 * s) 256 (st .marks) → FreedAt s (b .records) x (remove x (nextIdOf st) sp) (st .ranges) (st .marks) l c ms ls r)
+            → FreedAt s (recordsOf st s) (storeOf st s) (removedBy st s sp) (st .ranges) (st .marks) l c ms ls r
+        unfolding storeOf
+        freed-in f =
+            subst (λ (k : Book). FreedAt s (k .records) (storeOf st s) (removedBy st s sp) (st .ranges) (st .marks) l c ms ls r) is
+            (f (storeOf st s) (ap (λ (k : Book). ranges (st .ranges) (128 * s) (k .records)) (sym is)) refl)
 
-      held-left : at (st .books .held) s - r .removed ≡ removedBy st s sp .store .held
-      held-left =
-          let f = none-holds .1 .1 .1 .1 .0 in
-          let e = remove-sound (storeOf st s) (st .books .nextId) sp (own st s h less) inside (h .counts .firstId) (omega (arith, records-length st s)) .held in
-          omega (arith, u .removed, held-is)
+        module _ (u : FreedAt s (recordsOf st s) (storeOf st s) (removedBy st s sp) (st .ranges) (st .marks) l c ms ls r) where
+          pub held-most : r .removed ≤ b .held
+          held-most = omega (arith, u .removed, held-is, ap (λ (k : Book). k .held) is)
 
-      stamp-left : st .books .stamp ≡ set (st .books .stamp) s (removedBy st s sp .store .stamp)
-      unfolding storeOf
-      stamp-left = sym (ap (λ (k : ℕ). set (st .books .stamp) s k) (remove-stamp (storeOf st s) (st .books .nextId) sp) ∙ set-getD (st .books .stamp) s 0)
+          pub next-fits : Fits w64 (nextIdOf st + r .need)
+          next-fits = let f = none-holds .1 .1 .1 .1 .1 .0 in omega (arith, u .need)
 
-      version-left : versionPast (r .removed) (at (st .books .version) s) ≡ removedBy st s sp .store .version
-      unfolding storeOf
-      version-left = sym (u .version)
+          left : StoreSound (st .tree) (nextIdOf st + removedBy st s sp .need) (removedBy st s sp .store)
+          left =
+              let f = none-holds .1 .1 .1 .1 .0 in
+              remove-sound (storeOf st s) (nextIdOf st) sp (own st s h less) inside (h .counts .firstId) (omega (arith, records-length st s))
 
-      call-laid : outcome (stateWith st c ms (settledBooks s r (st .books))) ls (done (r .writes)) ≡ storeRemove st l s sp
-      unfolding storeRemove withNext withRanges
-      call-laid =
-          (λ j. outcome (stateWith st (u .cols j) (u .marks j) (booksBy s (st .books) (u .need j) (u .records j) (held-left j) (stamp-left j) (version-left j))) (u .list j) (done (u .writes j)))
-          ∙ sym (unless-none st l _ (firstOf (storeRemoveRefusals st l s sp)) none)
+          held-left : heldOf st s - r .removed ≡ removedBy st s sp .store .book .held
+          held-left = omega (arith, u .removed, held-is, left .held)
 
-      pub call-done : (st′ : State) {bs : Books} → st′ ≡ stateWith st c ms bs → bs ≡ settledBooks s r (st .books)
-          → outcome st′ ls (done (r .writes)) ≡ storeRemove st l s sp
-      call-done st′ e d = (λ j. outcome (e j) ls (done (r .writes))) ∙ (λ j. outcome (stateWith st c ms (d j)) ls (done (r .writes))) ∙ call-laid
+          version-left : versionPast (r .removed) (versionOf st s) ≡ removedBy st s sp .store .book .version
+          unfolding storeOf
+          version-left = sym (u .version)
+
+          numbers-left : (v : ℕ) → v ≡ versionPast (r .removed) (b .version)
+              → ranged b (r .n) (b .held - r .removed) (b .stamp) v ≡ removedBy st s sp .store .book
+          unfolding storeOf
+          numbers-left v e =
+              ap (λ (k : Book). ranged k (r .n) (k .held - r .removed) (k .stamp) v) is
+              ∙ book-left {x = storeOf st s} (remove-steady (storeOf st s) (nextIdOf st) sp) (remove-stamp (storeOf st s) (nextIdOf st) sp)
+              (u .records ∙ sym (left .records)) held-left (e ∙ ap (λ (k : Book). versionPast (r .removed) (k .version)) is ∙ version-left)
+
+          call-laid : (v : ℕ) → v ≡ versionPast (r .removed) (b .version)
+              → outcome (stateOf (st .tree) c (st .pins) ms (st .bytes) (layNext (nextIdOf st + r .need) (stallsOf st) (layBook s (ranged b (r .n) (b .held - r .removed) (b .stamp) v) (st .books)))) ls (done (r .writes)) ≡ storeRemove st l s sp
+          unfolding storeRemove withNext withRanges
+          call-laid v e =
+              let new = numbers-left v e in
+              (λ j. outcome (stateOf (st .tree) (u .cols j) (st .pins) (u .marks j) (st .bytes) (layNext (nextIdOf st + u .need j) (stallsOf st) (layBook s (new j) (st .books)))) (u .list j) (done (u .writes j)))
+              ∙ sym (unless-none st l _ (firstOf (storeRemoveRefusals st l s sp)) none)
+
+-- The same of the columns: rs, ps, ms and table are the pools at entry, ns the small numbers, T the tree with so many nodes and hash words
+module _ (T : ℕ → ℕ → Tree) (rs : Ranges) (ps : Pins) (ms table ns : List ℕ) (l : List ℕ) (s : ℕ) (sp : Span) where
+  abbrev here : State
+  here = stateOf (T (nodesIn ns) (usedIn ns)) rs ps ms table ns
+
+  module _ (h : Sound here) (long : outPlaces ≤ length l) (n : ℕ) (number : n ≡ firstOf (storeRemoveRefusals here l s sp)) (zero : n ≡ 0) (b : Book) (is : b ≡ bookIn ns s) where
+    pub call-done : {c : Ranges} {ks ls : List ℕ} {r : Removing}
+        → FreedAt s (bookIn ns s .records) (storeOf here s) (removedBy here s sp) rs ms l c ks ls r
+        → (v : ℕ) → v ≡ versionPast (r .removed) (b .version)
+        → (mid-way new : List ℕ) → mid-way ≡ layBook s (ranged b (r .n) (b .held - r .removed) (b .stamp) v) ns
+        → new ≡ layNext (nextIdIn ns + r .need) (stallsIn ns) mid-way
+        → outcome (stateOf (T (nodesIn new) (usedIn new)) c ps ks table new) ls (done (r .writes)) ≡ storeRemove here l s sp
+    unfolding layBook layNext
+    call-done {c} {ks} {ls} {r} u v e mid-way new d f =
+        let g = f ∙ ap (layNext (nextIdIn ns + r .need) (stallsIn ns)) d in
+        (λ j. outcome (stateOf (T (nodesIn (g j)) (usedIn (g j))) c ps ks table (g j)) ls (done (r .writes)))
+        ∙ call-laid here l s sp h long n number zero b is u v e

@@ -5,27 +5,27 @@ use mathlib.Core.List.{List}
 use lib.ListN.{length}
 use Rattle.model.specs.declared.Span.{Span}
 use Rattle.model.specs.Sizes.{storeRecords, storeMarks, maxNodes, maxHashes, maxStores, maxRecords, maxMarks, outPlaces}
-use Rattle.model.specs.State.{Ranges, State}
+use Rattle.model.specs.State.{Ranges, State, storesOf, nextIdOf, recordsOf}
 use Rattle.model.specs.Sound.{Sound, RangesLent}
 use Rattle.model.specs.Store.{Store, lay, layRanges, total}
 use Rattle.model.specs.Remove.{Removed}
 use Rattle.model.specs.Calls.{front}
-use Rattle.lent.specs.declared.Small.{Small}
-use Rattle.lent.specs.Lent.{booksOf}
 use Rattle.parts.specs.Parts.{mid}
 use Rattle.overlap.specs.Overlap.{Ordered, RemoveNeeds, RemoveFits}
 use Rattle.remove.specs.declared.Removing.{Removing}
 use Rattle.remove.specs.Remove.{versionPast}
 
--- a sound state with these columns and small numbers
-pub record Seen (len node start end : List ℕ) (x : Small) (st : State) : Type 0 where
+-- a sound state with these columns, k nodes and the next id i, and n records in its store s
+pub record Seen (len node start end : List ℕ) (k i s n : ℕ) (st : State) : Type 0 where
   pub sound : Sound st
   pub lens : st .tree .len ≡ len
-  pub count : st .tree .nodes ≡ x .nodes
+  pub count : st .tree .nodes ≡ k
   pub nodes : st .ranges .node ≡ node
   pub starts : st .ranges .start ≡ start
   pub ends : st .ranges .end ≡ end
-  pub books : st .books ≡ booksOf x
+  pub nextId : nextIdOf st ≡ i
+  pub store : s < storesOf st
+  pub records : recordsOf st s ≡ n
 
 -- store s has n records, in order, in pools that are long enough
 pub record Placed (s n : ℕ) (node start end : List ℕ) : Type 0 where
@@ -65,4 +65,4 @@ pub record FreedAt (s n : ℕ) (x : Store) (w : Removed) (c₀ : Ranges) (ms₀ 
   pub need : r .need ≡ w .need
   pub writes : r .writes ≡ length (w .writes)
   pub removed : r .removed + total (w .store .ranges) ≡ total (x .ranges)
-  pub version : w .store .version ≡ versionPast (r .removed) (x .version)
+  pub version : w .store .book .version ≡ versionPast (r .removed) (x .book .version)

@@ -5,10 +5,10 @@ use model::Span;
 use remove::Removing;
 ghost use mathlib.Core.Path.{_≡_};
 ghost use mathlib.Core.List.{List};
-ghost use Prim.Native.Nat.{ℕ, _+_, _*_, _≤_, _<_};
+ghost use Prim.Native.Nat.{ℕ, _*_, _≤_};
 ghost use lib.ListN.{length};
-ghost use Rattle.model.specs.Sizes.{outPlaces, maxStamp};
-ghost use Rattle.model.specs.State.{State, at};
+ghost use Rattle.model.specs.Sizes.{outPlaces};
+ghost use Rattle.model.specs.State.{State};
 ghost use Rattle.model.specs.Sound.{Sound};
 ghost use Rattle.model.specs.Store.{Store, ranges};
 ghost use Rattle.model.specs.Remove.{remove as removeOf};
@@ -19,7 +19,6 @@ ghost use Rattle.parts.specs.Parts.{mid};
 ghost use Rattle.remove.specs.Remove.{versionPast};
 ghost use Rattle.answers.specs.Answers.{stateFrom, outcome, countOf};
 ghost use Rattle.storeremove.specs.Pool.{Seen, Placed, NeedsAt, FitsAt, PoolReady, FreedAt};
-ghost use Rattle.storeremove.specs.Settled.{Settled};
 
 // How many records the removal of a span from store s needs.
 fn need_at(node: &[usize], start: &[usize], end: &[usize], s: usize, n: usize, sp: Span) -> usize
@@ -31,33 +30,30 @@ fn need_at(node: &[usize], start: &[usize], end: &[usize], s: usize, n: usize, s
     overlap::remove_need(&node[a..e], &start[a..e], &end[a..e], n, sp)
 }
 
-// What a removal from a sound state is refused for, the list long enough: 2, 4, 8, 11 or nothing, 0.
+// What a removal from a store of a sound state is refused for, the list long enough: 4, 8, 11 or nothing, 0.
 fn refusal(
     len: &[usize],
     node: &[usize],
     start: &[usize],
     end: &[usize],
-    x: Small,
+    nodes: usize,
+    next: u64,
     s: usize,
+    n: usize,
     sp: Span,
 ) -> u8
-    requires { ⌜ ((st : State) × Seen (now len) (now node) (now start) (now end) x st) ⌝ }
-    ensures { λ r. ⌜ ((st : State) (l : List ℕ) → Seen (now (len .entry)) (now (node .entry)) (now (start .entry)) (now (end .entry)) x st → outPlaces ≤ length l → r ≡ firstOf (storeRemoveRefusals st l s sp)) ⌝ }
-    ensures { λ r. ⌜ (r ≡ 0 → FitsAt s (at (x .records) s) (now (node .entry)) (now (start .entry)) (now (end .entry)) sp) ⌝ }
+    requires { ⌜ ((st : State) × Seen (now len) (now node) (now start) (now end) nodes next s n st) ⌝ }
+    ensures { λ r. ⌜ ((st : State) (l : List ℕ) → Seen (now (len .entry)) (now (node .entry)) (now (start .entry)) (now (end .entry)) nodes next s n st → outPlaces ≤ length l → r ≡ firstOf (storeRemoveRefusals st l s sp)) ⌝ }
+    ensures { λ r. ⌜ (r ≡ 0 → FitsAt s n (now (node .entry)) (now (start .entry)) (now (end .entry)) sp) ⌝ }
 {
-    if x.stores <= s {
-        return 2;
-    }
-    if !refuse::span_in(len, x.nodes, sp) {
+    if !refuse::span_in(len, nodes, sp) {
         return 4;
     }
-    let records = x.records;
-    let n = records[s];
     let need = need_at(node, start, end, s, n, sp);
     if 128 < n + need {
         return 8;
     }
-    if 281474976710655 < x.next + need as u64 {
+    if 281474976710655 < next + need as u64 {
         return 11;
     }
     0
@@ -112,19 +108,6 @@ fn version_past(removed: u64, version: u64) -> u64
     std::num::wrapping_add_u64(version, 1)
 }
 
-// The small numbers after a removal from store s.
-fn settle(x: Small, s: usize, r: Removing) -> Small
-    requires { ⌜ (s < 8) × (r .removed ≤ at (x .held) s) × (x .next + r .need ≤ maxStamp) ⌝ }
-    ensures { λ y. ⌜ Settled s r x y ⌝ }
-{
-    let mut y = x;
-    y.next = x.next + r.need as u64;
-    y.records[s] = r.n;
-    y.held[s] = x.held[s] - r.removed;
-    y.version[s] = version_past(r.removed, x.version[s]);
-    y
-}
-
 // A span taken out of store s of a sound state, pinned or not; the writes of the ranges that it overlapped are listed.
 pub fn store_remove(
     parent: &[usize],
@@ -153,14 +136,25 @@ pub fn store_remove(
     requires { ⌜ Sound (stateFrom (now parent) (now depth) (now len) (now run) (now words) (now node) (now start) (now end) (now id) (now stamp) (now touched) (now write) (now «pin_node») (now «pin_start») (now «pin_end») (now «pin_count») (now marks) (now bytes) x) × (outPlaces ≤ length (now list)) ⌝ }
     ensures { λ r. ⌜ outcome (stateFrom (now (parent .entry)) (now (depth .entry)) (now (len .entry)) (now (run .entry)) (now (words .entry)) (now (node .exit)) (now (start .exit)) (now (end .exit)) (now (id .exit)) (now (stamp .exit)) (now (touched .exit)) (now (write .exit)) (now («pin_node» .entry)) (now («pin_start» .entry)) (now («pin_end» .entry)) (now («pin_count» .entry)) (now (marks .exit)) (now (bytes .entry)) (r .small)) (now (list .exit)) (countOf (r .answer)) ≡ storeRemove (stateFrom (now (parent .entry)) (now (depth .entry)) (now (len .entry)) (now (run .entry)) (now (words .entry)) (now (node .entry)) (now (start .entry)) (now (end .entry)) (now (id .entry)) (now (stamp .entry)) (now (touched .entry)) (now (write .entry)) (now («pin_node» .entry)) (now («pin_start» .entry)) (now («pin_end» .entry)) (now («pin_count» .entry)) (now (marks .entry)) (now (bytes .entry)) x) (now (list .entry)) s sp ⌝ }
 {
-    let number = refusal(len, node, start, end, x, s, sp);
+    let stores = x.books[2] as usize;
+    if stores <= s {
+        return Counted {
+            small: x,
+            answer: Count::Refused(2),
+        };
+    }
+    let nodes = x.books[0] as usize;
+    let next = x.books[3];
+    let stalls = x.books[4];
+    let mut b = books::book_of(&x.books, s);
+    let n = b.records;
+    let number = refusal(len, node, start, end, nodes, next, s, n, sp);
     if number != 0 {
         return Counted {
             small: x,
             answer: Count::Refused(number),
         };
     }
-    let records = x.records;
     let r = remove_pools(
         node,
         start,
@@ -172,11 +166,16 @@ pub fn store_remove(
         marks,
         list,
         s,
-        records[s],
+        n,
         sp,
-        x.next,
+        next,
     );
-    let y = settle(x, s, r);
+    b.records = r.n;
+    b.held = b.held - r.removed;
+    b.version = version_past(r.removed, b.version);
+    let mut y = x;
+    books::put_book(&mut y.books, s, b);
+    books::put_next(&mut y.books, next + r.need as u64, stalls);
     Counted {
         small: y,
         answer: Count::Done(r.writes as u64),

@@ -17,7 +17,7 @@ use borrow.Author.Tests.{ltb-false, leb-false}
 use Rattle.model.specs.declared.Span.{Span}
 use Rattle.model.specs.Sizes.{maxStamp, maxBytes, maxSpans}
 use Rattle.model.specs.Words.{any, Some}
-use Rattle.model.specs.State.{Tree, Ranges, State, Range, at}
+use Rattle.model.specs.State.{Tree, Ranges, State, Range, nodesIn, storesIn, storesOf, nextIdOf, recordsOf, stampOf}
 use Rattle.model.specs.Sound.{Sound, RangesLent, Finite}
 use Rattle.model.specs.SoundTest
 use Rattle.model.specs.Store.{Store, storeOf, lay, layRanges, withRanges, withNext, noTime}
@@ -41,9 +41,10 @@ use Rattle.tree.proofs.Sound.{sound-priced}
 use Rattle.answers.specs.declared.Counted.{Counted}
 use Rattle.answers.specs.declared.Count.the-variants.{Refused, Done}
 use Rattle.answers.specs.Answers.{outcome, countOf}
-use Rattle.usedspan.specs.declared.Old.{Old}
+use Rattle.undo.specs.declared.Old.{Old}
+use Rattle.undo.specs.Old.{oldRanges, oldFrom}
 use Rattle.usedspan.specs.declared.Turn.{Turn}
-use Rattle.usedspan.specs.Turn.{Others, whole, pick, firstNumber, Begun, four, refusing, looked, turnNumber, oldRanges, oldFrom, keptOld, undone, TurnReady, Ready, Taken, Gone, Turned, Finished}
+use Rattle.usedspan.specs.Turn.{Others, whole, pick, firstNumber, Begun, four, refusing, looked, turnNumber, keptOld, undone, TurnReady, Ready, Taken, Gone, Turned, Finished}
 use Rattle.storeused.specs.Going.{number, On, Off, Going, AtFirst, Turns}
 use Rattle.storeused.specs.Looking.{bad, lookedAt, refusedBy, Looking, Looks}
 use Rattle.usedspan.proofs.Laws.{number-fits, touch-marks-long, touch-bytes-most}
@@ -175,11 +176,11 @@ module _ (st : State) (s : ℕ) (sp : Span) (rest : List Span) (time : Float) (c
   w = touchedBy st s sp time counted
 
   pub turn-first : firstOf (turnRefusals st s (sp ∷ rest) time counted)
-      ≡ next (turnNumber (at (st .books .records) s) (w .need) (at (st .books .stamp) s) (w .stamps) (st .books .nextId))
+      ≡ next (turnNumber (recordsOf st s) (w .need) (stampOf st s) (w .stamps) (nextIdOf st))
       (firstOf (turnRefusals (touchSpan st s sp time counted) s rest time counted))
   turn-first =
-      first-turn (ltb 128 (at (st .books .records) s + w .need))
-      (ltb maxStamp (at (st .books .stamp) s + w .stamps) || ltb maxStamp (st .books .nextId + w .need))
+      first-turn (ltb 128 (recordsOf st s + w .need))
+      (ltb maxStamp (stampOf st s + w .stamps) || ltb maxStamp (nextIdOf st + w .need))
       (firstOf (turnRefusals (touchSpan st s sp time counted) s rest time counted))
 
   turn-states : touchSpans st s (sp ∷ rest) time counted ≡ touchSpans (touchSpan st s sp time counted) s rest time counted
@@ -196,12 +197,12 @@ module _ (st : State) (s : ℕ) (sp : Span) (time : Float) (counted : Bool) wher
   unfolding touchSpan
   touched-tree = refl
 
-  pub touched-stores : touchSpan st s sp time counted .books .stores ≡ st .books .stores
+  pub touched-stores : storesOf (touchSpan st s sp time counted) ≡ storesOf st
   unfolding touchSpan
   touched-stores = refl
 
   touched-ranges : touchSpan st s sp time counted .ranges
-      ≡ layRanges (128 * s) (at (st .books .records) s + touchedBy st s sp time counted .need) (touchedBy st s sp time counted .store .ranges) (st .ranges)
+      ≡ layRanges (128 * s) (recordsOf st s + touchedBy st s sp time counted .need) (touchedBy st s sp time counted .store .ranges) (st .ranges)
   unfolding touchSpan
   touched-ranges = refl
 
@@ -214,21 +215,21 @@ unfolding storeOf
 store-marks st s = refl
 
 -- a taken turn, put back: as if it had not been
-module _ (st : State) (s : ℕ) (sp : Span) (time : Float) (counted : Bool) (h : Sound st) (less : s < st .books .stores) (inside : SpanIn (st .tree) sp) (f : Finite time)
-    (room : at (st .books .records) s + touchedBy st s sp time counted .need ≤ 128) (old : Old) where
+module _ (st : State) (s : ℕ) (sp : Span) (time : Float) (counted : Bool) (h : Sound st) (less : s < storesOf st) (inside : SpanIn (st .tree) sp) (f : Finite time)
+    (room : recordsOf st s + touchedBy st s sp time counted .need ≤ 128) (old : Old) where
   low : s < 8
   low = omega (arith, h .counts .stores)
 
   over-ranges : backRanges (128 * s) 128 (oldRanges old) (touchSpan st s sp time counted .ranges) ≡ backRanges (128 * s) 128 (oldRanges old) (st .ranges)
   over-ranges =
-      let few = touch-length (st .tree) (st .bytes) (storeOf st s) (st .books .nextId) sp time counted (store-sound st s h less) inside f (h .counts .firstId) in
+      let few = touch-length (st .tree) (st .bytes) (storeOf st s) (nextIdOf st) sp time counted (store-sound st s h less) inside f (h .counts .firstId) in
       ap (backRanges (128 * s) 128 (oldRanges old)) (touched-ranges st s sp time counted)
-      ∙ ranges-over (128 * s) (at (st .books .records) s + touchedBy st s sp time counted .need) (touchedBy st s sp time counted .store .ranges) (oldRanges old) (st .ranges)
+      ∙ ranges-over (128 * s) (recordsOf st s + touchedBy st s sp time counted .need) (touchedBy st s sp time counted .store .ranges) (oldRanges old) (st .ranges)
       (h .lent .ranges) (omega (arith, low)) (omega (arith, few, records-length st s)) room
 
   over-marks : back (256 * s) 256 (old .marks) (touchSpan st s sp time counted .marks) ≡ back (256 * s) 256 (old .marks) (st .marks)
   over-marks =
-      let long = touch-marks-long (st .tree) (st .bytes) (storeOf st s) (st .books .nextId) sp time counted in
+      let long = touch-marks-long (st .tree) (st .bytes) (storeOf st s) (nextIdOf st) sp time counted in
       let m = ap (λ (l : List ℕ). length l) (store-marks st s) ∙ mid-long (256 * s) 256 (st .marks) (omega (arith, low, h .lent .marks)) in
       ap (back (256 * s) 256 (old .marks)) (touched-marks st s sp time counted)
       ∙ back-over 0 (256 * s) 256 256 (touchedBy st s sp time counted .store .marks) (old .marks) (st .marks) (omega (arith, low, h .lent .marks)) (omega (arith, long, m)) (omega arith)
@@ -258,7 +259,7 @@ module _ (st₀ : State) (s : ℕ) (sps : List Span) (time : Float) (counted : B
     -- after a turn that was not the first to be refused
     module _ (v : On st₀ s sps time counted i st y) (g : Gone sp st y st′ r) where
       num : r .refused
-          ≡ turnNumber (at (st .books .records) s) (touchedBy st s sp time counted .need) (at (st .books .stamp) s) (touchedBy st s sp time counted .stamps) (st .books .nextId)
+          ≡ turnNumber (recordsOf st s) (touchedBy st s sp time counted .need) (stampOf st s) (touchedBy st s sp time counted .stamps) (nextIdOf st)
       num = rw (v .store, v .when, v .counts) at (g .number)
 
       firsts : next (r .refused) (firstOf (turnRefusals (touchSpan st s sp time counted) s (drop (i + 1) sps) time counted)) ≡ number st₀ s sps time counted
@@ -288,9 +289,9 @@ module _ (st₀ : State) (s : ℕ) (sps : List Span) (time : Float) (counted : B
         state-is : st′ ≡ touchSpan st s sp time counted
         state-is = t .state ∙ (λ j. touchSpan st (v .store j) sp (v .when j) (v .counts j))
 
-        fits : (at (st .books .records) s + touchedBy st s sp time counted .need ≤ 128) × (at (st .books .stamp) s + touchedBy st s sp time counted .stamps ≤ maxStamp) × (st .books .nextId + touchedBy st s sp time counted .need ≤ maxStamp)
+        fits : (recordsOf st s + touchedBy st s sp time counted .need ≤ 128) × (stampOf st s + touchedBy st s sp time counted .stamps ≤ maxStamp) × (nextIdOf st + touchedBy st s sp time counted .need ≤ maxStamp)
         fits =
-            number-fits (at (st .books .records) s) (touchedBy st s sp time counted .need) (at (st .books .stamp) s) (touchedBy st s sp time counted .stamps) (st .books .nextId)
+            number-fits (recordsOf st s) (touchedBy st s sp time counted .need) (stampOf st s) (touchedBy st s sp time counted .stamps) (nextIdOf st)
             (sym z ∙ num)
 
         in-here : SpanIn (st .tree) sp
@@ -301,7 +302,7 @@ module _ (st₀ : State) (s : ℕ) (sps : List Span) (time : Float) (counted : B
 
         bytes-most : touchedBy st s sp time counted .bytes ≤ 128 * maxBytes
         bytes-most =
-            touch-bytes-most (st .tree) (st .bytes) (storeOf st s) (st .books .nextId) sp time counted
+            touch-bytes-most (st .tree) (st .bytes) (storeOf st s) (nextIdOf st) sp time counted
             (sound-priced st (v .sound) sp (in-here .node) (omega (arith, in-here .filled)) (in-here .ends)) (store-sound st s (v .sound) (v .less) .few)
 
         old-is : keptOld (i + 1) (r .old) s (st′ .ranges) (st′ .marks) ≡ keptOld i (y .old) s (st .ranges) (st .marks)
@@ -321,7 +322,7 @@ module _ (st₀ : State) (s : ℕ) (sps : List Span) (time : Float) (counted : B
               sound =
                   subst Sound (sym state-is)
                   (touchSpan-sound st s (v .sound) (v .less) sp time counted in-here (v .finite) (fits .0) (fits .1) (fits .2));
-              less = omega (arith, v .less, ap (λ (x : State). x .books .stores) state-is ∙ touched-stores st s sp time counted);
+              less = omega (arith, v .less, ap (λ (x : State). storesOf x) state-is ∙ touched-stores st s sp time counted);
               tree = ap (λ (x : State). x .tree) state-is ∙ touched-tree st s sp time counted ∙ v .tree;
               inside = v .inside;
               finite = v .finite;
@@ -402,24 +403,24 @@ start-none false false false false e = absurd (omega arith)
 
 module _ (st₀ : State) (s : ℕ) (sps : List Span) (time : Float) (counted : Bool) (h : Sound st₀) where
   sound-first : number st₀ s sps time counted
-      ≡ (elim (leb (st₀ .books .stores) s) [ true ↦ 2 | false ↦ elim (ltb maxSpans (length sps)) [ true ↦ 3 | false ↦ elim (any (length sps) (bad (st₀ .tree) sps)) [ true ↦ 4 | false ↦ elim (not (SoundTest.finite time)) [ true ↦ 5 | false ↦ firstOf (turnRefusals st₀ s sps time counted) ] ] ] ])
+      ≡ (elim (leb (storesOf st₀) s) [ true ↦ 2 | false ↦ elim (ltb maxSpans (length sps)) [ true ↦ 3 | false ↦ elim (any (length sps) (bad (st₀ .tree) sps)) [ true ↦ 4 | false ↦ elim (not (SoundTest.finite time)) [ true ↦ 5 | false ↦ firstOf (turnRefusals st₀ s sps time counted) ] ] ] ])
   sound-first =
-      ap (λ (q : Bool). elim (not q) [ true ↦ 1 | false ↦ elim (leb (st₀ .books .stores) s) [ true ↦ 2 | false ↦ elim (ltb maxSpans (length sps)) [ true ↦ 3 | false ↦ elim (any (length sps) (bad (st₀ .tree) sps)) [ true ↦ 4 | false ↦ elim (not (SoundTest.finite time)) [ true ↦ 5 | false ↦ firstOf (turnRefusals st₀ s sps time counted) ] ] ] ] ])
+      ap (λ (q : Bool). elim (not q) [ true ↦ 1 | false ↦ elim (leb (storesOf st₀) s) [ true ↦ 2 | false ↦ elim (ltb maxSpans (length sps)) [ true ↦ 3 | false ↦ elim (any (length sps) (bad (st₀ .tree) sps)) [ true ↦ 4 | false ↦ elim (not (SoundTest.finite time)) [ true ↦ 5 | false ↦ firstOf (turnRefusals st₀ s sps time counted) ] ] ] ] ])
       (true-says (SoundTest.sound st₀) (sound-says st₀) h)
 
-  module _ (x : Small) (y₀ y : Turn) (b : Begun x s (length sps) time counted y₀) (is : x .stores ≡ st₀ .books .stores)
+  module _ (x : Small) (y₀ y : Turn) (b : Begun x s (length sps) time counted y₀) (is : storesIn (x .books) ≡ storesOf st₀)
       (e : y ≡ lookedAt (any (length sps) (bad (st₀ .tree) sps)) y₀) where
     abbrev some : Bool
     some = any (length sps) (bad (st₀ .tree) sps)
 
-    refused-is : y .refused ≡ refusedBy some (firstNumber (st₀ .books .stores) s (length sps) time)
+    refused-is : y .refused ≡ refusedBy some (firstNumber (storesOf st₀) s (length sps) time)
     refused-is =
         ap (λ (q : Turn). q .refused) e ∙ looked-number some y₀ ∙ ap (refusedBy some) (b .refused) ∙ ap (λ (k : ℕ). refusedBy some (firstNumber k s (length sps) time)) is
 
     first-is : next (y .refused) (firstOf (turnRefusals st₀ s sps time counted)) ≡ number st₀ s sps time counted
     first-is =
         ap (λ (k : ℕ). next k (firstOf (turnRefusals st₀ s sps time counted))) refused-is
-        ∙ sym (start-number (leb (st₀ .books .stores) s) (ltb maxSpans (length sps)) some (SoundTest.finite time) (firstOf (turnRefusals st₀ s sps time counted)))
+        ∙ sym (start-number (leb (storesOf st₀) s) (ltb maxSpans (length sps)) some (SoundTest.finite time) (firstOf (turnRefusals st₀ s sps time counted)))
         ∙ sym sound-first
 
     same : (b : Bool) (q : Turn) → (lookedAt b q .s ≡ q .s) × (lookedAt b q .time ≡ q .time) × (lookedAt b q .counted ≡ q .counted) × (lookedAt b q .turns ≡ q .turns) × (lookedAt b q .sum ≡ q .sum)
@@ -432,14 +433,14 @@ module _ (st₀ : State) (s : ℕ) (sps : List Span) (time : Float) (counted : B
           high = omega arith;
           off = λ n. record { first = next-some (y .refused) _ n ∙ first-is; ranges = refl; marks = refl };
           on = λ z.
-              let fine = start-none (leb (st₀ .books .stores) s) (ltb maxSpans (length sps)) some (SoundTest.finite time) (sym refused-is ∙ z) in
+              let fine = start-none (leb (storesOf st₀) s) (ltb maxSpans (length sps)) some (SoundTest.finite time) (sym refused-is ∙ z) in
               let q = same some y₀ in
               record {
                 store = ap (λ (q : Turn). q .s) e ∙ q .0 ∙ b .store;
                 when = ap (λ (q : Turn). q .time) e ∙ q .1 ∙ b .when;
                 counts = ap (λ (q : Turn). q .counted) e ∙ q .2 ∙ b .counts;
                 sound = h;
-                less = leb-false (st₀ .books .stores) s (fine .store);
+                less = leb-false (storesOf st₀) s (fine .store);
                 tree = refl;
                 inside = λ k l. span-in (st₀ .tree) (getD sps k noSpan)
                     (λ (n : SpanIn (st₀ .tree) (getD sps k noSpan) → ⊥). says-false (fine .spans) (storeUsed-exact st₀ s sps time counted .1 .1 .1 .0) (k, l, n));
@@ -595,16 +596,16 @@ list-end {sps} {depth} {bytes} {c₀} {ms₀} {y₀} {i} {c} {ms} {y} a b t =
 -- ---- the spans of a list looked at, one more
 
 module _ (sps : List Span) (len : List ℕ) (y₀ : Turn) (i : ℕ) (y : Turn) (v : Looks sps len y₀ i y) where
-  pub looks-ask : y₀ .small .nodes ≤ length len → y .small .nodes ≤ length len
+  pub looks-ask : nodesIn (y₀ .small .books) ≤ length len → nodesIn (y .small .books) ≤ length len
   looks-ask h =
-      let k = look-small (v (treeOf [] [] len [] [] (y₀ .small .nodes) 0) refl refl) in
-      omega (arith, ap (λ (q : Small). q .nodes) k)
+      let k = look-small (v (treeOf [] [] len [] [] (nodesIn (y₀ .small .books)) 0) refl refl) in
+      omega (arith, ap (λ (q : Small). nodesIn (q .books)) k)
 
-  pub looks-more : i < length sps → (r : Turn) → ((t : Tree) → t .len ≡ len → t .nodes ≡ y .small .nodes → r ≡ looked (spanIn t (getD sps i noSpan)) y)
+  pub looks-more : i < length sps → (r : Turn) → ((t : Tree) → t .len ≡ len → t .nodes ≡ nodesIn (y .small .books) → r ≡ looked (spanIn t (getD sps i noSpan)) y)
       → Looks sps len y₀ (i + 1) r
   looks-more less r f t l n =
       let o = v t l n in
-      look-next t sps y₀ i y r o less (f t l (n ∙ ap (λ (q : Small). q .nodes) (sym (look-small o))))
+      look-next t sps y₀ i y r o less (f t l (n ∙ ap (λ (q : Small). nodesIn (q .books)) (sym (look-small o))))
 
 pub looks-start : (sps : List Span) (len : List ℕ) (y : Turn) → Looks sps len y 0 y
 looks-start sps len y t l n = look-start t sps y
@@ -616,14 +617,14 @@ looks-end {sps} {len} {y₀} {i} {y} a b v = let e : i ≡ length sps = omega ar
 
 module _ (o : Others) (depth bytes : List ℕ) (c₀ : Ranges) (ms₀ : List ℕ) (x : Small) (s : ℕ) (sps : List Span) (time : Float) (counted : Bool)
     (h : Sound (whole o depth bytes c₀ ms₀ x)) (y₀ : Turn) (b : Begun x s (length sps) time counted y₀) where
-  pub list-looks : y₀ .small .nodes ≤ length (o .len)
+  pub list-looks : nodesIn (y₀ .small .books) ≤ length (o .len)
   list-looks = rw (b .small) (omega (arith, h .counts .nodes, h .lent .tree .len))
 
   module _ (y : Turn) (v : Looks sps (o .len) y₀ (length sps) y) where
     at-first : Going (whole o depth bytes c₀ ms₀ x) s sps time counted 0 (whole o depth bytes c₀ ms₀ (y .small)) y
     at-first =
         look-all o depth bytes c₀ ms₀ x s sps time counted h y₀ b (length sps) y
-        (v (whole o depth bytes c₀ ms₀ x .tree) refl (ap (λ (q : Small). q .nodes) (sym (b .small)))) (omega arith)
+        (v (whole o depth bytes c₀ ms₀ x .tree) refl (ap (λ (q : Small). nodesIn (q .books)) (sym (b .small)))) (omega arith)
 
     pub list-turns : AtFirst sps depth bytes c₀ ms₀ y
     list-turns = record { others = o; before = whole o depth bytes c₀ ms₀ x; store = s; time = time; counted = counted; going = at-first }

@@ -1,27 +1,28 @@
 -- A turn needs two records and ids and one stamp at most: on a node only one range can have a head before the span, and only one a tail behind it. So where there is room
 -- for all spans, no turn is refused. Assumes nothing.
 use Prim.Native.Nat.{ℕ, suc, _+_, _≤_, _<_}
-use mathlib.Core.Path.{_≡_, refl, sym, _∙_}
+use mathlib.Core.Path.{_≡_, refl, sym, ap, _∙_}
 use mathlib.Core.Bool.{Bool, true, false, _&&_}
 use mathlib.Core.List.{List, [], _∷_}
 use native.Mathlib.Omega.{arith}
 use lib.ListN.{length, getD}
-use lib.Seq.{getD-set-same}
 use lib.Dec.{ltb, eqb}
 use lib.Ieee.{Float}
 use borrow.Author.Tests.{le-ltb, ltb-true, eqb-true}
 use Rattle.model.specs.declared.Span.{Span}
+use Rattle.model.specs.declared.Book.{Book}
 use Rattle.model.specs.Sizes.{maxStamp}
-use Rattle.model.specs.State.{Tree, State, Range, at}
+use Rattle.model.specs.State.{Tree, State, Range, storesOf, nextIdOf, stallsOf, bookOf, recordsOf, stampOf, refreshes}
 use Rattle.model.specs.Sound.{Sound, Before, Finite}
-use Rattle.model.specs.Store.{Store, storeOf, meets, plus, withRanges, withNext}
+use Rattle.model.specs.Store.{Store, storeOf, layBook, meets, plus, withRanges, withNext}
 use Rattle.model.specs.Touch.{Touched, overlapped, oneInside, markRead, bytesRead, hasHead, hasTail, newPieces, renew, split, refresh, touchHits, touch}
 use Rattle.model.specs.Refusals.{firstOf, SpanIn, noSpan, touchedBy, touchSpan, turnRefusals}
 use Rattle.kept.specs.Facts.{All, InOrder, Sorted}
 use Rattle.keptbring.proofs.Facts.{all-map}
 use Rattle.kepttouch.proofs.Bools.{and-true}
-use Rattle.kepttouch.proofs.Touch.{touch-length, touch-stamp}
+use Rattle.kepttouch.proofs.Touch.{touch-length, touch-counted, touch-stamp}
 use Rattle.keptcalls.proofs.Stores.{store-sound, touchSpan-sound}
+use Rattle.laid.proofs.Books.{book-read, next-book}
 use Rattle.laid.proofs.Store.{records-length}
 use Rattle.usedspan.specs.Turn.{turnNumber}
 use Rattle.storeused.specs.Running.{Roomy}
@@ -98,48 +99,47 @@ module _ (x : Store) (i : ℕ) (sp : Span) (time : Float) (filled : sp .start < 
     where
       go : (hits : List Range) → (touchHits hits t table x i sp time counted .need ≤ 2) × (touchHits hits t table x i sp time counted .stamps ≤ 1)
       go [] = (omega arith, omega arith)
-      go (r ∷ rs) = refresh-few (x .refreshes) (oneInside (sp .start) (sp .end) (r ∷ rs)) (markRead counted sp (x .marks)) (bytesRead counted t table sp (r ∷ rs))
+      go (r ∷ rs) = refresh-few (refreshes (x .book)) (oneInside (sp .start) (sp .end) (r ∷ rs)) (markRead counted sp (x .marks)) (bytesRead counted t table sp (r ∷ rs))
 
 fits-none : (n need top stamps i : ℕ) → n + need ≤ 128 → top + stamps ≤ maxStamp → i + need ≤ maxStamp → turnNumber n need top stamps i ≡ 0
 fits-none n need top stamps i a b c = simp (le-ltb 128 (n + need) a, le-ltb maxStamp (top + stamps) b, le-ltb maxStamp (i + need) c)
 
-module _ (st : State) (s : ℕ) (sp : Span) (time : Float) (counted : Bool) (h : Sound st) (less : s < st .books .stores) where
+module _ (st : State) (s : ℕ) (sp : Span) (time : Float) (counted : Bool) (h : Sound st) (less : s < storesOf st) where
   abbrev w : Touched
   w = touchedBy st s sp time counted
 
-  wide : s < length (st .books .records)
-  wide = omega (arith, h .counts .stores, h .lent .books .records)
-
-  wide-stamps : s < length (st .books .stamp)
-  wide-stamps = omega (arith, h .counts .stores, h .lent .books .stamp)
-
-  records-then : at (touchSpan st s sp time counted .books .records) s ≡ length (w .store .ranges)
+  book-then : bookOf (touchSpan st s sp time counted) s ≡ w .store .book
   unfolding touchSpan withRanges withNext
-  records-then = getD-set-same (st .books .records) s (length (w .store .ranges)) 0 wide
+  book-then =
+      next-book (nextIdOf st + w .need) (stallsOf st) (layBook s (w .store .book) (st .books)) s
+      ∙ book-read s (st .books) (omega (arith, h .counts .stores)) (h .lent .books) (w .store .book)
 
-  stamp-then : at (touchSpan st s sp time counted .books .stamp) s ≡ w .store .stamp
-  unfolding touchSpan withRanges withNext
-  stamp-then = getD-set-same (st .books .stamp) s (w .store .stamp) 0 wide-stamps
+  records-then : recordsOf (touchSpan st s sp time counted) s ≡ length (w .store .ranges)
+  records-then =
+      ap (λ (b : Book). b .records) book-then ∙ touch-counted (st .tree) (st .bytes) (storeOf st s) (nextIdOf st) sp time counted
 
-  next-then : touchSpan st s sp time counted .books .nextId ≡ st .books .nextId + w .need
+  stamp-then : stampOf (touchSpan st s sp time counted) s ≡ w .store .book .stamp
+  stamp-then = ap (λ (b : Book). b .stamp) book-then
+
+  next-then : nextIdOf (touchSpan st s sp time counted) ≡ nextIdOf st + w .need
   unfolding touchSpan withRanges withNext
   next-then = refl
 
-  stamp-now : storeOf st s .stamp ≡ at (st .books .stamp) s
+  stamp-now : storeOf st s .book .stamp ≡ stampOf st s
   unfolding storeOf
   stamp-now = refl
 
 -- ---- all of them
 
-pub turns-fine : (st : State) (s : ℕ) (sps : List Span) (time : Float) (counted : Bool) → Sound st → s < st .books .stores
+pub turns-fine : (st : State) (s : ℕ) (sps : List Span) (time : Float) (counted : Bool) → Sound st → s < storesOf st
     → ((k : ℕ) → k < length sps → SpanIn (st .tree) (getD sps k noSpan)) → Finite time
-    → Roomy (at (st .books .records) s) (at (st .books .stamp) s) (st .books .nextId) (length sps)
+    → Roomy (recordsOf st s) (stampOf st s) (nextIdOf st) (length sps)
     → firstOf (turnRefusals st s sps time counted) ≡ 0
 turns-fine st s [] time counted h less inside f room = refl
 turns-fine st s (sp ∷ sps) time counted h less inside f room =
     turn-first st s sp sps time counted
-    ∙ sym (next-none (turnNumber (at (st .books .records) s) (touchedBy st s sp time counted .need) (at (st .books .stamp) s) (touchedBy st s sp time counted .stamps) (st .books .nextId)) _
-    (fits-none (at (st .books .records) s) (touchedBy st s sp time counted .need) (at (st .books .stamp) s) (touchedBy st s sp time counted .stamps) (st .books .nextId) rec stp ids))
+    ∙ sym (next-none (turnNumber (recordsOf st s) (touchedBy st s sp time counted .need) (stampOf st s) (touchedBy st s sp time counted .stamps) (nextIdOf st)) _
+    (fits-none (recordsOf st s) (touchedBy st s sp time counted .need) (stampOf st s) (touchedBy st s sp time counted .stamps) (nextIdOf st) rec stp ids))
     ∙ turns-fine (touchSpan st s sp time counted) s sps time counted
     (touchSpan-sound st s h less sp time counted here f rec stp ids)
     (rw (touched-stores st s sp time counted) less)
@@ -150,21 +150,21 @@ turns-fine st s (sp ∷ sps) time counted h less inside f room =
 
     few : (touchedBy st s sp time counted .need ≤ 2) × (touchedBy st s sp time counted .stamps ≤ 1)
     few =
-        touch-few (storeOf st s) (st .books .nextId) sp time (here .filled) (store-sound st s h less .ranges .sorted) (st .tree) (st .bytes) counted
+        touch-few (storeOf st s) (nextIdOf st) sp time (here .filled) (store-sound st s h less .ranges .sorted) (st .tree) (st .bytes) counted
 
-    rec : at (st .books .records) s + touchedBy st s sp time counted .need ≤ 128
+    rec : recordsOf st s + touchedBy st s sp time counted .need ≤ 128
     rec = omega (arith, few .0, room .records)
 
-    stp : at (st .books .stamp) s + touchedBy st s sp time counted .stamps ≤ maxStamp
+    stp : stampOf st s + touchedBy st s sp time counted .stamps ≤ maxStamp
     stp = omega (arith, few .1, room .stamps)
 
-    ids : st .books .nextId + touchedBy st s sp time counted .need ≤ maxStamp
+    ids : nextIdOf st + touchedBy st s sp time counted .need ≤ maxStamp
     ids = omega (arith, few .0, room .ids)
 
-    then : Roomy (at (touchSpan st s sp time counted .books .records) s) (at (touchSpan st s sp time counted .books .stamp) s) (touchSpan st s sp time counted .books .nextId) (length sps)
+    then : Roomy (recordsOf (touchSpan st s sp time counted) s) (stampOf (touchSpan st s sp time counted) s) (nextIdOf (touchSpan st s sp time counted)) (length sps)
     then =
-        let l = touch-length (st .tree) (st .bytes) (storeOf st s) (st .books .nextId) sp time counted (store-sound st s h less) here f (h .counts .firstId) in
-        let m = touch-stamp (st .tree) (st .bytes) (storeOf st s) (st .books .nextId) sp time counted in
+        let l = touch-length (st .tree) (st .bytes) (storeOf st s) (nextIdOf st) sp time counted (store-sound st s h less) here f (h .counts .firstId) in
+        let m = touch-stamp (st .tree) (st .bytes) (storeOf st s) (nextIdOf st) sp time counted in
         record {
           records = omega (arith, few .0, room .records, l, records-length st s, records-then st s sp time counted h less);
           stamps = omega (arith, few .1, room .stamps, m, stamp-then st s sp time counted h less, stamp-now st s sp time counted h less);

@@ -4,27 +4,33 @@ use mathlib.Core.Path.{_≡_, refl, sym, ap, subst, _∙_}
 use mathlib.Core.Bool.{Bool, true, false, not, _||_}
 use mathlib.Core.List.{List}
 use mathlib.Core.Logic.{⊎-elim}
-use native.Mathlib.Nat.{eq-or-lt-of-le, le-of-suc-le-suc}
+use native.Mathlib.Nat.{eq-or-lt-of-le, le-of-suc-le-suc, le-refl}
 use native.Mathlib.Numerals.{add-one}
 use native.Mathlib.Omega.{arith}
-use lib.ListN.{length, take, getD, set, length-take}
-use lib.Seq.{set-getD, set-set, getD-set-same}
+use lib.ListN.{length, take, getD, length-take, length-drop}
+use lib.Dec.{eqb}
 use lib.Ieee.{Float}
 use Rattle.model.specs.declared.Span.{Span}
+use Rattle.model.specs.declared.Book.{Book}
+use Rattle.model.specs.Sizes.{maxStores, maxNumbers, storeNumbers}
 use Rattle.model.specs.Words.{any}
-use Rattle.model.specs.State.{Tree, Ranges, State, at}
+use Rattle.model.specs.State.{Tree, Ranges, State, nodesIn, usedIn, storesIn, nextIdIn, stallsIn, partsIn, numbers, bookIn, whole as fiveAnd}
 use Rattle.model.specs.Sound.{Sound, RangesLent}
+use Rattle.model.specs.Store.{layBook, layNext}
 use Rattle.model.specs.Refusals.{firstOf, SpanIn, spanIn, noSpan, turnRefusals}
 use Rattle.model.specs.Calls.{Outcome, done, refused, touchSpans, bytesTouched, storeUsed}
+use Rattle.laid.proofs.Lay.{lay-lay}
+use Rattle.laid.proofs.Books.{book-read, book-back, next-book, next-same}
 use Rattle.lent.specs.declared.Small.{Small}
 use Rattle.parts.specs.Parts.{back, backRanges}
 use Rattle.answers.specs.declared.Counted.{Counted}
-use Rattle.answers.specs.declared.Count.the-variants.{Refused}
+use Rattle.answers.specs.declared.Count.the-variants.{Refused, Done}
 use Rattle.answers.specs.Answers.{outcome, countOf}
-use Rattle.usedspan.specs.declared.Old.{Old}
+use Rattle.undo.specs.declared.Old.{Old}
+use Rattle.undo.specs.Old.{oldRanges, oldFrom}
 use Rattle.usedspan.specs.declared.Turn.{Turn}
 use Rattle.usedspan.specs.declared.Run.{Run}
-use Rattle.usedspan.specs.Turn.{Others, whole, firstNumber, four, oldRanges, oldFrom, keptOld, undone, smallWith, Stands, RunAt, Ran}
+use Rattle.usedspan.specs.Turn.{Others, whole, firstNumber, four, keptOld, undone, renumbered, smallWith, Stands, RunAt, Ran}
 use Rattle.storeused.specs.Looking.{bad, lookedAt, refusedBy}
 use Rattle.storeused.specs.Going.{number, On, Going}
 use Rattle.storeused.specs.Running.{turnAt, Starts, Went, Roomy, runDone, Outcomes}
@@ -36,49 +42,68 @@ pub record Running (o : Others) (x : Small) (sps : List Span) (depth bytes : Lis
   pub on : On (whole o depth bytes c₀ ms₀ x) s sps time counted i (whole o depth bytes c ms (smallWith s z x)) (turnAt x (oldFrom s c₀ ms₀) s time counted i (z .sum) 0)
   pub kept : keptOld i (oldFrom s c₀ ms₀) s c ms ≡ oldFrom s c₀ ms₀
 
--- the small numbers that stand already
-small-same : (s : ℕ) (refreshes : Bool) (x : Small) (y : Run) → Stands s refreshes x y → smallWith s y x ≡ x
-small-same s refreshes x y e =
-    let a : set (x .records) s (y .n) ≡ x .records = ap (λ (k : ℕ). set (x .records) s k) (e .records) ∙ set-getD (x .records) s 0 in
-    let b : set (x .stamp) s (y .top) ≡ x .stamp = ap (λ (k : ℕ). set (x .stamp) s k) (e .stamp) ∙ set-getD (x .stamp) s 0 in
-    let d = e .next in
-    (λ j.
-    record {
-      nodes = x .nodes;
-      used = x .used;
-      stores = x .stores;
-      next = d j;
-      stalls = x .stalls;
-      capacity = x .capacity;
-      refreshes = x .refreshes;
-      records = a j;
-      held = x .held;
-      stamp = b j;
-      version = x .version;
-      entries = x .entries;
-      pinned = x .pinned;
-    })
+-- ---- the small numbers of a run: those that stand already, read back, and laid over others
 
-small-over : (s : ℕ) (x : Small) (z r : Run) → smallWith s r (smallWith s z x) ≡ smallWith s r x
-small-over s x z r =
-    let a = set-set (x .records) s (z .n) (r .n) in
-    let b = set-set (x .stamp) s (z .top) (r .top) in
-    (λ j.
+next-is : (next stalls : ℕ) (l : List ℕ) → nextIdIn (layNext next stalls l) ≡ next
+unfolding layNext
+next-is next stalls l = refl
+
+module _ (s : ℕ) (l : List ℕ) (less : s < maxStores) (long : maxNumbers ≤ length l) where
+  part-in : storeNumbers * s + storeNumbers ≤ length (partsIn l)
+  part-in = rw length-drop (omega arith)
+
+  book-over : (next stalls next₀ stalls₀ : ℕ) (b d : Book)
+      → layNext next stalls (layBook s b (layNext next₀ stalls₀ (layBook s d l))) ≡ layNext next stalls (layBook s b l)
+  unfolding layNext layBook
+  book-over next stalls next₀ stalls₀ b d =
+      ap (λ (xs : List ℕ). fiveAnd (nodesIn l) (usedIn l) (storesIn l) next stalls xs)
+      (lay-lay 0 (storeNumbers * s) storeNumbers storeNumbers (numbers d) (numbers b) (partsIn l) (le-refl storeNumbers) (le-refl storeNumbers) part-in)
+
+  stalls-is : (next stalls : ℕ) (b : Book) → stallsIn (layNext next stalls (layBook s b l)) ≡ stalls
+  unfolding layNext
+  stalls-is next stalls b = refl
+
+module _ (s : ℕ) (x : Small) (less : s < maxStores) (long : maxNumbers ≤ length (x .books)) where
+  abbrev own : Book
+  own = bookIn (x .books) s
+
+  small-same : (refreshes : Bool) (y : Run) → Stands s refreshes x y → smallWith s y x ≡ x
+  small-same refreshes y e =
+      let b : renumbered own (y .n) (y .top) ≡ own = (λ j. renumbered own (e .records j) (e .stamp j)) in
+      let k =
+      (λ j. layNext (e .next j) (stallsIn (x .books)) (layBook s (b j) (x .books)))
+      ∙ ap (layNext (nextIdIn (x .books)) (stallsIn (x .books))) (book-back s (x .books) less long)
+      ∙ next-same (x .books) long in
+      (λ j. record { books = k j })
+
+  book-run : (z : Run) → bookIn (smallWith s z x .books) s ≡ renumbered own (z .n) (z .top)
+  book-run z =
+      next-book (z .next) (stallsIn (x .books)) (layBook s (renumbered own (z .n) (z .top)) (x .books)) s
+      ∙ book-read s (x .books) less long (renumbered own (z .n) (z .top))
+
+  small-over : (z r : Run) → smallWith s r (smallWith s z x) ≡ smallWith s r x
+  small-over z r =
+      let d = renumbered own (z .n) (z .top) in
+      let e = book-run z in
+      let f = stalls-is s (x .books) less long (z .next) (stallsIn (x .books)) d in
+      let k =
+      (λ j. layNext (r .next) (f j) (layBook s (renumbered (e j) (r .n) (r .top)) (smallWith s z x .books)))
+      ∙ book-over s (x .books) less long (r .next) (stallsIn (x .books)) (z .next) (stallsIn (x .books)) (renumbered own (r .n) (r .top)) d in
+      (λ j. record { books = k j })
+
+-- the numbers that were read stand
+pub stands-read : (s : ℕ) (x : Small) (b : Book) → b ≡ bookIn (x .books) s
+    → Stands s (eqb (b .policy) 1) x (record { n = b .records; top = b .stamp; next = nextIdIn (x .books); sum = 0; number = 0 })
+stands-read s x b e =
     record {
-      nodes = x .nodes;
-      used = x .used;
-      stores = x .stores;
-      next = r .next;
-      stalls = x .stalls;
-      capacity = x .capacity;
-      refreshes = x .refreshes;
-      records = a j;
-      held = x .held;
-      stamp = b j;
-      version = x .version;
-      entries = x .entries;
-      pinned = x .pinned;
-    })
+      records = ap (λ (q : Book). q .records) e;
+      on = ap (λ (q : Book). eqb (q .policy) 1) e;
+      stamp = ap (λ (q : Book). q .stamp) e;
+      next = refl;
+    }
+
+pub run-told : (x r : Small) (s : ℕ) (y : Run) → r ≡ smallWith s y x → _≡_ {A = Counted} (record { small = r; answer = Done (y .sum) }) (runDone x s y)
+run-told x r s y e = (λ i. record { small = e i; answer = Done (y .sum) })
 
 module _ (o : Others) (x : Small) (sps : List Span) (depth bytes : List ℕ) (c₀ : Ranges) (ms₀ : List ℕ) (s : ℕ) (refreshes : Bool) (time : Float) (counted : Bool) (y : Run)
     (q : Starts o x sps depth bytes c₀ ms₀ s refreshes time counted y) where
@@ -91,6 +116,9 @@ module _ (o : Others) (x : Small) (sps : List Span) (depth bytes : List ℕ) (c�
   pub low : s < 8
   low = omega (arith, q .on .less, q .on .sound .counts .stores)
 
+  long : maxNumbers ≤ length (x .books)
+  long = q .on .sound .lent .books
+
   pub lends : (s < 8) × RangesLent c₀ × (2048 ≤ length ms₀)
   lends = (low, q .on .sound .lent .ranges, q .on .sound .lent .marks)
 
@@ -98,7 +126,7 @@ module _ (o : Others) (x : Small) (sps : List Span) (depth bytes : List ℕ) (c�
   running-start =
       record {
         on =
-            subst (λ (w : Small). On began s sps time counted 0 (whole o depth bytes c₀ ms₀ w) (turnAt x old s time counted 0 (y .sum) 0)) (sym (small-same s refreshes x y (q .stands)))
+            subst (λ (w : Small). On began s sps time counted 0 (whole o depth bytes c₀ ms₀ w) (turnAt x old s time counted 0 (y .sum) 0)) (sym (small-same s x low long refreshes y (q .stands)))
             (subst (λ (k : ℕ). On began s sps time counted 0 began (turnAt x old s time counted 0 k 0)) (sym (q .sum)) (q .on));
         kept = refl;
       }
@@ -112,11 +140,12 @@ module _ (o : Others) (x : Small) (sps : List Span) (depth bytes : List ℕ) (c�
 
     stands-now : Stands s refreshes (smallWith s z x) z
     stands-now =
+        let e = book-run s x low long z in
         record {
-          records = sym (getD-set-same (x .records) s (z .n) 0 (omega (arith, low, q .on .sound .lent .books .records)));
-          on = q .stands .on;
-          stamp = sym (getD-set-same (x .stamp) s (z .top) 0 (omega (arith, low, q .on .sound .lent .books .stamp)));
-          next = refl;
+          records = sym (ap (λ (b : Book). b .records) e);
+          on = q .stands .on ∙ sym (ap (λ (b : Book). eqb (b .policy) 1) e);
+          stamp = sym (ap (λ (b : Book). b .stamp) e);
+          next = sym (next-is (z .next) _ _);
         }
 
     module _ (sp : Span) (less : i < length sps) (e : sp ≡ getD sps i noSpan) where
@@ -137,7 +166,7 @@ module _ (o : Others) (x : Small) (sps : List Span) (depth bytes : List ℕ) (c�
 
         ran : Ran (getD sps i noSpan) s time counted here z there r
         ran =
-            subst (λ (a : Small). Ran (getD sps i noSpan) s time counted here z (whole o depth bytes c′ ms′ a) r) (small-over s x z r)
+            subst (λ (a : Small). Ran (getD sps i noSpan) s time counted here z (whole o depth bytes c′ ms′ a) r) (small-over s x low long z r)
             (subst (λ (a : Span). Ran a s time counted here z (whole o depth bytes c′ ms′ (smallWith s r (smallWith s z x))) r) e w)
 
         pub running-next : r .number ≡ 0 → Running o x sps depth bytes c₀ ms₀ s time counted (i + 1) c′ ms′ r
@@ -290,12 +319,12 @@ module _ (len : List ℕ) (nodes : ℕ) (sps : List Span) where
 -- ---- before the turns
 
 module _ (o : Others) (x : Small) (sps : List Span) (depth bytes : List ℕ) (c : Ranges) (ms : List ℕ) (s : ℕ) (time : Float) (counted : Bool) (k : ℕ)
-    (h : Sound (whole o depth bytes c ms x)) (f : (t : Tree) → t .len ≡ o .len → t .nodes ≡ x .nodes → k ≡ refusedBy (any (length sps) (bad t sps)) (firstNumber (x .stores) s (length sps) time)) where
+    (h : Sound (whole o depth bytes c ms x)) (f : (t : Tree) → t .len ≡ o .len → t .nodes ≡ nodesIn (x .books) → k ≡ refusedBy (any (length sps) (bad t sps)) (firstNumber (storesIn (x .books)) s (length sps) time)) where
   abbrev st₀ : State
   st₀ = whole o depth bytes c ms x
 
   abbrev first : ℕ
-  first = firstNumber (x .stores) s (length sps) time
+  first = firstNumber (storesIn (x .books)) s (length sps) time
 
   abbrev turn₀ : ℕ → Turn
   turn₀ n = turnAt x (oldFrom s c ms) s time counted 0 0 n
@@ -321,9 +350,10 @@ module _ (o : Others) (x : Small) (sps : List Span) (depth bytes : List ℕ) (c 
   pub start-low : k ≡ 0 → s < 8
   start-low n = omega (arith, at-start .on n .less, h .counts .stores)
 
-  pub start-counts : k ≡ 0 → (at (x .records) s ≤ 128) × (at (x .stamp) s ≤ 281474976710655) × (x .next ≤ 281474976710655)
-  start-counts n =
+  pub start-counts : k ≡ 0 → (b : Book) → b ≡ bookIn (x .books) s → (b .records ≤ 128) × (b .stamp ≤ 281474976710655) × (nextIdIn (x .books) ≤ 281474976710655)
+  start-counts n b is =
       let e = h .counts .each s (omega arith) (at-start .on n .less) in
+      subst (λ (q : Book). (q .records ≤ 128) × (q .stamp ≤ 281474976710655) × (nextIdIn (x .books) ≤ 281474976710655)) (sym is)
       (e .records, e .stamp, h .counts .nextId)
 
   pub start-runs : k ≡ 0 → (refreshes : Bool) (y : Run) → Stands s refreshes x y → y .sum ≡ 0 → y .number ≡ 0

@@ -8,14 +8,15 @@ use lib.ListN.{length, drop, getD}
 use lib.Ieee.{Float}
 use Rattle.model.specs.declared.Span.{Span}
 use Rattle.model.specs.Sizes.{maxBytes}
-use Rattle.model.specs.State.{Ranges, State}
+use Rattle.model.specs.State.{Ranges, State, storesOf}
 use Rattle.model.specs.Sound.{Sound, Finite}
 use Rattle.model.specs.Refusals.{firstOf, SpanIn, noSpan, turnRefusals, storeUsedRefusals}
 use Rattle.model.specs.Calls.{touchSpans, bytesTouched}
 use Rattle.lent.specs.declared.Small.{Small}
 use Rattle.parts.specs.Parts.{back, backRanges}
+use Rattle.undo.specs.Old.{oldRanges}
 use Rattle.usedspan.specs.declared.Turn.{Turn}
-use Rattle.usedspan.specs.Turn.{Others, whole, oldRanges, keptOld}
+use Rattle.usedspan.specs.Turn.{Others, whole, keptOld}
 
 abbrev pub number : State → ℕ → List Span → Float → Bool → ℕ
 number st s sps time counted = firstOf (storeUsedRefusals st s sps time counted)
@@ -26,7 +27,7 @@ pub record On (st₀ : State) (s : ℕ) (sps : List Span) (time : Float) (counte
   pub when : y .time ≡ time
   pub counts : y .counted ≡ counted
   pub sound : Sound st
-  pub less : s < st .books .stores
+  pub less : s < storesOf st
   pub tree : st .tree ≡ st₀ .tree
   pub inside : (k : ℕ) → k < length sps → SpanIn (st₀ .tree) (getD sps k noSpan)
   pub finite : Finite time

@@ -13,10 +13,11 @@ use Rattle.parts.specs.Parts.{back, backRanges}
 use Rattle.answers.specs.declared.Counted.{Counted}
 use Rattle.answers.specs.declared.Count.the-variants.{Done}
 use Rattle.answers.specs.Answers.{outcome, countOf}
-use Rattle.usedspan.specs.declared.Old.{Old}
+use Rattle.undo.specs.declared.Old.{Old}
+use Rattle.undo.specs.Old.{oldRanges, oldFrom}
 use Rattle.usedspan.specs.declared.Turn.{Turn}
 use Rattle.usedspan.specs.declared.Run.{Run}
-use Rattle.usedspan.specs.Turn.{Others, whole, oldRanges, oldFrom, smallWith, Stands}
+use Rattle.usedspan.specs.Turn.{Others, whole, smallWith, Stands}
 use Rattle.storeused.specs.Going.{number, On}
 
 -- a touch before span i, as the turns of a list have it

@@ -9,7 +9,7 @@ ghost use Prim.Native.Nat.{_≤_, _<_};
 ghost use lib.ListN.{length, take};
 ghost use Rattle.model.specs.Sizes.{maxStamp};
 ghost use Rattle.model.specs.Words.{Says, any};
-ghost use Rattle.model.specs.State.{Tree};
+ghost use Rattle.model.specs.State.{Tree, nodesIn};
 ghost use Rattle.model.specs.Sound.{Sound};
 ghost use Rattle.model.specs.Calls.{storeUsed};
 ghost use Rattle.lent.specs.Lent.{rangesOf};
@@ -21,7 +21,7 @@ ghost use Rattle.answers.specs.Answers.{stateFrom, outcome, countOf};
 
 // The spans of a lent list, one call for each, before the first turn: 4 if one of them is not one of the tree.
 pub fn look_spans(spans: &[Span], len: &[usize], x: Turn) -> Turn
-    requires { ⌜ x .small .nodes ≤ length (now len) ⌝ }
+    requires { ⌜ nodesIn (x .small .books) ≤ length (now len) ⌝ }
     ensures { λ r. ⌜ Looks (now (spans .entry)) (now (len .entry)) x (length (now (spans .entry))) r ⌝ }
 {
     let mut y = x;
@@ -173,10 +173,7 @@ fn run_done(x: Small, s: usize, y: Run) -> Counted
     requires { ⌜ s < 8 ⌝ }
     ensures { λ r. ⌜ r ≡ runDone x s y ⌝ }
 {
-    let mut small = x;
-    small.next = y.next;
-    small.records[s] = y.n;
-    small.stamp[s] = y.top;
+    let small = usedspan::small_for(x, s, y.n, y.top, y.next);
     Counted {
         small,
         answer: Count::Done(y.sum),
@@ -207,7 +204,7 @@ fn touch_kept(
     requires { ⌜ CanStart (take count spans) (now depth) (now bytes) (rangesOf (now node) (now start) (now end) (now id) (now stamp) (now touched) (now write)) (now marks) s refreshes time counted y × (count ≤ 64) ⌝ }
     ensures { λ r. ⌜ ((o : Others) → Starts o x (take count spans) (now (depth .entry)) (now (bytes .entry)) (rangesOf (now (node .entry)) (now (start .entry)) (now (end .entry)) (now (id .entry)) (now (stamp .entry)) (now (touched .entry)) (now (write .entry))) (now (marks .entry)) s refreshes time counted y → Outcomes (whole o (now (depth .entry)) (now (bytes .entry)) (rangesOf (now (node .entry)) (now (start .entry)) (now (end .entry)) (now (id .entry)) (now (stamp .entry)) (now (touched .entry)) (now (write .entry))) (now (marks .entry)) x) s (take count spans) time counted (whole o (now (depth .entry)) (now (bytes .entry)) (rangesOf (now (node .exit)) (now (start .exit)) (now (end .exit)) (now (id .exit)) (now (stamp .exit)) (now (touched .exit)) (now (write .exit))) (now (marks .exit)) (r .small)) r) ⌝ }
 {
-    let old = usedspan::keep(node, start, end, id, stamp, touched, write, marks, s);
+    let old = undo::keep(node, start, end, id, stamp, touched, write, marks, s);
     let z = take_turns(
         node,
         start,
@@ -228,7 +225,7 @@ fn touch_kept(
         y,
     );
     if z.number != 0 {
-        usedspan::undo(node, start, end, id, stamp, touched, write, marks, s, old);
+        undo::undo(node, start, end, id, stamp, touched, write, marks, s, old);
         return Counted {
             small: x,
             answer: Count::Refused(z.number),
@@ -267,18 +264,21 @@ pub fn store_used_array(
     requires { ⌜ Sound (stateFrom (now parent) (now depth) (now len) (now run) (now words) (now node) (now start) (now end) (now id) (now stamp) (now touched) (now write) (now «pin_node») (now «pin_start») (now «pin_end») (now «pin_count») (now marks) (now bytes) x) × (count ≤ 64) ⌝ }
     ensures { λ r. ⌜ outcome (stateFrom (now (parent .entry)) (now (depth .entry)) (now (len .entry)) (now (run .entry)) (now (words .entry)) (now (node .exit)) (now (start .exit)) (now (end .exit)) (now (id .exit)) (now (stamp .exit)) (now (touched .exit)) (now (write .exit)) (now («pin_node» .entry)) (now («pin_start» .entry)) (now («pin_end» .entry)) (now («pin_count» .entry)) (now (marks .exit)) (now (bytes .entry)) (r .small)) tt (countOf (r .answer)) ≡ storeUsed (stateFrom (now (parent .entry)) (now (depth .entry)) (now (len .entry)) (now (run .entry)) (now (words .entry)) (now (node .entry)) (now (start .entry)) (now (end .entry)) (now (id .entry)) (now (stamp .entry)) (now (touched .entry)) (now (write .entry)) (now («pin_node» .entry)) (now («pin_start» .entry)) (now («pin_end» .entry)) (now («pin_count» .entry)) (now (marks .entry)) (now (bytes .entry)) x) s (take count spans) time counted ⌝ }
 {
-    let number = first_refusal(len, x.nodes, x.stores, s, spans, count, time);
+    let nodes = x.books[0] as usize;
+    let stores = x.books[2] as usize;
+    let number = first_refusal(len, nodes, stores, s, spans, count, time);
     if number != 0 {
         return Counted {
             small: x,
             answer: Count::Refused(number),
         };
     }
-    let refreshes = x.refreshes[s];
+    let b = books::book_of(&x.books, s);
+    let refreshes = b.policy == 1;
     let y = Run {
-        n: x.records[s],
-        top: x.stamp[s],
-        next: x.next,
+        n: b.records,
+        top: b.stamp,
+        next: x.books[3],
         sum: 0,
         number: 0,
     };

@@ -11,8 +11,8 @@ use lib.ListN.{length, getD}
 use lib.Ieee.{Float}
 use Rattle.model.specs.declared.Span.{Span}
 use Rattle.model.specs.Words.{Says, Each}
-use Rattle.model.specs.Sizes.{maxNodes, maxWords, maxHashes, maxStores, maxCapacity, maxMarks, storeRecords, storePins, maxPinned, maxStamp, maxSpans, maxTiers, tableLength, pathPlaces, outPlaces, tierPlaces}
-use Rattle.model.specs.State.{Tree, Pins, Pin, State, at, pinAt}
+use Rattle.model.specs.Sizes.{maxNodes, maxWords, maxHashes, maxStores, maxCapacity, maxMarks, maxNumbers, storeRecords, storePins, maxPinned, maxStamp, maxSpans, maxTiers, tableLength, pathPlaces, outPlaces, tierPlaces}
+use Rattle.model.specs.State.{Tree, Pins, Pin, State, at, pinAt, storesOf, nextIdOf, recordsOf, stampOf, entriesOf, pinnedOf}
 use Rattle.model.specs.SoundTest.{sound, rising}
 use Rattle.model.specs.Store.{pins, storeOf}
 use Rattle.model.specs.Bring.{bringNeed}
@@ -90,10 +90,10 @@ shortTiers-tells l =
     and le-sure tierPlaces (length (l .end))))
 
 noStore-tells : (st : State) (s : ℕ) → Tells (noStore st s)
-noStore-tells st s = le-sure (st .books .stores) s
+noStore-tells st s = le-sure (storesOf st) s
 
 noTier-tells : (st : State) (ts : List ℕ) → Tells (noTier st ts)
-noTier-tells st ts = any-sure (length ts) (λ i. le-sure (st .books .stores) (at ts i))
+noTier-tells st ts = any-sure (length ts) (λ i. le-sure (storesOf st) (at ts i))
 
 manyHashes-tells : (hs : List ℕ) → Tells (manyHashes hs)
 manyHashes-tells hs = lt-sure maxHashes (length hs)
@@ -148,7 +148,7 @@ noEntry-tells : (st : State) (s : ℕ) (sp : Span) → Tells (noEntry st s sp)
 unfolding storeOf
 noEntry-tells st s sp =
     let a = storePins * s in
-    let n = at (st .books .entries) s in
+    let n = entriesOf st s in
     map-sure (λ h k f l. h (a + k) (omega arith) (omega arith)) (from-place (λ k. EntryOf sp (pinAt (st .pins) k) → ⊥) a n) (noneOf-sure sp (st .pins) a n)
 
 fewNodes-tells : (st : State) (hs : List ℕ) → Tells (fewNodes st hs)
@@ -158,25 +158,25 @@ fewWords-tells : (st : State) (hs : List ℕ) → Tells (fewWords st hs)
 fewWords-tells st hs = lt-sure maxWords (st .tree .used + newBlocks st hs)
 
 fewRecords-tells : (st : State) (s need : ℕ) → Tells (fewRecords st s need)
-fewRecords-tells st s need = lt-sure storeRecords (at (st .books .records) s + need)
+fewRecords-tells st s need = lt-sure storeRecords (recordsOf st s + need)
 
 fewRecordsInCut-tells : (st : State) (hs : List ℕ) → Tells (fewRecordsInCut st hs)
-fewRecordsInCut-tells st hs = any-sure (st .books .stores) (λ s. lt-sure storeRecords (at (st .books .records) s + cutRecords st hs s))
+fewRecordsInCut-tells st hs = any-sure (storesOf st) (λ s. lt-sure storeRecords (recordsOf st s + cutRecords st hs s))
 
 fewEntries-tells : (st : State) (s : ℕ) (sp : Span) → Tells (fewEntries st s sp)
 fewEntries-tells st s sp =
-    or-sure (lt-sure storePins (at (st .books .entries) s + pinNeed (storeOf st s) sp))
-    (lt-sure maxPinned (at (st .books .pinned) s + (sp .end - sp .start)))
+    or-sure (lt-sure storePins (entriesOf st s + pinNeed (storeOf st s) sp))
+    (lt-sure maxPinned (pinnedOf st s + (sp .end - sp .start)))
 
 fewEntriesInCut-tells : (st : State) (hs : List ℕ) → Tells (fewEntriesInCut st hs)
-fewEntriesInCut-tells st hs = any-sure (st .books .stores) (λ s. lt-sure storePins (at (st .books .entries) s + cutEntries st hs s))
+fewEntriesInCut-tells st hs = any-sure (storesOf st) (λ s. lt-sure storePins (entriesOf st s + cutEntries st hs s))
 
 lateId-tells : (st : State) (ids : ℕ) → Tells (lateId st ids)
-lateId-tells st ids = lt-sure maxStamp (st .books .nextId + ids)
+lateId-tells st ids = lt-sure maxStamp (nextIdOf st + ids)
 
 lateStamp-tells : (st : State) (s stamps ids : ℕ) → Tells (lateStamp st s stamps ids)
 lateStamp-tells st s stamps ids =
-    or-sure (lt-sure maxStamp (at (st .books .stamp) s + stamps)) (lt-sure maxStamp (st .books .nextId + ids))
+    or-sure (lt-sure maxStamp (stampOf st s + stamps)) (lt-sure maxStamp (nextIdOf st + ids))
 
 setUpFits-sure : (pools : State) (table capacity : List ℕ) (refreshes : List Bool)
     → Sure (setUpFits pools table capacity refreshes) (SetUpFits pools table capacity refreshes)
@@ -193,7 +193,8 @@ setUpFits-sure pools table capacity refreshes =
     and rangesLent-sure (pools .ranges)
     and pinsLent-sure (pools .pins)
     and le-sure maxMarks (length (pools .marks))
-    and le-sure tableLength (length (pools .bytes)))
+    and le-sure tableLength (length (pools .bytes))
+    and le-sure maxNumbers (length (pools .books)))
 
 -- ---- each public call
 
@@ -212,7 +213,7 @@ insert-exact st l hs =
     then fewWords-tells st hs
     then fewRecordsInCut-tells st hs
     then fewEntriesInCut-tells st hs
-    then lateId-tells st (cutIds st hs (st .books .stores))
+    then lateId-tells st (cutIds st hs (storesOf st))
     then tt
 
 pub storeInsert-exact : (st : State) (l : OutList) (s : ℕ) (sp : Span) (time : Float) → Exact (storeInsertRefusals st l s sp time)
@@ -247,7 +248,7 @@ storeUsed-exact st s sps time counted =
 
 pub storeRemove-exact : (st : State) (l : List ℕ) (s : ℕ) (sp : Span) → Exact (storeRemoveRefusals st l s sp)
 storeRemove-exact st l s sp =
-    let need = remove (storeOf st s) (st .books .nextId) sp .need in
+    let need = remove (storeOf st s) (nextIdOf st) sp .need in
     unsound-tells st
     then shortWrites-tells l
     then noStore-tells st s

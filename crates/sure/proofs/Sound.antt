@@ -9,11 +9,12 @@ use native.Mathlib.Omega.{arith}
 use lib.ListN.{length}
 use lib.Dec.{leb, ltb, eqb}
 use lib.Ieee.{Float, nan, inf, fin}
+use Rattle.model.specs.declared.Book.{Book}
 use Rattle.model.specs.Words.{Says, Each}
-use Rattle.model.specs.Sizes.{maxNodes, maxWords, maxHashes, maxStores, maxCapacity, storeRecords, storePins, maxRecords, maxPins, maxMarks, maxPinned, maxStamp, tableLength, maxBytes, maxStalls}
-use Rattle.model.specs.State.{Tree, Ranges, Pins, Books, State, Range, Pin, at, recordOf, entryOf, markOf, firstHash, endOf}
-use Rattle.model.specs.Sound.{TreeLent, RangesLent, PinsLent, BooksLent, Lent, StoreCounts, Counts, Rising, Root, EachNode, ParentsInUse, DepthsAdd, EndsWithin, NodesFilled, RunsBelow, InRun, RunsApart, SiblingsDiffer, EachStore, EachRecord, Before, RecordsStand, Inside, RecordsInside, heldBy, HeldIsSum, HeldNoneAtZero, OneRecord, IdsDiffer, IdBetween, IdsBelowNext, StampBetween, StampsUpToStores, Finite, TimesFinite, EachEntry, PinBefore, PinsStand, PinInside, PinsInside, pinnedBy, PinnedIsSum, HoldsNone, MarksNone, MarksWithin, Sound}
-use Rattle.model.specs.SoundTest.{treeLent, rangesLent, pinsLent, booksLent, lent, storeCounts, counts, risesFrom, rising, root, eachNode, parentsInUse, depthsAdd, endsWithin, nodesFilled, runsBelow, runApart, runsApart, siblingsDiffer, eachStore, eachRecord, before, recordsStand, inside, recordsInside, heldIsSum, heldNoneAtZero, idsDiffer, idsBelowNext, stampsUpToStores, finite, timesFinite, eachEntry, pinBefore, pinsStand, pinInside, pinsInside, pinnedIsSum, holdsNone, marksNone, marksWithin, sound}
+use Rattle.model.specs.Sizes.{maxNodes, maxWords, maxHashes, maxStores, maxCapacity, storeRecords, storePins, maxRecords, maxPins, maxMarks, maxNumbers, maxPinned, maxStamp, tableLength, maxBytes, maxStalls}
+use Rattle.model.specs.State.{Tree, Ranges, Pins, State, Range, Pin, at, recordOf, entryOf, markOf, firstHash, endOf, storesOf, nextIdOf, stallsOf, bookOf, capacityOf, recordsOf, heldOf, stampOf, entriesOf, pinnedOf}
+use Rattle.model.specs.Sound.{TreeLent, RangesLent, PinsLent, Lent, StoreCounts, Counts, Rising, Root, EachNode, ParentsInUse, DepthsAdd, EndsWithin, NodesFilled, RunsBelow, InRun, RunsApart, SiblingsDiffer, EachStore, EachRecord, Before, RecordsStand, Inside, RecordsInside, heldBy, HeldIsSum, HeldNoneAtZero, OneRecord, IdsDiffer, IdBetween, IdsBelowNext, StampBetween, StampsUpToStores, Finite, TimesFinite, EachEntry, PinBefore, PinsStand, PinInside, PinsInside, pinnedBy, PinnedIsSum, HoldsNone, MarksNone, MarksWithin, Sound}
+use Rattle.model.specs.SoundTest.{treeLent, rangesLent, pinsLent, lent, storeCounts, counts, risesFrom, rising, root, eachNode, parentsInUse, depthsAdd, endsWithin, nodesFilled, runsBelow, runApart, runsApart, siblingsDiffer, eachStore, eachRecord, before, recordsStand, inside, recordsInside, heldIsSum, heldNoneAtZero, idsDiffer, idsBelowNext, stampsUpToStores, finite, timesFinite, eachEntry, pinBefore, pinsStand, pinInside, pinsInside, pinnedIsSum, holdsNone, marksNone, marksWithin, sound}
 use Rattle.sure.proofs.Says.{Sure, sure, le-sure, lt-sure, eq-sure, map-sure, map-says, _and_, or-else-sure, not-sure, implies-sure, unless-sure, all-sure, from-one-sure, pairs-sure}
 
 -- ---- pools and counts
@@ -49,19 +50,6 @@ pinsLent-sure c =
     and le-sure maxPins (length (c .end))
     and le-sure maxPins (length (c .count)))
 
-booksLent-sure : (b : Books) → Sure (booksLent b) (BooksLent b)
-unfolding booksLent
-booksLent-sure b =
-    map-sure (λ h. search) (λ h. search)
-    (eq-sure (length (b .capacity)) maxStores
-    and eq-sure (length (b .refreshes)) maxStores
-    and eq-sure (length (b .records)) maxStores
-    and eq-sure (length (b .held)) maxStores
-    and eq-sure (length (b .stamp)) maxStores
-    and eq-sure (length (b .version)) maxStores
-    and eq-sure (length (b .entries)) maxStores
-    and eq-sure (length (b .pinned)) maxStores)
-
 pub lent-says : (st : State) → Says (lent st) (Lent st)
 unfolding lent
 lent-says st =
@@ -71,17 +59,18 @@ lent-says st =
     and pinsLent-sure (st .pins)
     and le-sure maxMarks (length (st .marks))
     and le-sure tableLength (length (st .bytes))
-    and booksLent-sure (st .books))
+    and le-sure maxNumbers (length (st .books)))
 
-storeCounts-sure : (b : Books) (s : ℕ) → Sure (storeCounts b s) (StoreCounts b s)
+storeCounts-sure : (b : Book) → Sure (storeCounts b) (StoreCounts b)
 unfolding storeCounts
-storeCounts-sure b s =
+storeCounts-sure b =
     map-sure (λ h. search) (λ h. search)
-    (le-sure (at (b .capacity) s) maxCapacity
-    and le-sure (at (b .records) s) storeRecords
-    and le-sure (at (b .entries) s) storePins
-    and le-sure (at (b .pinned) s) maxPinned
-    and le-sure (at (b .stamp) s) maxStamp)
+    (le-sure (b .capacity) maxCapacity
+    and le-sure (b .policy) 1
+    and le-sure (b .records) storeRecords
+    and le-sure (b .entries) storePins
+    and le-sure (b .pinned) maxPinned
+    and le-sure (b .stamp) maxStamp)
 
 pub counts-says : (st : State) → Says (counts st) (Counts st)
 unfolding counts
@@ -90,12 +79,12 @@ counts-says st =
     (le-sure 1 (st .tree .nodes)
     and le-sure (st .tree .nodes) maxNodes
     and le-sure (st .tree .used) maxWords
-    and le-sure 1 (st .books .stores)
-    and le-sure (st .books .stores) maxStores
-    and le-sure 1 (st .books .nextId)
-    and le-sure (st .books .nextId) maxStamp
-    and le-sure (st .books .stalls) maxStalls
-    and all-sure (st .books .stores) (storeCounts-sure (st .books)))
+    and le-sure 1 (storesOf st)
+    and le-sure (storesOf st) maxStores
+    and le-sure 1 (nextIdOf st)
+    and le-sure (nextIdOf st) maxStamp
+    and le-sure (stallsOf st) maxStalls
+    and all-sure (storesOf st) (λ s. storeCounts-sure (bookOf st s)))
 
 -- ---- the byte table
 
@@ -219,17 +208,17 @@ pinInside-sure t p =
 
 module _ (st : State) where
   each-store : {f : ℕ → Bool} {P : ℕ → Type 0} → ((s : ℕ) → Sure (f s) (P s)) → Sure (eachStore st f) (EachStore st P)
-  each-store f = all-sure (st .books .stores) f
+  each-store f = all-sure (storesOf st) f
 
   each-record : {f : ℕ → Bool} {P : ℕ → Type 0} (s : ℕ) → ((k : ℕ) → Sure (f k) (P k)) → Sure (eachRecord st s f) (EachRecord st s P)
-  each-record s f = all-sure (at (st .books .records) s) f
+  each-record s f = all-sure (recordsOf st s) f
 
   each-entry : {f : ℕ → Bool} {P : ℕ → Type 0} (s : ℕ) → ((k : ℕ) → Sure (f k) (P k)) → Sure (eachEntry st s f) (EachEntry st s P)
-  each-entry s f = all-sure (at (st .books .entries) s) f
+  each-entry s f = all-sure (entriesOf st s) f
 
   pub recordsStand-says : Says (recordsStand st) (RecordsStand st)
   unfolding recordsStand RecordsStand
-  recordsStand-says = each-store (λ s. pairs-sure (at (st .books .records) s) (λ j k. before-sure (recordOf st s j) (recordOf st s k))) .says
+  recordsStand-says = each-store (λ s. pairs-sure (recordsOf st s) (λ j k. before-sure (recordOf st s j) (recordOf st s k))) .says
 
   pub recordsInside-says : Says (recordsInside st) (RecordsInside st)
   unfolding recordsInside RecordsInside
@@ -237,11 +226,11 @@ module _ (st : State) where
 
   pub heldIsSum-says : Says (heldIsSum st) (HeldIsSum st)
   unfolding heldIsSum HeldIsSum
-  heldIsSum-says = each-store (λ s. eq-sure (at (st .books .held) s) (heldBy st s (at (st .books .records) s))) .says
+  heldIsSum-says = each-store (λ s. eq-sure (heldOf st s) (heldBy st s (recordsOf st s))) .says
 
   pub heldNoneAtZero-says : Says (heldNoneAtZero st) (HeldNoneAtZero st)
   unfolding heldNoneAtZero HeldNoneAtZero
-  heldNoneAtZero-says = each-store (λ s. implies-sure (eq-sure (at (st .books .capacity) s) 0) (eq-sure (at (st .books .held) s) 0)) .says
+  heldNoneAtZero-says = each-store (λ s. implies-sure (eq-sure (capacityOf st s) 0) (eq-sure (heldOf st s) 0)) .says
 
   pub idsDiffer-says : Says (idsDiffer st) (IdsDiffer st)
   unfolding idsDiffer IdsDiffer
@@ -254,11 +243,11 @@ module _ (st : State) where
 
   pub idsBelowNext-says : Says (idsBelowNext st) (IdsBelowNext st)
   unfolding idsBelowNext IdsBelowNext
-  idsBelowNext-says = each-store (λ s. each-record s (λ k. idBetween-sure (st .books .nextId) (recordOf st s k))) .says
+  idsBelowNext-says = each-store (λ s. each-record s (λ k. idBetween-sure (nextIdOf st) (recordOf st s k))) .says
 
   pub stampsUpToStores-says : Says (stampsUpToStores st) (StampsUpToStores st)
   unfolding stampsUpToStores StampsUpToStores
-  stampsUpToStores-says = each-store (λ s. each-record s (λ k. stampBetween-sure (at (st .books .stamp) s) (recordOf st s k))) .says
+  stampsUpToStores-says = each-store (λ s. each-record s (λ k. stampBetween-sure (stampOf st s) (recordOf st s k))) .says
 
   pub timesFinite-says : Says (timesFinite st) (TimesFinite st)
   unfolding timesFinite TimesFinite
@@ -268,7 +257,7 @@ module _ (st : State) where
 
   pub pinsStand-says : Says (pinsStand st) (PinsStand st)
   unfolding pinsStand PinsStand
-  pinsStand-says = each-store (λ s. pairs-sure (at (st .books .entries) s) (λ j k. pinBefore-sure (entryOf st s j) (entryOf st s k))) .says
+  pinsStand-says = each-store (λ s. pairs-sure (entriesOf st s) (λ j k. pinBefore-sure (entryOf st s j) (entryOf st s k))) .says
 
   pub pinsInside-says : Says (pinsInside st) (PinsInside st)
   unfolding pinsInside PinsInside
@@ -276,7 +265,7 @@ module _ (st : State) where
 
   pub pinnedIsSum-says : Says (pinnedIsSum st) (PinnedIsSum st)
   unfolding pinnedIsSum PinnedIsSum
-  pinnedIsSum-says = each-store (λ s. eq-sure (at (st .books .pinned) s) (pinnedBy st s (at (st .books .entries) s))) .says
+  pinnedIsSum-says = each-store (λ s. eq-sure (pinnedOf st s) (pinnedBy st s (entriesOf st s))) .says
 
   -- ---- marks
 

@@ -80,20 +80,23 @@ module _ {ds ns ss es bs rs pns pls : List ℕ} {n : ℕ} {ts : List ℕ} {st : 
   pub tier-asks : (t : ℕ) → t < length ts → (at ts t < 8) × (at rs (at ts t) ≤ 128) × (1024 ≤ length ns) × (1024 ≤ length ss) × (1024 ≤ length es)
   tier-asks t h =
       let s = w .stores t (omega arith) h in
+      let small : at ts t < 8 = omega (arith, w .sound .counts .stores) in
       let lent = w .sound .lent .ranges in (
-        omega (arith, w .sound .counts .stores),
-        subst (λ (l : List ℕ). at l (at ts t) ≤ 128) (w .records) (w .sound .counts .each (at ts t) (omega arith) s .records),
+        small,
+        subst (λ (n : ℕ). n ≤ 128) (sym (w .records (at ts t) (omega arith) small)) (w .sound .counts .each (at ts t) (omega arith) s .records),
         subst (λ (l : List ℕ). 1024 ≤ length l) (w .node) (lent .node),
         subst (λ (l : List ℕ). 1024 ≤ length l) (w .start) (lent .start),
         subst (λ (l : List ℕ). 1024 ≤ length l) (w .end) (lent .end),
       )
 
   -- what it tells, in the state
-  pub tier-tells : (s v o : ℕ) (r : RangeEnd) → OfColumns ns ss es (λ c. endOf r ≡ rangeEnd v o (ranges c (128 * s) (at rs s)))
-      → endOf r ≡ rangeEnd v o (storeOf st s .ranges)
+  pub tier-tells : (t v o : ℕ) (r : RangeEnd) → t < length ts
+      → OfColumns ns ss es (λ c. endOf r ≡ rangeEnd v o (ranges c (128 * at ts t) (at rs (at ts t))))
+      → endOf r ≡ rangeEnd v o (storeOf st (at ts t) .ranges)
   unfolding storeOf
-  tier-tells s v o r f =
-      f (st .ranges) (w .node) (w .start) (w .end) ∙ ap (λ (l : List ℕ). rangeEnd v o (ranges (st .ranges) (128 * s) (at l s))) (sym (w .records))
+  tier-tells t v o r h f =
+      f (st .ranges) (w .node) (w .start) (w .end)
+      ∙ ap (λ (n : ℕ). rangeEnd v o (ranges (st .ranges) (128 * at ts t) n)) (w .records (at ts t) (omega arith) (tier-asks t h .0))
 
   module _ (v o e z : ℕ) (inUse : v < st .tree .nodes) (ends : z ≤ at (st .tree .len) v) (order : o ≤ e) (within : e ≤ z) where
     pub span-priced : Priced ds bs (record { node = v; start = o; end = e })

@@ -120,14 +120,14 @@ module _ {ds ns ss es bs rs pns pls : List ℕ} {segs : ℕ} {ts : List ℕ} {v 
         within = omega arith;
         same =
             λ st hs seen.
-            sym (tier-more st ts t v o z l (sym (tier-tells seen (at ts t) v o r tells) ∙ ap endOf q)) ∙ p .same st hs seen;
+            sym (tier-more st ts t v o z l (sym (tier-tells seen t v o r l tells) ∙ ap endOf q)) ∙ p .same st hs seen;
       }
 
   -- that the range ends past o is known of one state that is seen, and so of the numbers
   pub pass-here : (e m : ℕ) → r ≡ At e → m ≡ min e z → o < z → (st : State) (hs : List ℕ) → Sees ds ns ss es bs rs pns pls segs ts st hs → Holding (Sees ds ns ss es bs rs pns pls segs ts) ts v o z t m
   pass-here e m q k h st hs seen =
       let told : (st : State) (hs : List ℕ) → Sees ds ns ss es bs rs pns pls segs ts st hs → rangeEnd v o (storeOf st (at ts t) .ranges) ≡ some e =
-      λ st hs seen. sym (tier-tells seen (at ts t) v o r tells) ∙ ap endOf q in
+      λ st hs seen. sym (tier-tells seen t v o r l tells) ∙ ap endOf q in
       record {
         past = omega (arith, end-past v o e (storeOf st (at ts t) .ranges) (told st hs seen));
         within = omega arith;

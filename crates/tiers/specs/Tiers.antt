@@ -7,8 +7,8 @@ use mathlib.Core.Option.{Option, none, some}
 use lib.ListN.{length}
 use lib.Dec.{ltb, leb, eqb}
 use Rattle.model.specs.Words.{Each}
-use Rattle.model.specs.Sizes.{maxHashes, maxTiers}
-use Rattle.model.specs.State.{State, Range, at}
+use Rattle.model.specs.Sizes.{maxHashes, maxStores, maxTiers}
+use Rattle.model.specs.State.{State, Range, at, storesOf, recordsOf}
 use Rattle.model.specs.Sound.{Sound}
 use Rattle.model.specs.Tree.{resolve}
 use Rattle.model.specs.Lookup.{holds, lookupPath, spanBlocks, spanBytes, tierSums}
@@ -38,7 +38,8 @@ endOf Nothing = none
 abbrev pub tierListOf : List ℕ → List ℕ → List ℕ → List ℕ → TierList
 tierListOf tier node start end = record { tier = tier; node = node; start = start; end = end }
 
--- a sound state of which these columns are lent, tiers that are stores of it, and the path of a list in its tree, which stands in front of the path lists
+-- a sound state of which these columns are lent, its stores' record counts, tiers that are stores of it, and the path of a list in its tree, which stands
+-- in front of the path lists
 pub record Seen (ds ns ss es bs rs : List ℕ) (p : PathList) (n : ℕ) (ts : List ℕ) (st : State) (hs : List ℕ) : Type 0 where
   pub sound : Sound st
   pub depth : st .tree .depth ≡ ds
@@ -46,8 +47,8 @@ pub record Seen (ds ns ss es bs rs : List ℕ) (p : PathList) (n : ℕ) (ts : Li
   pub start : st .ranges .start ≡ ss
   pub end : st .ranges .end ≡ es
   pub bytes : st .bytes ≡ bs
-  pub records : st .books .records ≡ rs
-  pub stores : Each 0 (length ts) (λ i. at ts i < st .books .stores)
+  pub records : Each 0 maxStores (λ s. at rs s ≡ recordsOf st s)
+  pub stores : Each 0 (length ts) (λ i. at ts i < storesOf st)
   pub tiers : length ts ≤ maxTiers
   pub short : length hs ≤ maxHashes
   pub segs : n ≡ length (resolve (st .tree) hs)

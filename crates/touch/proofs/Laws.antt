@@ -778,16 +778,16 @@ module _ (c : Ranges) (n lo hi : ℕ) (sp : Span) (next : ℕ) (time : Float) (c
     marks-are : ms′ ≡ mk
     marks-are = marked ∙ ap (markRead counted sp) (sym q)
 
-    is : touch t table x next sp time counted ≡ refresh (x .refreshes) (oneInside (sp .start) (sp .end) (r₀ ∷ rest₀)) x next sp time mk rd
+    is : touch t table x next sp time counted ≡ refresh (eqb (x .book .policy) 1) (oneInside (sp .start) (sp .end) (r₀ ∷ rest₀)) x next sp time mk rd
     is = touch-is (r₀ ∷ rest₀) t table x next sp time counted (over-are ∙ cons)
 
-    pub touching-off : x .refreshes ≡ false → Touching (touch t table x next sp time counted) c c ms′ n (record { n = n; need = 0; stamps = 0; bytes = read })
+    pub touching-off : eqb (x .book .policy) 1 ≡ false → Touching (touch t table x next sp time counted) c c ms′ n (record { n = n; need = 0; stamps = 0; bytes = read })
     touching-off off =
         subst (λ k. Touching k c c ms′ n (record { n = n; need = 0; stamps = 0; bytes = read }))
         (sym (is ∙ ap (λ b. refresh b (oneInside (sp .start) (sp .end) (r₀ ∷ rest₀)) x next sp time mk rd) off))
         (record { columns = as-it-was; marks = marks-are; records = as-many; need = refl; stamps = refl; bytes = bytes-are })
 
-    pub touching-on : x .refreshes ≡ true → (top : ℕ) → x .stamp ≡ top → (c′ : Ranges) (m need : ℕ) → Refreshed sp (suc top) time next c c′ n lo (hi - lo) m need
+    pub touching-on : eqb (x .book .policy) 1 ≡ true → (top : ℕ) → x .book .stamp ≡ top → (c′ : Ranges) (m need : ℕ) → Refreshed sp (suc top) time next c c′ n lo (hi - lo) m need
         → Touching (touch t table x next sp time counted) c c′ ms′ n (record { n = m; need = need; stamps = 1; bytes = read })
     unfolding renew split
     touching-on on top high c′ m need f =
@@ -796,10 +796,10 @@ module _ (c : Ranges) (n lo hi : ℕ) (sp : Span) (next : ℕ) (time : Float) (c
         (go (oneInside (sp .start) (sp .end) (r₀ ∷ rest₀)) refl)
       where
         list : (b : Bool) → oneInside (sp .start) (sp .end) (r₀ ∷ rest₀) ≡ b
-            → touchedRanges (oneInside (sp .start) (sp .end) (ranges c lo (hi - lo))) sp (suc top) time next (ranges c 0 n) ≡ touchedRanges b sp (suc (x .stamp)) time next (x .ranges)
+            → touchedRanges (oneInside (sp .start) (sp .end) (ranges c lo (hi - lo))) sp (suc top) time next (ranges c 0 n) ≡ touchedRanges b sp (suc (x .book .stamp)) time next (x .ranges)
         list b e =
             ap (λ k. touchedRanges k sp (suc top) time next (ranges c 0 n)) (ap (oneInside (sp .start) (sp .end)) cons ∙ e)
-            ∙ ap (λ k. touchedRanges b sp (suc k) time next (ranges c 0 n)) (sym high) ∙ ap (touchedRanges b sp (suc (x .stamp)) time next) (sym same)
+            ∙ ap (λ k. touchedRanges b sp (suc k) time next (ranges c 0 n)) (sym high) ∙ ap (touchedRanges b sp (suc (x .book .stamp)) time next) (sym same)
 
         none : oneInside (sp .start) (sp .end) (r₀ ∷ rest₀) ≡ true → need ≡ 0
         none e =
@@ -813,7 +813,7 @@ module _ (c : Ranges) (n lo hi : ℕ) (sp : Span) (next : ℕ) (time : Float) (c
             → Touching (refresh true b x next sp time mk rd) c c′ ms′ n (record { n = m; need = need; stamps = 1; bytes = read })
         go true e =
             record {
-              columns = f .columns ∙ ap (λ l. layRanges 0 (n + need) l c) (list true e) ∙ ap (λ k. layRanges 0 (n + k) (touchedRanges true sp (suc (x .stamp)) time next (x .ranges)) c) (none e);
+              columns = f .columns ∙ ap (λ l. layRanges 0 (n + need) l c) (list true e) ∙ ap (λ k. layRanges 0 (n + k) (touchedRanges true sp (suc (x .book .stamp)) time next (x .ranges)) c) (none e);
               marks = marks-are;
               records = f .records ∙ ap length (list true e);
               need = none e;
@@ -822,7 +822,7 @@ module _ (c : Ranges) (n lo hi : ℕ) (sp : Span) (next : ℕ) (time : Float) (c
             }
         go false e =
             record {
-              columns = f .columns ∙ ap (λ l. layRanges 0 (n + need) l c) (list false e) ∙ ap (λ k. layRanges 0 (n + k) (touchedRanges false sp (suc (x .stamp)) time next (x .ranges)) c) as-needed;
+              columns = f .columns ∙ ap (λ l. layRanges 0 (n + need) l c) (list false e) ∙ ap (λ k. layRanges 0 (n + k) (touchedRanges false sp (suc (x .book .stamp)) time next (x .ranges)) c) as-needed;
               marks = marks-are;
               records = f .records ∙ ap length (list false e);
               need = as-needed;

@@ -3,7 +3,7 @@ ghost use mathlib.Core.Path.{_≡_};
 ghost use mathlib.Core.Bool.{true, false};
 ghost use Prim.Native.Nat.{ℕ, suc, _+_, _-_, _≤_, _<_, min, max};
 ghost use lib.ListN.{length};
-ghost use lib.Dec.{ltb};
+ghost use lib.Dec.{ltb, eqb};
 ghost use Rattle.model.specs.Words.{Each};
 ghost use Rattle.model.specs.State.{Tree, at, rangeAt};
 ghost use Rattle.model.specs.Store.{Store, ranges, layRanges, plus, meets};
@@ -345,7 +345,7 @@ pub fn store_used(
     requires { ⌜ (n ≤ 128) × Sized 128 (rangesOf (now node) (now start) (now end) (now id) (now stamp) (now touched) (now write)) × Ordered (now node) (now start) (now end) n ⌝ }
     requires { ⌜ (sp .start < sp .end) × (sp .node < length (now marks)) × Priced (now depth) (now bytes) sp ⌝ }
     requires { ⌜ TouchFits (now node) (now start) (now end) n sp refreshes top next ⌝ }
-    ensures { λ r. ⌜ ((t : Tree) (x : Store) → t .depth ≡ now (depth .entry) → x .ranges ≡ ranges (rangesOf (now (node .entry)) (now (start .entry)) (now (end .entry)) (now (id .entry)) (now (stamp .entry)) (now (touched .entry)) (now (write .entry))) 0 n → x .stamp ≡ top → x .refreshes ≡ refreshes → x .marks ≡ now (marks .entry) → Touching (touch t (now (bytes .entry)) x next sp time counted) (rangesOf (now (node .entry)) (now (start .entry)) (now (end .entry)) (now (id .entry)) (now (stamp .entry)) (now (touched .entry)) (now (write .entry))) (rangesOf (now (node .exit)) (now (start .exit)) (now (end .exit)) (now (id .exit)) (now (stamp .exit)) (now (touched .exit)) (now (write .exit))) (now (marks .exit)) n r) ⌝ }
+    ensures { λ r. ⌜ ((t : Tree) (x : Store) → t .depth ≡ now (depth .entry) → x .ranges ≡ ranges (rangesOf (now (node .entry)) (now (start .entry)) (now (end .entry)) (now (id .entry)) (now (stamp .entry)) (now (touched .entry)) (now (write .entry))) 0 n → x .book .stamp ≡ top → eqb (x .book .policy) 1 ≡ refreshes → x .marks ≡ now (marks .entry) → Touching (touch t (now (bytes .entry)) x next sp time counted) (rangesOf (now (node .entry)) (now (start .entry)) (now (end .entry)) (now (id .entry)) (now (stamp .entry)) (now (touched .entry)) (now (write .entry))) (rangesOf (now (node .exit)) (now (start .exit)) (now (end .exit)) (now (id .exit)) (now (stamp .exit)) (now (touched .exit)) (now (write .exit))) (now (marks .exit)) n r) ⌝ }
 {
     let lo = overlap::first_overlap(node, start, end, n, sp);
     let hi = overlap::end_overlap(node, start, end, n, sp, lo);

@@ -59,20 +59,6 @@ fn all_u32(a: &[u32], b: &[u32]) -> bool {
     true
 }
 
-fn all_bool(a: &[bool], b: &[bool]) -> bool {
-    if a.len() != b.len() {
-        return false;
-    }
-    let mut i = 0;
-    while i < a.len() {
-        if a[i] != b[i] {
-            return false;
-        }
-        i += 1;
-    }
-    true
-}
-
 fn all_f64(a: &[f64], b: &[f64]) -> bool {
     if a.len() != b.len() {
         return false;
@@ -139,16 +125,8 @@ fn same_u64_128(a: [u64; 128], b: [u64; 128]) -> bool {
     all_u64(&a, &b)
 }
 
-fn same_usize_8(a: [usize; 8], b: [usize; 8]) -> bool {
-    all_usize(&a, &b)
-}
-
-fn same_u64_8(a: [u64; 8], b: [u64; 8]) -> bool {
+fn same_u64_69(a: [u64; 69], b: [u64; 69]) -> bool {
     all_u64(&a, &b)
-}
-
-fn same_bool_8(a: [bool; 8], b: [bool; 8]) -> bool {
-    all_bool(&a, &b)
 }
 
 // The tree and the byte table.
@@ -247,66 +225,11 @@ fn same_pins(a: World, b: World) -> bool {
     same_usize_2048(marks, marks_then)
 }
 
-// The counts of the whole.
-fn same_counts(a: Small, b: Small) -> bool {
-    if a.nodes != b.nodes {
-        return false;
-    }
-    if a.used != b.used {
-        return false;
-    }
-    if a.stores != b.stores {
-        return false;
-    }
-    if a.next != b.next {
-        return false;
-    }
-    if a.stalls != b.stalls {
-        return false;
-    }
-    true
-}
-
-// The stores' small numbers.
+// The small numbers.
 fn same_books(a: Small, b: Small) -> bool {
-    let capacity = a.capacity;
-    let capacity_then = b.capacity;
-    let refreshes = a.refreshes;
-    let refreshes_then = b.refreshes;
-    let records = a.records;
-    let records_then = b.records;
-    let held = a.held;
-    let held_then = b.held;
-    let stamp = a.stamp;
-    let stamp_then = b.stamp;
-    let version = a.version;
-    let version_then = b.version;
-    let entries = a.entries;
-    let entries_then = b.entries;
-    let pinned = a.pinned;
-    let pinned_then = b.pinned;
-    if !same_u64_8(capacity, capacity_then) {
-        return false;
-    }
-    if !same_bool_8(refreshes, refreshes_then) {
-        return false;
-    }
-    if !same_usize_8(records, records_then) {
-        return false;
-    }
-    if !same_u64_8(held, held_then) {
-        return false;
-    }
-    if !same_u64_8(stamp, stamp_then) {
-        return false;
-    }
-    if !same_u64_8(version, version_then) {
-        return false;
-    }
-    if !same_usize_8(entries, entries_then) {
-        return false;
-    }
-    same_u64_8(pinned, pinned_then)
+    let books = a.books;
+    let books_then = b.books;
+    same_u64_69(books, books_then)
 }
 
 pub fn same_world(a: World, b: World) -> bool {
@@ -317,9 +240,6 @@ pub fn same_world(a: World, b: World) -> bool {
         return false;
     }
     if !same_pins(a, b) {
-        return false;
-    }
-    if !same_counts(a.small, b.small) {
         return false;
     }
     same_books(a.small, b.small)

@@ -167,21 +167,7 @@ pub fn blank() -> World {
         pin_count: [0u64; 256],
         marks: [0usize; 2048],
         bytes: [0u64; 1025],
-        small: Small {
-            nodes: 0,
-            used: 0,
-            stores: 0,
-            next: 0,
-            stalls: 0,
-            capacity: [0u64; 8],
-            refreshes: [false; 8],
-            records: [0usize; 8],
-            held: [0u64; 8],
-            stamp: [0u64; 8],
-            version: [0u64; 8],
-            entries: [0usize; 8],
-            pinned: [0u64; 8],
-        },
+        small: Small { books: [0u64; 69] },
     }
 }
 

@@ -11,7 +11,7 @@ use lib.Dec.{leb}
 use lib.Ieee.{Float}
 use borrow.Author.Tests.{leb-true, leb-false}
 use Rattle.model.specs.declared.Span.{Span}
-use Rattle.model.specs.State.{State, at}
+use Rattle.model.specs.State.{State, at, storesOf}
 use Rattle.model.specs.Sound.{Sound}
 use Rattle.model.specs.Refusals.{First, noSpan, storeUsedRefusals}
 use Rattle.model.specs.Calls.{NoList, refused, touchSpans, bytesTouched, storeUsed}
@@ -74,11 +74,11 @@ module _ (st : State) (sound : Sound st) (s : ℕ) (sps : List Span) (time : Flo
   unfolding storeUsed touchSpans bytesTouched
   refused-is n f = rw (first-is (storeUsedRefusals st s sps time counted) (storeUsed-exact st s sps time counted) (suc n) f)
 
-  pub too-many-is : {n : ℕ} → n ≡ tooMany (leb (st .books .stores) s) → outcome {L = NoList} {A = ℕ} st tt (refused n) ≡ storeUsed st s sps time counted
-  too-many-is {n} e = go (leb (st .books .stores) s) refl e
+  pub too-many-is : {n : ℕ} → n ≡ tooMany (leb (storesOf st) s) → outcome {L = NoList} {A = ℕ} st tt (refused n) ≡ storeUsed st s sps time counted
+  too-many-is {n} e = go (leb (storesOf st) s) refl e
     where
-      go : (b : Bool) → leb (st .books .stores) s ≡ b → n ≡ tooMany b
+      go : (b : Bool) → leb (storesOf st) s ≡ b → n ≡ tooMany b
           → outcome {L = NoList} {A = ℕ} st tt (refused n) ≡ storeUsed st s sps time counted
       go true t e = ap (λ (k : ℕ). outcome st tt (refused k)) e ∙ refused-is 1 (inr (λ n. n sound, inl (leb-true _ _ t, refl)))
       go false t e =
-          ap (λ (k : ℕ). outcome st tt (refused k)) e ∙ refused-is 2 (inr (λ n. n sound, inr (λ l. omega (arith, leb-false (st .books .stores) s t), inl (many, refl))))
+          ap (λ (k : ℕ). outcome st tt (refused k)) e ∙ refused-is 2 (inr (λ n. n sound, inr (λ l. omega (arith, leb-false (storesOf st) s t), inl (many, refl))))

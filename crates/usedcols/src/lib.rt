@@ -79,11 +79,11 @@ pub fn store_used(
     if 64 < n {
         return Counted {
             small: x,
-            answer: Count::Refused(too_many(x.stores, s)),
+            answer: Count::Refused(too_many(x.books[2] as usize, s)),
         };
     }
     let spans = spans_of(on, from, upto);
-    storeused::store_used_array(
+    known::store_used_array(
         parent,
         depth,
         len,

@@ -2,14 +2,14 @@
 use Prim.Native.Nat.{ℕ, _≤_}
 use mathlib.Core.Path.{_≡_, refl, sym, ap, _∙_}
 use mathlib.Core.Bool.{Bool, true, false, true≢false}
-use mathlib.Core.List.{List}
+use mathlib.Core.List.{List, [], _∷_}
 use mathlib.Core.Logic.{inl}
 use native.Mathlib.Omega.{arith}
-use lib.ListN.{length}
+use lib.ListN.{length, set}
 use lib.Ieee.{Float}
 use Rattle.model.specs.declared.Span.{Span}
 use Rattle.model.specs.Words.{any, Says}
-use Rattle.model.specs.State.{Tree, Ranges, State}
+use Rattle.model.specs.State.{Tree, Ranges, State, nodesIn}
 use Rattle.model.specs.Sound.{Sound}
 use Rattle.model.specs.Refusals.{storeUsedRefusals}
 use Rattle.model.specs.Calls.{storeUsed}
@@ -24,6 +24,10 @@ use Rattle.storeused.specs.Looking.{bad, lookedAt, Looks}
 use Rattle.storeused.specs.Going.{number, Going, AtFirst, Turns}
 use Rattle.storeused.proofs.Laws.{list-looks, list-turns, list-outcome, going-end}
 use Rattle.usedlist.specs.Started.{Stopped, Started}
+
+pub no-node : (l : List ℕ) → nodesIn (set l 0 0) ≡ 0
+no-node [] = refl
+no-node (n ∷ l) = refl
 
 -- what the test said of the state, with what was made of it
 pub started-begun : {st : State} {x : Small} {s n : ℕ} {time : Float} {counted : Bool} {y : Turn} {b : Bool} → Says b (Sound st) → b ≡ true → Begun x s n time counted y → Started st x s n time counted y
@@ -45,10 +49,10 @@ module _ (o : Others) (depth bytes : List ℕ) (c₀ : Ranges) (ms₀ : List ℕ
   began = whole o depth bytes c₀ ms₀ x
 
   module _ (y₀ : Turn) (b : Started began x s (length sps) time counted y₀) where
-    pub start-looks : y₀ .small .nodes ≤ length (o .len)
+    pub start-looks : nodesIn (y₀ .small .books) ≤ length (o .len)
     start-looks = go (b .tested) refl
       where
-        go : (t : Bool) → b .tested ≡ t → y₀ .small .nodes ≤ length (o .len)
+        go : (t : Bool) → b .tested ≡ t → nodesIn (y₀ .small .books) ≤ length (o .len)
         go true e = list-looks o depth bytes c₀ ms₀ x s sps time counted (says-true e (b .says)) y₀ (b .begun e)
         go false e = omega (arith, b .stopped e .nodes)
 
@@ -56,7 +60,7 @@ module _ (o : Others) (depth bytes : List ℕ) (c₀ : Ranges) (ms₀ : List ℕ
       -- a touch that was stopped: no turn is taken, and the pools are as they were
       stopped-first : b .tested ≡ false → Going began s sps time counted 0 (whole o depth bytes c₀ ms₀ (y .small)) y
       stopped-first e =
-          let t : Tree = record { parent = o .parent; depth = depth; len = o .len; run = o .run; words = o .words; nodes = y₀ .small .nodes; used = 0 } in
+          let t : Tree = record { parent = o .parent; depth = depth; len = o .len; run = o .run; words = o .words; nodes = nodesIn (y₀ .small .books); used = 0 } in
           let k : y .refused ≡ 1 = ap (λ (q : Turn). q .refused) (v t refl refl .is) ∙ still-one (any (length sps) (bad t sps)) y₀ (b .stopped e .refused) in
           record {
             high = omega arith;

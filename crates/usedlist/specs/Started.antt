@@ -3,7 +3,7 @@ use Prim.Native.Nat.{ℕ}
 use mathlib.Core.Path.{_≡_}
 use mathlib.Core.Bool.{Bool, true, false}
 use lib.Ieee.{Float}
-use Rattle.model.specs.State.{State}
+use Rattle.model.specs.State.{State, nodesIn}
 use Rattle.model.specs.Sound.{Sound}
 use Rattle.model.specs.Words.{Says}
 use Rattle.lent.specs.declared.Small.{Small}
@@ -12,7 +12,7 @@ use Rattle.usedspan.specs.Turn.{Begun}
 
 pub record Stopped (y : Turn) : Type 0 where
   pub refused : y .refused ≡ 1
-  pub nodes : y .small .nodes ≡ 0
+  pub nodes : nodesIn (y .small .books) ≡ 0
 
 pub record Started (st : State) (x : Small) (s n : ℕ) (time : Float) (counted : Bool) (y : Turn) : Type 0 where
   pub tested : Bool

@@ -10,7 +10,7 @@ fn stop(x: Small, s: usize, n: usize, time: f64, counted: bool) -> Turn
     ensures { λ y. ⌜ Stopped y ⌝ }
 {
     let mut small = x;
-    small.nodes = 0;
+    small.books[0] = 0;
     let mut y = usedspan::begin(small, s, n, time, counted);
     y.refused = 1;
     y

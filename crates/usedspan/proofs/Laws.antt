@@ -1,37 +1,37 @@
--- The laws of one turn over variables: copies, what a turn is refused for, a touch on the pools, the small numbers after it, and the turn as a whole. Assumes nothing.
+-- The laws of one turn over variables: what a turn is refused for, a touch on the pools, the small numbers after it, and the turn as a whole. Assumes nothing.
 use Prim.Native.Nat.{ℕ, zero, suc, _+_, _-_, _*_, _≤_, _<_, min, max}
 use mathlib.Core.Path.{_≡_, refl, sym, ap, subst, _∙_}
 use mathlib.Core.Bool.{Bool, true, false, _||_}
-use mathlib.Core.List.{List, [], _∷_, _++_, append-assoc, append-nil}
-use native.Mathlib.Nat.{zero-add, min-le-left}
+use mathlib.Core.List.{List, [], _∷_, _++_}
+use native.Mathlib.Nat.{min-le-left}
 use native.Mathlib.Omega.{arith}
-use lib.ListN.{length, take, drop, getD, set, length-set}
-use lib.Seq.{take-all, drop-length, drop-drop, set-getD}
+use lib.ListN.{length, take, length-set}
+use lib.Seq.{drop-drop}
 use lib.Dec.{ltb, leb, eqb}
 use lib.Ieee.{Float}
 use mir.Val.{Fits}
 use mir.Syntax.{w64}
 use borrow.Author.Tests.{lt-ltb, le-ltb, le-leb, lt-leb, eq-eqb, ne-eqb, ltb-false}
 use Rattle.model.specs.declared.Span.{Span}
+use Rattle.model.specs.declared.Book.{Book}
 use Rattle.model.specs.Sizes.{storeRecords, storeMarks, maxStamp, maxSpans, maxBytes}
-use Rattle.model.specs.State.{Tree, Ranges, Pins, Books, State, Range, at}
+use Rattle.model.specs.State.{Tree, Ranges, Pins, State, Range, nextIdIn, stallsIn, bookIn, nextIdOf, bookOf, recordsOf, stampOf, refreshes as renews}
 use Rattle.model.specs.Words.{Says}
 use Rattle.model.specs.Sound.{Sound, RangesLent, Finite}
 use Rattle.model.specs.SoundTest.{finite}
-use Rattle.model.specs.Store.{Store, storeOf, ranges, lay, layRanges, withRanges, withNext, meets, put}
+use Rattle.model.specs.Store.{Store, storeOf, ranges, lay, layRanges, layBook, layNext, withRanges, withNext, meets, put}
 use Rattle.model.specs.Touch.{Touched, overlapped, heldBytes, oneInside, markRead, bytesRead, renew, split, refresh, touchHits, touch}
 use Rattle.model.specs.Refusals.{SpanIn, touchedBy, touchSpan}
 use Rattle.refuse.proofs.Laws.{finite-is}
 use Rattle.lent.specs.declared.Small.{Small}
-use Rattle.lent.specs.Lent.{treeOf, rangesOf, booksOf}
-use Rattle.cutcols.proofs.Laws.{Copying, copy-start, copy-turn, copy-end}
 use Rattle.parts.specs.Parts.{mid, back, midRanges, backRanges}
-use Rattle.parts.proofs.Parts.{mid-at, mid-long, ranges-part, ranges-back, ranges-sized}
+use Rattle.parts.proofs.Parts.{mid-long, ranges-part, ranges-back, ranges-sized}
 use Rattle.kept.specs.StoreSound.{RangesSound, StoreSound}
-use Rattle.kepttouch.proofs.Touch.{touch-steady, touch-held, touch-version, touch-stamp}
+use Rattle.keptbring.proofs.Facts.{Steady}
+use Rattle.kepttouch.proofs.Touch.{touch-steady, touch-counted, touch-held, touch-version, touch-stamp}
 use Rattle.keptcalls.proofs.Stores.{store-sound}
+use Rattle.laid.proofs.Store.{store-book}
 use Rattle.recs.specs.Part.{Sized}
-use Rattle.recs.proofs.Laws.{ranges-eq}
 use Rattle.tree.specs.Span.{Priced}
 use Rattle.tree.proofs.Sound.{sound-priced}
 use Rattle.overlap.specs.declared.Needs.{Needs}
@@ -40,39 +40,11 @@ use Rattle.overlap.proofs.Places.{sound-ordered}
 use Rattle.overlap.proofs.Laws.{bytes-small}
 use Rattle.touch.specs.declared.Used.{Used}
 use Rattle.touch.specs.Touch.{Touching}
-use Rattle.usedspan.specs.declared.Old.{Old}
+use Rattle.undo.specs.declared.Old.{Old}
+use Rattle.undo.specs.Old.{oldRanges, oldFrom}
 use Rattle.usedspan.specs.declared.Turn.{Turn}
 use Rattle.usedspan.specs.declared.Run.{Run}
-use Rattle.usedspan.specs.Turn.{Others, whole, pick, firstNumber, four, looked, refusing, turnNumber, Placed, Judged, PoolReady, TouchedAt, settledBooks, Settled, oldRanges, oldFrom, keptOld, undone, TurnTaken, TurnReady, Ready, Taken, Gone, Turned, runOn, stopRun, smallWith, RunAt, Ran}
-
--- ---- copies of a part, and a part put back
-
-module _ {A : Type 0} where
-  pub copied-turn : {l : List A} (a k : ℕ) (col : List A) {out : List A} {i : ℕ} (d : A) → Copying l 0 (mid a k col) k out i → i < k → a + k ≤ length col
-      → Copying l 0 (mid a k col) k (set out i (getD col (a + i) d)) (i + 1)
-  copied-turn {l} a k col {out} {i} d o less fits =
-      let long : length (mid a k col) ≡ k = mid-long a k col fits in
-      subst (λ (x : A). Copying l 0 (mid a k col) k (set out i x) (i + 1)) (mid-at a k i col d less)
-      (subst (λ (j : ℕ). Copying l 0 (mid a k col) k (set out j (getD (mid a k col) i d)) (i + 1)) (zero-add i)
-      (copy-turn d o less (omega (arith, long))))
-
-  pub copied-end : {l : List A} (a k : ℕ) (col : List A) {out : List A} {i : ℕ} → Copying l 0 (mid a k col) k out i → k ≤ i → length l ≡ k → a + k ≤ length col
-      → out ≡ mid a k col
-  copied-end {l} a k col {out} {i} o h long fits =
-      copy-end o h
-      ∙ ap (λ (t : List A). t ++ drop (0 + k) l) (take-all k (mid a k col) (omega (arith, mid-long a k col fits)))
-      ∙ ap (λ (t : List A). mid a k col ++ t) (none ∙ drop-length l)
-      ∙ append-nil (mid a k col)
-    where
-      none : drop (0 + k) l ≡ drop (length l) l
-      none = let e : 0 + k ≡ length l = omega arith in ap (λ (j : ℕ). drop j l) e
-
-  pub put-end : {col : List A} {a k : ℕ} {from c : List A} {i : ℕ} → Copying col a from k c i → k ≤ i → length from ≡ k → c ≡ back a k from col
-  put-end {col} {a} {k} {from} {c} {i} o h long =
-      copy-end o h
-      ∙ ap (λ (t : List A). (take a col ++ t) ++ drop (a + k) col) (take-all k from (omega arith))
-      ∙ append-assoc (take a col) from (drop (a + k) col)
-      ∙ ap (λ (t : List A). take a col ++ (from ++ t)) (sym (drop-drop k a col))
+use Rattle.usedspan.specs.Turn.{Others, whole, pick, firstNumber, four, looked, refusing, turnNumber, Placed, Judged, PoolReady, TouchedAt, renumbered, smallFor, keptOld, undone, TurnTaken, TurnReady, Ready, Taken, Gone, Turned, runOn, stopRun, smallWith, RunAt, Ran}
 
 -- ---- before the turns
 
@@ -154,9 +126,6 @@ pub width : (a w : ℕ) → (a + w) - a ≡ w
 width a w = omega arith
 
 module _ {s : ℕ} (h : s < 8) where
-  pub rec-fits : Fits w64 (128 * s)
-  rec-fits = omega arith
-
   pub rec-end-fits : Fits w64 (128 * s + 128)
   rec-end-fits = omega arith
 
@@ -166,20 +135,11 @@ module _ {s : ℕ} (h : s < 8) where
   pub rec-fits4 : Fits w64 (128 * s * 4)
   rec-fits4 = omega arith
 
-  pub rec-ends : {m : ℕ} → 1024 ≤ m → 128 * s + 128 ≤ m
-  rec-ends l = omega arith
-
-  pub mark-fits : Fits w64 (256 * s)
-  mark-fits = omega arith
-
   pub mark-end-fits : Fits w64 (256 * s + 256)
   mark-end-fits = omega arith
 
   pub mark-fits8 : Fits w64 (256 * s * 8)
   mark-fits8 = omega arith
-
-  pub mark-ends : {m : ℕ} → 2048 ≤ m → 256 * s + 256 ≤ m
-  mark-ends l = omega arith
 
 -- the part of store s, w places long
 module _ (s n : ℕ) (node start end : List ℕ) (w : ℕ) (e : w ≡ 128) where
@@ -208,7 +168,7 @@ module _ {depth bytes : List ℕ} {s n : ℕ} {c : Ranges} {ms : List ℕ} {sp :
   pool-three w e = rw e (p .fits)
 
   -- the need of a store that has these ranges
-  room-for : (t : Tree) (table : List ℕ) (x : Store) (time : Float) (counted : Bool) → x .ranges ≡ ranges c (128 * s) n → x .refreshes ≡ refreshes
+  room-for : (t : Tree) (table : List ℕ) (x : Store) (time : Float) (counted : Bool) → x .ranges ≡ ranges c (128 * s) n → renews (x .book) ≡ refreshes
       → n + touch t table x next sp time counted .need ≤ 128
   unfolding midRanges
   room-for t table x time counted e f =
@@ -229,9 +189,9 @@ module _ {depth bytes : List ℕ} {s n : ℕ} {c : Ranges} {ms : List ℕ} {sp :
         }
 
     pub pool-touched : (time : Float) (counted : Bool) (a b : ℕ) → a ≡ 128 → b ≡ 256
-        → ((t : Tree) (x : Store) → t .depth ≡ depth → x .ranges ≡ ranges (midRanges (128 * s) a c) 0 n → x .stamp ≡ top → x .refreshes ≡ refreshes → x .marks ≡ mid (256 * s) b ms
+        → ((t : Tree) (x : Store) → t .depth ≡ depth → x .ranges ≡ ranges (midRanges (128 * s) a c) 0 n → x .book .stamp ≡ top → renews (x .book) ≡ refreshes → x .marks ≡ mid (256 * s) b ms
         → Touching (touch t bytes x next sp time counted) (midRanges (128 * s) a c) q ms₂ n r)
-        → (t : Tree) (x : Store) → t .depth ≡ depth → x .ranges ≡ ranges c (128 * s) n → x .stamp ≡ top → x .refreshes ≡ refreshes → x .marks ≡ mid (256 * s) 256 ms
+        → (t : Tree) (x : Store) → t .depth ≡ depth → x .ranges ≡ ranges c (128 * s) n → x .book .stamp ≡ top → renews (x .book) ≡ refreshes → x .marks ≡ mid (256 * s) 256 ms
         → TouchedAt s (touch t bytes x next sp time counted) n c ms (backRanges (128 * s) a q c) (back (256 * s) b ms₂ ms) r
     pool-touched time counted a b ea eb v t x d rs st re m =
         let f = ranges-part c (128 * s) 128 n (p .few) in
@@ -241,25 +201,12 @@ module _ {depth bytes : List ℕ} {s n : ℕ} {c : Ranges} {ms : List ℕ} {sp :
 
 -- ---- the part that is kept
 
-pub old-eq : {a a′ b b′ c c′ d d′ e e′ : List ℕ} {f f′ : List Float} {g g′ h h′ : List ℕ} → a ≡ a′ → b ≡ b′ → c ≡ c′ → d ≡ d′ → e ≡ e′ → f ≡ f′ → g ≡ g′ → h ≡ h′
-    → _≡_ {A = Old} (record { node = a; start = b; end = c; id = d; stamp = e; touched = f; write = g; marks = h })
-    (record { node = a′; start = b′; end = c′; id = d′; stamp = e′; touched = f′; write = g′; marks = h′ })
-old-eq p q r s t u v w = cc
-
 pub kept-first : (n : ℕ) (r old : Old) (s : ℕ) (c : Ranges) (ms : List ℕ) → n ≡ 0 → r ≡ oldFrom s c ms → r ≡ keptOld n old s c ms
 kept-first n r old s c ms e h = h ∙ ap (λ (k : ℕ). keptOld k old s c ms) (sym e)
 
 pub kept-later : (n : ℕ) (old : Old) (s : ℕ) (c : Ranges) (ms : List ℕ) → (n ≡ 0 → ⊥) → old ≡ keptOld n old s c ms
 kept-later zero old s c ms o = absurd (o refl)
 kept-later (suc n) old s c ms o = refl
-
-pub undone-eq : (s : ℕ) (old : Old) (node start end id stamp : List ℕ) (touched : List Float) (write : List ℕ) {a b d e f : List ℕ} {g : List Float} {h : List ℕ}
-    → a ≡ back (128 * s) 128 (old .node) node → b ≡ back (128 * s) 128 (old .start) start → d ≡ back (128 * s) 128 (old .end) end
-    → e ≡ back (128 * s) 128 (old .id) id → f ≡ back (128 * s) 128 (old .stamp) stamp → g ≡ back (128 * s) 128 (old .touched) touched
-    → h ≡ back (128 * s) 128 (old .write) write
-    → rangesOf a b d e f g h ≡ backRanges (128 * s) 128 (oldRanges old) (rangesOf node start end id stamp touched write)
-unfolding backRanges
-undone-eq s old node start end id stamp touched write p q r t u v w = ranges-eq p q r t u v w
 
 -- ---- the marks and the bytes of a touch
 
@@ -305,7 +252,7 @@ module _ (t : Tree) (table : List ℕ) (x : Store) (next : ℕ) (sp : Span) (tim
       go [] = refl
       go (r ∷ rs) =
           ap (λ (l : List ℕ). length l)
-          (refreshed-marks x next sp time (x .refreshes) (oneInside (sp .start) (sp .end) (r ∷ rs)) (markRead counted sp (x .marks)) (bytesRead counted t table sp (r ∷ rs)))
+          (refreshed-marks x next sp time (renews (x .book)) (oneInside (sp .start) (sp .end) (r ∷ rs)) (markRead counted sp (x .marks)) (bytesRead counted t table sp (r ∷ rs)))
           ∙ read-long counted sp (x .marks)
 
   pub touch-bytes-most : Priced (t .depth) table sp → length (x .ranges) ≤ 128 → touch t table x next sp time counted .bytes ≤ 128 * maxBytes
@@ -320,55 +267,57 @@ module _ (t : Tree) (table : List ℕ) (x : Store) (next : ℕ) (sp : Span) (tim
       go : (hits : List Range) → length hits ≤ 128 → touchHits hits t table x next sp time counted .bytes ≤ 128 * maxBytes
       go [] l = omega arith
       go (r ∷ rs) l =
-          omega (arith, read counted (r ∷ rs) l, refreshed-bytes x next sp time (x .refreshes) (oneInside (sp .start) (sp .end) (r ∷ rs)) (markRead counted sp (x .marks)) (bytesRead counted t table sp (r ∷ rs)))
+          omega (arith, read counted (r ∷ rs) l, refreshed-bytes x next sp time (renews (x .book)) (oneInside (sp .start) (sp .end) (r ∷ rs)) (markRead counted sp (x .marks)) (bytesRead counted t table sp (r ∷ rs)))
 
 -- ---- what a sound state gives
 
 module _ {sp : Span} {st : State} {y : Turn} (h : TurnReady sp st y) where
-  own : StoreSound (st .tree) (st .books .nextId) (storeOf st (y .s))
+  own : StoreSound (st .tree) (nextIdOf st) (storeOf st (y .s))
   own = store-sound st (y .s) (h .sound) (h .store)
 
   pub in-stores : y .s < 8
   in-stores = omega (arith, h .store, h .sound .counts .stores)
 
-  few : at (st .books .records) (y .s) ≤ 128
+  few : recordsOf st (y .s) ≤ 128
   few = h .sound .counts .each (y .s) (omega arith) (h .store) .records
 
-  top-most : at (st .books .stamp) (y .s) ≤ maxStamp
+  top-most : stampOf st (y .s) ≤ maxStamp
   top-most = h .sound .counts .each (y .s) (omega arith) (h .store) .stamp
 
   pub pools-ready : (y .s < 8) × RangesLent (st .ranges) × (2048 ≤ length (st .marks))
   pools-ready = (in-stores, h .sound .lent .ranges, h .sound .lent .marks)
 
   -- the store's ranges stand at the front of its part
-  part-read : ranges (midRanges (128 * y .s) 128 (st .ranges)) 0 (at (st .books .records) (y .s)) ≡ storeOf st (y .s) .ranges
+  part-read : ranges (midRanges (128 * y .s) 128 (st .ranges)) 0 (recordsOf st (y .s)) ≡ storeOf st (y .s) .ranges
   unfolding storeOf
-  part-read = ranges-part (st .ranges) (128 * y .s) 128 (at (st .books .records) (y .s)) few
+  part-read = ranges-part (st .ranges) (128 * y .s) 128 (recordsOf st (y .s)) few
 
-  part-ordered : Ordered (mid (128 * y .s) 128 (st .ranges .node)) (mid (128 * y .s) 128 (st .ranges .start)) (mid (128 * y .s) 128 (st .ranges .end)) (at (st .books .records) (y .s))
+  part-ordered : Ordered (mid (128 * y .s) 128 (st .ranges .node)) (mid (128 * y .s) 128 (st .ranges .start)) (mid (128 * y .s) 128 (st .ranges .end)) (recordsOf st (y .s))
   unfolding midRanges
   part-ordered =
-      sound-ordered (st .tree) (st .books .nextId) (storeOf st (y .s) .stamp) (at (st .books .records) (y .s)) (midRanges (128 * y .s) 128 (st .ranges))
+      sound-ordered (st .tree) (nextIdOf st) (storeOf st (y .s) .book .stamp) (recordsOf st (y .s)) (midRanges (128 * y .s) 128 (st .ranges))
       (ranges-sized (128 * y .s) (st .ranges) (h .sound .lent .ranges) (omega (arith, in-stores))) few
-      (subst (λ rs. RangesSound (st .tree) (st .books .nextId) (storeOf st (y .s) .stamp) rs) (sym part-read) (own .ranges))
+      (subst (λ rs. RangesSound (st .tree) (nextIdOf st) (storeOf st (y .s) .book .stamp) rs) (sym part-read) (own .ranges))
 
-  pub number-ready : Placed (y .s) (at (st .books .records) (y .s)) (st .ranges .node) (st .ranges .start) (st .ranges .end)
-      × (at (st .books .records) (y .s) ≤ 128) × (at (st .books .stamp) (y .s) ≤ maxStamp) × (st .books .nextId ≤ maxStamp)
-  number-ready = (
-    record { store = in-stores; nodes = h .sound .lent .ranges .node; starts = h .sound .lent .ranges .start; ends = h .sound .lent .ranges .end; order = part-ordered },
-    few,
-    top-most,
-    h .sound .counts .nextId,
-  )
+  -- b is what was read
+  pub number-ready : (b : Book) → b ≡ bookOf st (y .s)
+      → Placed (y .s) (b .records) (st .ranges .node) (st .ranges .start) (st .ranges .end) × (b .records ≤ 128) × (b .stamp ≤ maxStamp) × (nextIdOf st ≤ maxStamp)
+  number-ready b e =
+      subst (λ (q : Book). Placed (y .s) (q .records) (st .ranges .node) (st .ranges .start) (st .ranges .end) × (q .records ≤ 128) × (q .stamp ≤ maxStamp) × (nextIdOf st ≤ maxStamp)) (sym e) (
+        record { store = in-stores; nodes = h .sound .lent .ranges .node; starts = h .sound .lent .ranges .start; ends = h .sound .lent .ranges .end; order = part-ordered },
+        few,
+        top-most,
+        h .sound .counts .nextId,
+      )
 
   priced : Priced (st .tree .depth) (st .bytes) sp
   priced = sound-priced st (h .sound) sp (h .span .node) (omega (arith, h .span .filled)) (h .span .ends)
 
   pub touch-ready : (refreshes : Bool) (r : ℕ) → r ≡ 0
-      → Judged (y .s) (at (st .books .records) (y .s)) (st .ranges .node) (st .ranges .start) (st .ranges .end) sp refreshes (at (st .books .stamp) (y .s)) (st .books .nextId) r
-      → PoolReady (st .tree .depth) (st .bytes) (y .s) (at (st .books .records) (y .s)) (st .ranges) (st .marks) sp refreshes (at (st .books .stamp) (y .s)) (st .books .nextId)
+      → Judged (y .s) (recordsOf st (y .s)) (st .ranges .node) (st .ranges .start) (st .ranges .end) sp refreshes (stampOf st (y .s)) (nextIdOf st) r
+      → PoolReady (st .tree .depth) (st .bytes) (y .s) (recordsOf st (y .s)) (st .ranges) (st .marks) sp refreshes (stampOf st (y .s)) (nextIdOf st)
   touch-ready refreshes r e j =
-      let f = number-fits (at (st .books .records) (y .s)) (j .needs .records) (at (st .books .stamp) (y .s)) (j .needs .stamps) (st .books .nextId) (sym e ∙ j .number) in
+      let f = number-fits (recordsOf st (y .s)) (j .needs .records) (stampOf st (y .s)) (j .needs .stamps) (nextIdOf st) (sym e ∙ j .number) in
       record {
         store = in-stores;
         few = few;
@@ -383,55 +332,47 @@ module _ {sp : Span} {st : State} {y : Turn} (h : TurnReady sp st y) where
 
   -- what the turn read is little
   pub count-ready : (refreshes : Bool) (r : ℕ) → r ≡ 0
-      → Judged (y .s) (at (st .books .records) (y .s)) (st .ranges .node) (st .ranges .start) (st .ranges .end) sp refreshes (at (st .books .stamp) (y .s)) (st .books .nextId) r
-      → storeOf st (y .s) .refreshes ≡ refreshes → (used : Used) (c : Ranges) (ms : List ℕ)
-      → TouchedAt (y .s) (touchedBy st (y .s) sp (y .time) (y .counted)) (at (st .books .records) (y .s)) (st .ranges) (st .marks) c ms used
-      → (y .s < 8) × (at (st .books .stamp) (y .s) + used .stamps ≤ maxStamp) × (st .books .nextId + used .need ≤ maxStamp) × (y .turns < 64) × (y .sum + used .bytes < 18446744073709551616)
+      → Judged (y .s) (recordsOf st (y .s)) (st .ranges .node) (st .ranges .start) (st .ranges .end) sp refreshes (stampOf st (y .s)) (nextIdOf st) r
+      → renews (storeOf st (y .s) .book) ≡ refreshes → (used : Used) (c : Ranges) (ms : List ℕ)
+      → TouchedAt (y .s) (touchedBy st (y .s) sp (y .time) (y .counted)) (recordsOf st (y .s)) (st .ranges) (st .marks) c ms used
+      → (y .s < 8) × (stampOf st (y .s) + used .stamps ≤ maxStamp) × (nextIdOf st + used .need ≤ maxStamp) × (y .turns < 64) × (y .sum + used .bytes < 18446744073709551616)
   unfolding midRanges
   count-ready refreshes r e j re used c ms u =
-      let f = number-fits (at (st .books .records) (y .s)) (j .needs .records) (at (st .books .stamp) (y .s)) (j .needs .stamps) (st .books .nextId) (sym e ∙ j .number) in
-      let k = j .are (mid (128 * y .s) 128 (st .ranges .id)) (mid (128 * y .s) 128 (st .ranges .stamp)) (mid (128 * y .s) 128 (st .ranges .write)) (mid (128 * y .s) 128 (st .ranges .touched)) (st .tree) (st .bytes) (storeOf st (y .s)) (st .books .nextId) (y .time) (y .counted) (sym part-read) re in
-      let b = touch-bytes-most (st .tree) (st .bytes) (storeOf st (y .s)) (st .books .nextId) sp (y .time) (y .counted) priced (own .few) in
+      let f = number-fits (recordsOf st (y .s)) (j .needs .records) (stampOf st (y .s)) (j .needs .stamps) (nextIdOf st) (sym e ∙ j .number) in
+      let k = j .are (mid (128 * y .s) 128 (st .ranges .id)) (mid (128 * y .s) 128 (st .ranges .stamp)) (mid (128 * y .s) 128 (st .ranges .write)) (mid (128 * y .s) 128 (st .ranges .touched)) (st .tree) (st .bytes) (storeOf st (y .s)) (nextIdOf st) (y .time) (y .counted) (sym part-read) re in
+      let b = touch-bytes-most (st .tree) (st .bytes) (storeOf st (y .s)) (nextIdOf st) sp (y .time) (y .counted) priced (own .few) in
       (in-stores, omega (arith, f .1, k .1, u .stamps), omega (arith, f .2, k .0, u .need), h .turns, omega (arith, h .sum, h .turns, b, u .bytes))
 
 -- ---- the state after a turn
 
-abbrev stateWith : Tree → Ranges → Pins → List ℕ → List ℕ → Books → State
-stateWith t c p ms table b = record { tree = t; ranges = c; pins = p; marks = ms; bytes = table; books = b }
+abbrev stateWith : Tree → Ranges → Pins → List ℕ → List ℕ → List ℕ → State
+stateWith t c p ms table l = record { tree = t; ranges = c; pins = p; marks = ms; bytes = table; books = l }
 
-state-eq : {t t′ : Tree} {c c′ : Ranges} {p : Pins} {m m′ table : List ℕ} {b b′ : Books} → t ≡ t′ → c ≡ c′ → m ≡ m′ → b ≡ b′
-    → stateWith t c p m table b ≡ stateWith t′ c′ p m′ table b′
-state-eq e f g h = cc
+state-eq : {t : Tree} {c c′ : Ranges} {p : Pins} {m m′ table l l′ : List ℕ} → c ≡ c′ → m ≡ m′ → l ≡ l′ → stateWith t c p m table l ≡ stateWith t c′ p m′ table l′
+state-eq f g h = cc
 
-tree-eq : {parent depth len run words : List ℕ} {n n′ u u′ : ℕ} → n ≡ n′ → u ≡ u′ → treeOf parent depth len run words n u ≡ treeOf parent depth len run words n′ u′
-tree-eq e f = cc
+book-eq : {b d : Book} → b .capacity ≡ d .capacity → b .policy ≡ d .policy → b .records ≡ d .records → b .held ≡ d .held → b .stamp ≡ d .stamp
+    → b .version ≡ d .version → b .entries ≡ d .entries → b .pinned ≡ d .pinned → b ≡ d
+book-eq p q r s t u v w =
+    (λ i. record { capacity = p i; policy = q i; records = r i; held = s i; stamp = t i; version = u i; entries = v i; pinned = w i })
 
--- the books that a touch leaves
-abbrev touchedBooks : ℕ → Touched → Books → Books
-touchedBooks s w b =
-    record {
-      stores = b .stores;
-      nextId = b .nextId + w .need;
-      stalls = b .stalls;
-      capacity = b .capacity;
-      refreshes = b .refreshes;
-      records = set (b .records) s (length (w .store .ranges));
-      held = set (b .held) s (w .store .held);
-      stamp = set (b .stamp) s (w .store .stamp);
-      version = set (b .version) s (w .store .version);
-      entries = b .entries;
-      pinned = b .pinned;
-    }
+pub small-laid : (s n top next : ℕ) (x r : Small) (l : List ℕ) (b : Book) → b ≡ bookIn (x .books) s → l ≡ layBook s (renumbered b n top) (x .books)
+    → r .books ≡ layNext next (stallsIn (x .books)) l → r ≡ smallFor s n top next x
+small-laid s n top next x r l b e f g =
+    let k = g ∙ ap (layNext next (stallsIn (x .books))) (f ∙ ap (λ (q : Book). layBook s (renumbered q n top) (x .books)) e) in
+    (λ i. record { books = k i })
 
-books-touched : (s : ℕ) (used : Used) (w : Touched) (b : Books) → used .n ≡ length (w .store .ranges) → used .need ≡ w .need → used .stamps ≡ w .stamps
-    → w .store .held ≡ at (b .held) s → w .store .version ≡ at (b .version) s → w .store .stamp ≡ at (b .stamp) s + w .stamps
-    → settledBooks s used b ≡ touchedBooks s w b
-books-touched s used w b n need stamps held version stamp =
-    let h : set (b .held) s (w .store .held) ≡ b .held = ap (λ (k : ℕ). set (b .held) s k) held ∙ set-getD (b .held) s 0 in
-    let v : set (b .version) s (w .store .version) ≡ b .version = ap (λ (k : ℕ). set (b .version) s k) version ∙ set-getD (b .version) s 0 in
-    let m : at (b .stamp) s + used .stamps ≡ w .store .stamp = omega arith in
-    let i : b .nextId + used .need ≡ b .nextId + w .need = omega arith in
-    cc
+-- a touch of the store x, as the definition lays it, and as the turn leaves the small numbers
+books-touched : (s : ℕ) (used : Used) (w : Touched) (x : Store) (l : List ℕ) → x .book ≡ bookIn l s → Steady x (w .store)
+    → w .store .book .records ≡ length (w .store .ranges) → w .store .book .held ≡ x .book .held → w .store .book .version ≡ x .book .version
+    → w .store .book .stamp ≡ x .book .stamp + w .stamps → used .n ≡ length (w .store .ranges) → used .need ≡ w .need → used .stamps ≡ w .stamps
+    → layNext (nextIdIn l + used .need) (stallsIn l) (layBook s (renumbered (bookIn l s) (used .n) (bookIn l s .stamp + used .stamps)) l)
+    ≡ layNext (nextIdIn l + w .need) (stallsIn l) (layBook s (w .store .book) l)
+books-touched s used w x l e k counted held version stamp n need stamps =
+    let f : renumbered (x .book) (used .n) (x .book .stamp + used .stamps) ≡ w .store .book =
+    book-eq (sym (k .capacity)) (sym (k .policy)) (n ∙ sym counted) (sym held) (ap (λ (m : ℕ). x .book .stamp + m) stamps ∙ sym stamp) (sym version) (sym (k .entries)) (sym (k .pinned)) in
+    let g = ap (λ (b : Book). renumbered b (used .n) (b .stamp + used .stamps)) (sym e) ∙ f in
+    (λ i. layNext (nextIdIn l + need i) (stallsIn l) (layBook s (g i) l))
 
 full : (a w : ℕ) (xs pool : List ℕ) → length xs ≡ w → back a w xs pool ≡ lay 0 a w xs pool
 unfolding lay
@@ -446,17 +387,23 @@ module _ (sp : Span) (depth bytes : List ℕ) (c : Ranges) (ms : List ℕ) (y : 
   abbrev ready : TurnReady sp (whole (p .others) depth bytes c ms (y .small)) y
   ready = p .ready go
 
-  abbrev n₀ : ℕ
-  n₀ = at (y .small .records) (y .s)
+  abbrev next₀ : ℕ
+  next₀ = nextIdIn (y .small .books)
 
-  abbrev top₀ : ℕ
-  top₀ = at (y .small .stamp) (y .s)
+  -- what the calls say of a turn where b was read, and of the turn itself
+  abbrev JudgedBy : Book → ℕ → Type 0
+  JudgedBy b r = Judged (y .s) (b .records) (c .node) (c .start) (c .end) sp (renews b) (b .stamp) next₀ r
 
-  abbrev on : Bool
-  on = getD (y .small .refreshes) (y .s) false
+  abbrev TouchedFrom : Book → Ranges → List ℕ → Used → Type 0
+  TouchedFrom b c′ ms′ used =
+      (t : Tree) (x : Store) → t .depth ≡ depth → x .ranges ≡ ranges c (128 * y .s) (b .records) → x .book .stamp ≡ b .stamp → renews (x .book) ≡ renews b
+      → x .marks ≡ mid (256 * y .s) 256 ms → TouchedAt (y .s) (touch t bytes x next₀ sp (y .time) (y .counted)) (b .records) c ms c′ ms′ used
+
+  abbrev book₀ : Book
+  book₀ = bookIn (y .small .books) (y .s)
 
   abbrev JudgedHere : ℕ → Type 0
-  JudgedHere r = Judged (y .s) n₀ (c .node) (c .start) (c .end) sp on top₀ (y .small .next) r
+  JudgedHere r = JudgedBy book₀ r
 
   module _ (o : Others) where
     abbrev st : State
@@ -465,28 +412,28 @@ module _ (sp : Span) (depth bytes : List ℕ) (c : Ranges) (ms : List ℕ) (y : 
     abbrev w : Touched
     w = touchedBy st (y .s) sp (y .time) (y .counted)
 
-    store-read : storeOf st (y .s) .ranges ≡ ranges c (128 * y .s) n₀
+    store-read : storeOf st (y .s) .ranges ≡ ranges c (128 * y .s) (book₀ .records)
     unfolding storeOf
     store-read = refl
 
-    store-on : storeOf st (y .s) .refreshes ≡ on
+    store-on : renews (storeOf st (y .s) .book) ≡ renews book₀
     unfolding storeOf
     store-on = refl
 
     needs-here : (r : ℕ) (j : JudgedHere r) → (j .needs .records ≡ w .need) × (j .needs .stamps ≡ w .stamps)
     unfolding midRanges
     needs-here r j =
-        j .are (mid (128 * y .s) 128 (c .id)) (mid (128 * y .s) 128 (c .stamp)) (mid (128 * y .s) 128 (c .write)) (mid (128 * y .s) 128 (c .touched)) (st .tree) bytes (storeOf st (y .s)) (y .small .next) (y .time) (y .counted)
-        (store-read ∙ sym (ranges-part c (128 * y .s) 128 n₀ (few ready))) store-on
+        j .are (mid (128 * y .s) 128 (c .id)) (mid (128 * y .s) 128 (c .stamp)) (mid (128 * y .s) 128 (c .write)) (mid (128 * y .s) 128 (c .touched)) (st .tree) bytes (storeOf st (y .s)) next₀ (y .time) (y .counted)
+        (store-read ∙ sym (ranges-part c (128 * y .s) 128 (book₀ .records) (few ready))) store-on
 
-    number-here : (r : ℕ) → JudgedHere r → r ≡ turnNumber n₀ (w .need) top₀ (w .stamps) (y .small .next)
-    number-here r j = let k = needs-here r j in j .number ∙ (λ i. turnNumber n₀ (k .0 i) top₀ (k .1 i) (y .small .next))
+    number-here : (r : ℕ) → JudgedHere r → r ≡ turnNumber (book₀ .records) (w .need) (book₀ .stamp) (w .stamps) next₀
+    number-here r j = let k = needs-here r j in j .number ∙ (λ i. turnNumber (book₀ .records) (k .0 i) (book₀ .stamp) (k .1 i) next₀)
 
-  pub refused-turn : (number : ℕ) (old : Old) (r : Turn) (c′ : Ranges) (ms′ : List ℕ) → (number ≡ 0 → ⊥) → JudgedHere number
+  refused-here : (number : ℕ) (old : Old) (r : Turn) (c′ : Ranges) (ms′ : List ℕ) → (number ≡ 0 → ⊥) → JudgedHere number
       → old ≡ keptOld (y .turns) (y .old) (y .s) c ms → r ≡ refusing number y
       → c′ ≡ backRanges (128 * y .s) 128 (oldRanges old) c → ms′ ≡ back (256 * y .s) 256 (old .marks) ms
       → (o : Others) → Turned sp (whole o depth bytes c ms (y .small)) y (whole o depth bytes c′ ms′ (r .small)) r
-  refused-turn number old r c′ ms′ some j kept is ec em o =
+  refused-here number old r c′ ms′ some j kept is ec em o =
       subst (λ (q : Turn). Turned sp (whole o depth bytes c ms (y .small)) y (whole o depth bytes c′ ms′ (q .small)) q) (sym is)
       (record {
         idle = λ l. absurd (omega arith);
@@ -497,45 +444,44 @@ module _ (sp : Span) (depth bytes : List ℕ) (c : Ranges) (ms : List ℕ) (y : 
               counts = refl;
               number = number-here o number j;
               stopped = λ l.
-                  state-eq refl (ec ∙ ap (λ (q : Old). backRanges (128 * y .s) 128 (oldRanges q) c) kept)
+                  state-eq (ec ∙ ap (λ (q : Old). backRanges (128 * y .s) 128 (oldRanges q) c) kept)
                   (em ∙ ap (λ (q : Old). back (256 * y .s) 256 (q .marks) ms) kept) refl;
               taken = λ z. absurd (some z);
             };
       })
 
-  module _ (o : Others) (used : Used) (r : Turn) (c′ : Ranges) (ms′ : List ℕ)
-      (u : TouchedAt (y .s) (w o) n₀ c ms c′ ms′ used) (q : Settled (y .s) used (y .small) (r .small)) where
-    marks-here : length (storeOf (st o) (y .s) .marks) ≡ 256
+  module _ (o : Others) (used : Used) (small : Small) (c′ : Ranges) (ms′ : List ℕ) (u : TouchedAt (y .s) (w o) (book₀ .records) c ms c′ ms′ used)
+      (q : small ≡ smallFor (y .s) (used .n) (book₀ .stamp + used .stamps) (next₀ + used .need) (y .small)) where
+    abbrev x₀ : Store
+    x₀ = storeOf (st o) (y .s)
+
+    marks-here : length (x₀ .marks) ≡ 256
     unfolding storeOf
     marks-here = mid-long (256 * y .s) 256 ms (omega (arith, in-stores ready, ready .sound .lent .marks))
 
-    held-here : w o .store .held ≡ at (y .small .held) (y .s)
-    unfolding storeOf
-    held-here = touch-held (st o .tree) bytes (storeOf (st o) (y .s)) (y .small .next) sp (y .time) (y .counted)
+    books-here : smallFor (y .s) (used .n) (book₀ .stamp + used .stamps) (next₀ + used .need) (y .small) .books
+        ≡ layNext (next₀ + w o .need) (stallsIn (y .small .books)) (layBook (y .s) (w o .store .book) (y .small .books))
+    books-here =
+        books-touched (y .s) used (w o) x₀ (y .small .books) (store-book (st o) (y .s))
+        (touch-steady (st o .tree) bytes x₀ next₀ sp (y .time) (y .counted))
+        (touch-counted (st o .tree) bytes x₀ next₀ sp (y .time) (y .counted))
+        (touch-held (st o .tree) bytes x₀ next₀ sp (y .time) (y .counted))
+        (touch-version (st o .tree) bytes x₀ next₀ sp (y .time) (y .counted))
+        (touch-stamp (st o .tree) bytes x₀ next₀ sp (y .time) (y .counted)) (u .records) (u .need) (u .stamps)
 
-    version-here : w o .store .version ≡ at (y .small .version) (y .s)
-    unfolding storeOf
-    version-here = touch-version (st o .tree) bytes (storeOf (st o) (y .s)) (y .small .next) sp (y .time) (y .counted)
-
-    stamp-here : w o .store .stamp ≡ top₀ + w o .stamps
-    unfolding storeOf
-    stamp-here = touch-stamp (st o .tree) bytes (storeOf (st o) (y .s)) (y .small .next) sp (y .time) (y .counted)
-
-    state-here : whole o depth bytes c′ ms′ (r .small) ≡ touchSpan (st o) (y .s) sp (y .time) (y .counted)
-    unfolding touchSpan withRanges withNext
+    state-here : whole o depth bytes c′ ms′ small ≡ touchSpan (st o) (y .s) sp (y .time) (y .counted)
+    unfolding touchSpan withRanges withNext layNext layBook
     state-here =
-        state-eq (tree-eq (q .nodes) (q .used)) (u .cols)
-        (u .marks ∙ full (256 * y .s) 256 (w o .store .marks) ms (touch-marks-long (st o .tree) bytes (storeOf (st o) (y .s)) (y .small .next) sp (y .time) (y .counted) ∙ marks-here))
-        (q .books ∙ books-touched (y .s) used (w o) (booksOf (y .small)) (u .records) (u .need) (u .stamps) held-here version-here stamp-here)
+        ap (λ (a : Small). whole o depth bytes c′ ms′ a) q
+        ∙ state-eq (u .cols)
+        (u .marks ∙ full (256 * y .s) 256 (w o .store .marks) ms (touch-marks-long (st o .tree) bytes x₀ next₀ sp (y .time) (y .counted) ∙ marks-here))
+        books-here
 
-  pub taken-turn : (number : ℕ) (old : Old) (used : Used) (r : Turn) (c′ : Ranges) (ms′ : List ℕ) → number ≡ 0 → JudgedHere number
-      → old ≡ keptOld (y .turns) (y .old) (y .s) c ms
-      → ((t : Tree) (x : Store) → t .depth ≡ depth → x .ranges ≡ ranges c (128 * y .s) n₀ → x .stamp ≡ top₀ → x .refreshes ≡ on → x .marks ≡ mid (256 * y .s) 256 ms
-      → TouchedAt (y .s) (touch t bytes x (y .small .next) sp (y .time) (y .counted)) n₀ c ms c′ ms′ used)
-      → TurnTaken y old used r
+  taken-here : (number : ℕ) (old : Old) (used : Used) (r : Turn) (c′ : Ranges) (ms′ : List ℕ) → number ≡ 0 → JudgedHere number
+      → old ≡ keptOld (y .turns) (y .old) (y .s) c ms → TouchedFrom book₀ c′ ms′ used → TurnTaken y old used (book₀ .stamp) r
       → (o : Others) → Turned sp (whole o depth bytes c ms (y .small)) y (whole o depth bytes c′ ms′ (r .small)) r
   unfolding storeOf
-  taken-turn number old used r c′ ms′ none j kept touched k o =
+  taken-here number old used r c′ ms′ none j kept touched k o =
       let u = touched (st o .tree) (storeOf (st o) (y .s)) refl refl refl refl refl in
       record {
         idle = λ l. absurd (omega arith);
@@ -548,7 +494,7 @@ module _ (sp : Span) (depth bytes : List ℕ) (c : Ranges) (ms : List ℕ) (y : 
               stopped = λ l. absurd (omega (arith, k .refused));
               taken = λ z.
                   record {
-                    state = state-here o used r c′ ms′ u (k .small);
+                    state = state-here o used (r .small) c′ ms′ u (k .small);
                     old = k .old ∙ kept;
                     turns = k .turns;
                     sum = k .sum ∙ ap (λ (b : ℕ). y .sum + b) (u .bytes);
@@ -556,14 +502,41 @@ module _ (sp : Span) (depth bytes : List ℕ) (c : Ranges) (ms : List ℕ) (y : 
             };
       }
 
-  -- what the calls of a turn ask for
-  pub count-here : (number : ℕ) (used : Used) (c′ : Ranges) (ms′ : List ℕ) → number ≡ 0 → JudgedHere number
-      → ((t : Tree) (x : Store) → t .depth ≡ depth → x .ranges ≡ ranges c (128 * y .s) n₀ → x .stamp ≡ top₀ → x .refreshes ≡ on → x .marks ≡ mid (256 * y .s) 256 ms
-      → TouchedAt (y .s) (touch t bytes x (y .small .next) sp (y .time) (y .counted)) n₀ c ms c′ ms′ used)
-      → (y .s < 8) × (top₀ + used .stamps ≤ maxStamp) × (y .small .next + used .need ≤ maxStamp) × (y .turns < 64) × (y .sum + used .bytes < 18446744073709551616)
+  count-here : (number : ℕ) (used : Used) (c′ : Ranges) (ms′ : List ℕ) → number ≡ 0 → JudgedHere number → TouchedFrom book₀ c′ ms′ used
+      → (y .s < 8) × (book₀ .stamp + used .stamps ≤ maxStamp) × (next₀ + used .need ≤ maxStamp) × (y .turns < 64) × (y .sum + used .bytes < 18446744073709551616)
   unfolding storeOf
   count-here number used c′ ms′ none j touched =
-      count-ready ready on number none j refl used c′ ms′ (touched (st (p .others) .tree) (storeOf (st (p .others)) (y .s)) refl refl refl refl refl)
+      count-ready ready (renews book₀) number none j refl used c′ ms′ (touched (st (p .others) .tree) (storeOf (st (p .others)) (y .s)) refl refl refl refl refl)
+
+  -- the same of the numbers that were read
+  module _ (b : Book) (is : b ≡ bookIn (y .small .books) (y .s)) (number : ℕ) (j : JudgedBy b number) where
+    judged-here : JudgedHere number
+    judged-here = subst (λ (q : Book). JudgedBy q number) is j
+
+    pub refused-turn : (old : Old) (r : Turn) (c′ : Ranges) (ms′ : List ℕ) → (number ≡ 0 → ⊥)
+        → old ≡ keptOld (y .turns) (y .old) (y .s) c ms → r ≡ refusing number y
+        → c′ ≡ backRanges (128 * y .s) 128 (oldRanges old) c → ms′ ≡ back (256 * y .s) 256 (old .marks) ms
+        → (o : Others) → Turned sp (whole o depth bytes c ms (y .small)) y (whole o depth bytes c′ ms′ (r .small)) r
+    refused-turn old r c′ ms′ some = refused-here number old r c′ ms′ some judged-here
+
+    pub touch-asks : number ≡ 0 → PoolReady depth bytes (y .s) (b .records) c ms sp (renews b) (b .stamp) next₀
+    touch-asks none =
+        subst (λ (q : Book). PoolReady depth bytes (y .s) (q .records) c ms sp (renews q) (q .stamp) next₀) (sym is)
+        (touch-ready ready (renews book₀) number none judged-here)
+
+    module _ (used : Used) (c′ : Ranges) (ms′ : List ℕ) (none : number ≡ 0) (touched : TouchedFrom b c′ ms′ used) where
+      touched-here : TouchedFrom book₀ c′ ms′ used
+      touched-here = subst (λ (q : Book). TouchedFrom q c′ ms′ used) is touched
+
+      pub taken-asks : (y .s < 8) × (b .stamp + used .stamps ≤ maxStamp) × (next₀ + used .need ≤ maxStamp) × (y .turns < 64) × (y .sum + used .bytes < 18446744073709551616)
+      taken-asks =
+          subst (λ (q : Book). (y .s < 8) × (q .stamp + used .stamps ≤ maxStamp) × (next₀ + used .need ≤ maxStamp) × (y .turns < 64) × (y .sum + used .bytes < 18446744073709551616)) (sym is)
+          (count-here number used c′ ms′ none judged-here touched-here)
+
+      pub taken-turn : (old : Old) (r : Turn) → old ≡ keptOld (y .turns) (y .old) (y .s) c ms → TurnTaken y old used (b .stamp) r
+          → (o : Others) → Turned sp (whole o depth bytes c ms (y .small)) y (whole o depth bytes c′ ms′ (r .small)) r
+      taken-turn old r kept k =
+          taken-here number old used r c′ ms′ none judged-here kept touched-here (subst (λ (q : Book). TurnTaken y old used (q .stamp) r) is k)
 
 -- ---- a turn with no part kept: the same as that of a touch which would keep it
 
@@ -586,23 +559,22 @@ module _ (o : Others) (x : Small) (sp : Span) (depth bytes : List ℕ) (c : Rang
 
   abbrev TouchedRun : Ranges → List ℕ → Used → Type 0
   TouchedRun c′ ms′ used =
-      (t : Tree) (q : Store) → t .depth ≡ depth → q .ranges ≡ ranges c (128 * s) (y .n) → q .stamp ≡ y .top → q .refreshes ≡ refreshes → q .marks ≡ mid (256 * s) 256 ms
+      (t : Tree) (q : Store) → t .depth ≡ depth → q .ranges ≡ ranges c (128 * s) (y .n) → q .book .stamp ≡ y .top → renews (q .book) ≡ refreshes → q .marks ≡ mid (256 * s) 256 ms
       → TouchedAt s (touch t bytes q (y .next) sp time counted) (y .n) c ms c′ ms′ used
 
   judged : (r : ℕ) → JudgedRun r → JudgedHere sp depth bytes c ms turn can-turn refl r
   judged r j = rw (h .stands .records, h .stands .on, h .stands .stamp, h .stands .next) at j
 
   touched-run : (c′ : Ranges) (ms′ : List ℕ) (used : Used) → TouchedRun c′ ms′ used
-      → (t : Tree) (q : Store) → t .depth ≡ depth → q .ranges ≡ ranges c (128 * s) (at (x .records) s) → q .stamp ≡ at (x .stamp) s → q .refreshes ≡ getD (x .refreshes) s false
-      → q .marks ≡ mid (256 * s) 256 ms → TouchedAt s (touch t bytes q (x .next) sp time counted) (at (x .records) s) c ms c′ ms′ used
+      → TouchedFrom sp depth bytes c ms turn can-turn refl (bookIn (x .books) s) c′ ms′ used
   touched-run c′ ms′ used u = rw (h .stands .records, h .stands .on, h .stands .stamp, h .stands .next) at u
 
   pub run-asks-number : Placed s (y .n) (c .node) (c .start) (c .end) × (y .n ≤ 128) × (y .top ≤ maxStamp) × (y .next ≤ maxStamp)
-  run-asks-number = rw (h .stands .records, h .stands .stamp, h .stands .next) (number-ready turn-ready)
+  run-asks-number = rw (h .stands .records, h .stands .stamp, h .stands .next) (number-ready turn-ready (bookIn (x .books) s) refl)
 
   pub run-asks-touch : (r : ℕ) → r ≡ 0 → JudgedRun r → PoolReady depth bytes s (y .n) c ms sp refreshes (y .top) (y .next)
   run-asks-touch r e j =
-      rw (h .stands .records, h .stands .on, h .stands .stamp, h .stands .next) (touch-ready turn-ready (getD (x .refreshes) s false) r e (judged r j))
+      rw (h .stands .records, h .stands .on, h .stands .stamp, h .stands .next) (touch-ready turn-ready (renews (bookIn (x .books) s)) r e (judged r j))
 
   pub run-asks-on : (r : ℕ) (c′ : Ranges) (ms′ : List ℕ) (used : Used) → r ≡ 0 → JudgedRun r → TouchedRun c′ ms′ used
       → (y .top + used .stamps ≤ maxStamp) × (y .next + used .need ≤ maxStamp) × (y .sum + used .bytes < 18446744073709551616)
@@ -620,11 +592,12 @@ module _ (o : Others) (x : Small) (sp : Span) (depth bytes : List ℕ) (c : Rang
         sum = λ z. absurd (n (sym e ∙ z));
       }
 
-  settled-run : (used : Used) → Settled s used x (smallWith s (runOn y used) x)
+  settled-run : (used : Used)
+      → smallWith s (runOn y used) x ≡ smallFor s (used .n) (bookIn (x .books) s .stamp + used .stamps) (nextIdIn (x .books) + used .need) x
   settled-run used =
       let e = h .stands .stamp in
       let f = h .stands .next in
-      record { nodes = refl; used = refl; books = (λ i. booksOf (smallWith s (record { n = used .n; top = e i + used .stamps; next = f i + used .need; sum = 0; number = 0 }) x)) }
+      (λ i. smallFor s (used .n) (e i + used .stamps) (f i + used .need) x)
 
   pub run-taken : (k : ℕ) (c′ : Ranges) (ms′ : List ℕ) (used : Used) (r : Run) → r ≡ runOn y used → k ≡ 0 → JudgedRun k → TouchedRun c′ ms′ used
       → Ran sp s time counted before y (whole o depth bytes c′ ms′ (smallWith s r x)) r
@@ -636,10 +609,6 @@ module _ (o : Others) (x : Small) (sp : Span) (depth bytes : List ℕ) (c : Rang
         number = sym none ∙ number-here sp depth bytes c ms turn can-turn refl o k (judged k j);
         stopped = λ l. absurd (omega arith);
         taken = λ z.
-            state-here sp depth bytes c ms turn can-turn refl o used (record { small = smallWith s (runOn y used) x; old = turn .old; s = s; time = time; counted = counted; turns = 64; sum = 0; refused = 0 }) c′ ms′ u
-            (settled-run used);
+            state-here sp depth bytes c ms turn can-turn refl o used (smallWith s (runOn y used) x) c′ ms′ u (settled-run used);
         sum = λ z. ap (λ (b : ℕ). y .sum + b) (u .bytes);
       })
-
-pub index-fits : {s : ℕ} → s < 8 → Fits w64 (s * 8)
-index-fits h = omega arith

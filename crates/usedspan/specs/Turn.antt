@@ -3,19 +3,20 @@ use Prim.Native.Nat.{ℕ, zero, suc, _+_, _*_, _≤_, _<_, _^_}
 use mathlib.Core.Path.{_≡_}
 use mathlib.Core.Bool.{Bool, true, false, _||_}
 use mathlib.Core.List.{List}
-use lib.ListN.{length, getD, set}
+use lib.ListN.{length}
 use lib.Dec.{ltb, leb, eqb}
 use lib.Ieee.{Float}
 use Rattle.model.specs.declared.Span.{Span}
+use Rattle.model.specs.declared.Book.{Book}
 use Rattle.model.specs.Sizes.{storeRecords, storeMarks, maxStores, maxMarks, maxStamp, maxBytes, maxSpans}
-use Rattle.model.specs.State.{Ranges, Books, State, at}
+use Rattle.model.specs.State.{Ranges, State, nodesIn, usedIn, storesIn, nextIdIn, stallsIn, bookIn, storesOf, nextIdOf, recordsOf, stampOf}
 use Rattle.model.specs.Sound.{Sound, RangesLent}
 use Rattle.model.specs.SoundTest.{finite}
-use Rattle.model.specs.Store.{Store, ranges, lay, layRanges}
+use Rattle.model.specs.Store.{layRanges, layBook, layNext, ranged}
 use Rattle.model.specs.Touch.{Touched}
 use Rattle.model.specs.Refusals.{SpanIn, touchedBy, touchSpan}
 use Rattle.lent.specs.declared.Small.{Small}
-use Rattle.lent.specs.Lent.{treeOf, rangesOf, pinsOf, stateOf, booksOf}
+use Rattle.lent.specs.Lent.{treeOf, pinsOf, stateOf}
 use Rattle.parts.specs.Parts.{mid, back, midRanges, backRanges}
 use Rattle.tree.specs.Span.{Priced}
 use Rattle.overlap.specs.declared.Needs.{Needs}
@@ -23,7 +24,8 @@ use Rattle.overlap.specs.Overlap.{Ordered, TouchNeeds, TouchFits}
 use Rattle.touch.specs.declared.Used.{Used}
 use Rattle.answers.specs.declared.Counted.{Counted}
 use Rattle.answers.specs.declared.Count.the-variants.{Refused, Done}
-use Rattle.usedspan.specs.declared.Old.{Old}
+use Rattle.undo.specs.declared.Old.{Old}
+use Rattle.undo.specs.Old.{oldRanges, oldFrom}
 use Rattle.usedspan.specs.declared.Turn.{Turn}
 use Rattle.usedspan.specs.declared.Run.{Run}
 
@@ -42,8 +44,8 @@ pub record Others : Type 0 where
 
 abbrev pub whole : Others → List ℕ → List ℕ → Ranges → List ℕ → Small → State
 whole o depth bytes c marks x =
-    stateOf (treeOf (o .parent) depth (o .len) (o .run) (o .words) (x .nodes) (x .used)) c
-    (pinsOf (o .pinNode) (o .pinStart) (o .pinEnd) (o .pinCount)) marks bytes x
+    stateOf (treeOf (o .parent) depth (o .len) (o .run) (o .words) (nodesIn (x .books)) (usedIn (x .books))) c
+    (pinsOf (o .pinNode) (o .pinStart) (o .pinEnd) (o .pinCount)) marks bytes (x .books)
 
 -- ---- before the turns: 2, 3, 5 and, over all spans, 4
 
@@ -64,7 +66,7 @@ pub record Begun (x : Small) (s n : ℕ) (time : Float) (counted : Bool) (y : Tu
   pub counts : y .counted ≡ counted
   pub turns : y .turns ≡ 0
   pub sum : y .sum ≡ 0
-  pub refused : y .refused ≡ firstNumber (x .stores) s n time
+  pub refused : y .refused ≡ firstNumber (storesIn (x .books)) s n time
 
 -- 4 goes before 5, and behind 2 and 3
 abbrev pub four : ℕ → ℕ
@@ -121,45 +123,16 @@ pub record TouchedAt (s : ℕ) (w : Touched) (n : ℕ) (c₀ : Ranges) (ms₀ : 
   pub stamps : r .stamps ≡ w .stamps
   pub bytes : r .bytes ≡ w .bytes
 
--- the small numbers after a turn
-abbrev pub settledBooks : ℕ → Used → Books → Books
-settledBooks s w b =
-    record {
-      stores = b .stores;
-      nextId = b .nextId + w .need;
-      stalls = b .stalls;
-      capacity = b .capacity;
-      refreshes = b .refreshes;
-      records = set (b .records) s (w .n);
-      held = b .held;
-      stamp = set (b .stamp) s (at (b .stamp) s + w .stamps);
-      version = b .version;
-      entries = b .entries;
-      pinned = b .pinned;
-    }
+-- a store's own numbers with so many records and this stamp: a touch moves no block
+abbrev pub renumbered : Book → ℕ → ℕ → Book
+renumbered b n top = ranged b n (b .held) top (b .version)
 
-pub record Settled (s : ℕ) (w : Used) (x y : Small) : Type 0 where
-  pub nodes : y .nodes ≡ x .nodes
-  pub used : y .used ≡ x .used
-  pub books : booksOf y ≡ settledBooks s w (booksOf x)
+-- the small numbers x with these of store s, and this next id
+abbrev pub smallFor : ℕ → ℕ → ℕ → ℕ → Small → Small
+smallFor s n top next x =
+    record { books = layNext next (stallsIn (x .books)) (layBook s (renumbered (bookIn (x .books) s) n top) (x .books)) }
 
 -- ---- the store's part, kept before the first turn and put back if a turn is refused
-
-abbrev pub oldRanges : Old → Ranges
-oldRanges o = rangesOf (o .node) (o .start) (o .end) (o .id) (o .stamp) (o .touched) (o .write)
-
-abbrev pub oldFrom : ℕ → Ranges → List ℕ → Old
-oldFrom s c marks =
-    record {
-      node = mid (storeRecords * s) storeRecords (c .node);
-      start = mid (storeRecords * s) storeRecords (c .start);
-      end = mid (storeRecords * s) storeRecords (c .end);
-      id = mid (storeRecords * s) storeRecords (c .id);
-      stamp = mid (storeRecords * s) storeRecords (c .stamp);
-      touched = mid (storeRecords * s) storeRecords (c .touched);
-      write = mid (storeRecords * s) storeRecords (c .write);
-      marks = mid (storeMarks * s) storeMarks marks;
-    }
 
 -- what is kept: the part as it is before the first turn, and later what was kept then
 abbrev pub keptOld : ℕ → Old → ℕ → Ranges → List ℕ → Old
@@ -178,9 +151,9 @@ undone s old st =
       books = st .books;
     }
 
--- r is y with the turn taken
-pub record TurnTaken (y : Turn) (kept : Old) (w : Used) (r : Turn) : Type 0 where
-  pub small : Settled (y .s) w (y .small) (r .small)
+-- r is y with the turn taken, the stamp having been `top`
+pub record TurnTaken (y : Turn) (kept : Old) (w : Used) (top : ℕ) (r : Turn) : Type 0 where
+  pub small : r .small ≡ smallFor (y .s) (w .n) (top + w .stamps) (nextIdIn (y .small .books) + w .need) (y .small)
   pub old : r .old ≡ kept
   pub store : r .s ≡ y .s
   pub when : r .time ≡ y .time
@@ -194,7 +167,7 @@ pub record TurnTaken (y : Turn) (kept : Old) (w : Used) (r : Turn) : Type 0 wher
 -- a turn of a span, where none was refused before
 pub record TurnReady (sp : Span) (st : State) (y : Turn) : Type 0 where
   pub sound : Sound st
-  pub store : y .s < st .books .stores
+  pub store : y .s < storesOf st
   pub span : SpanIn (st .tree) sp
   pub turns : y .turns < maxSpans
   pub sum : y .sum ≤ y .turns * (storeRecords * maxBytes)
@@ -215,8 +188,8 @@ pub record Gone (sp : Span) (st : State) (y : Turn) (st′ : State) (r : Turn) :
   pub counts : r .counted ≡ y .counted
   pub number :
       r .refused
-      ≡ turnNumber (at (st .books .records) (y .s)) (touchedBy st (y .s) sp (y .time) (y .counted) .need) (at (st .books .stamp) (y .s))
-      (touchedBy st (y .s) sp (y .time) (y .counted) .stamps) (st .books .nextId)
+      ≡ turnNumber (recordsOf st (y .s)) (touchedBy st (y .s) sp (y .time) (y .counted) .need) (stampOf st (y .s))
+      (touchedBy st (y .s) sp (y .time) (y .counted) .stamps) (nextIdOf st)
   pub stopped : 1 ≤ r .refused → st′ ≡ undone (y .s) (keptOld (y .turns) (y .old) (y .s) (st .ranges) (st .marks)) st
   pub taken : r .refused ≡ 0 → Taken sp st y st′ r
 
@@ -236,35 +209,20 @@ stopRun k y = record { n = y .n; top = y .top; next = y .next; sum = y .sum; num
 
 -- the small numbers x with those of y for store s
 abbrev pub smallWith : ℕ → Run → Small → Small
-smallWith s y x =
-    record {
-      nodes = x .nodes;
-      used = x .used;
-      stores = x .stores;
-      next = y .next;
-      stalls = x .stalls;
-      capacity = x .capacity;
-      refreshes = x .refreshes;
-      records = set (x .records) s (y .n);
-      held = x .held;
-      stamp = set (x .stamp) s (y .top);
-      version = x .version;
-      entries = x .entries;
-      pinned = x .pinned;
-    }
+smallWith s y x = smallFor s (y .n) (y .top) (y .next) x
 
 -- the numbers of y are those of store s in x
 pub record Stands (s : ℕ) (refreshes : Bool) (x : Small) (y : Run) : Type 0 where
-  pub records : y .n ≡ at (x .records) s
-  pub on : refreshes ≡ getD (x .refreshes) s false
-  pub stamp : y .top ≡ at (x .stamp) s
-  pub next : y .next ≡ x .next
+  pub records : y .n ≡ bookIn (x .books) s .records
+  pub on : refreshes ≡ eqb (bookIn (x .books) s .policy) 1
+  pub stamp : y .top ≡ bookIn (x .books) s .stamp
+  pub next : y .next ≡ nextIdIn (x .books)
 
 -- a turn of a span of the tree, in a sound state with these columns; at most 63 were before
 pub record RunAt (o : Others) (x : Small) (sp : Span) (depth bytes : List ℕ) (c : Ranges) (marks : List ℕ) (s : ℕ) (refreshes : Bool) (y : Run) : Type 0 where
   pub stands : Stands s refreshes x y
   pub sound : Sound (whole o depth bytes c marks x)
-  pub store : s < x .stores
+  pub store : s < storesIn (x .books)
   pub span : SpanIn (whole o depth bytes c marks x .tree) sp
   pub sum : y .sum ≤ 63 * (storeRecords * maxBytes)
 
@@ -277,8 +235,8 @@ pub record RunReady (sp : Span) (depth bytes : List ℕ) (c : Ranges) (marks : L
 pub record Ran (sp : Span) (s : ℕ) (time : Float) (counted : Bool) (st : State) (y : Run) (st′ : State) (r : Run) : Type 0 where
   pub number :
       r .number
-      ≡ turnNumber (at (st .books .records) s) (touchedBy st s sp time counted .need) (at (st .books .stamp) s) (touchedBy st s sp time counted .stamps)
-      (st .books .nextId)
+      ≡ turnNumber (recordsOf st s) (touchedBy st s sp time counted .need) (stampOf st s) (touchedBy st s sp time counted .stamps)
+      (nextIdOf st)
   pub stopped : 1 ≤ r .number → (st′ .ranges ≡ st .ranges) × (st′ .marks ≡ st .marks)
   pub taken : r .number ≡ 0 → st′ ≡ touchSpan st s sp time counted
   pub sum : r .number ≡ 0 → r .sum ≡ y .sum + touchedBy st s sp time counted .bytes

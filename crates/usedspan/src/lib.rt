@@ -3,31 +3,22 @@ use answers::Counted;
 use lent::Small;
 use model::Span;
 use touch::Used;
+use undo::Old;
 ghost use mathlib.Core.Path.{_≡_};
 ghost use mathlib.Core.Bool.{true, false};
 ghost use Prim.Native.Nat.{_+_, _*_, _≤_, _<_};
+ghost use lib.Dec.{eqb};
 ghost use lib.ListN.{length};
 ghost use Rattle.model.specs.Sizes.{maxStamp};
-ghost use Rattle.model.specs.State.{Tree, at};
+ghost use Rattle.model.specs.State.{Tree, nodesIn, nextIdIn};
 ghost use Rattle.model.specs.Sound.{RangesLent};
 ghost use Rattle.model.specs.Store.{Store, ranges};
 ghost use Rattle.model.specs.Touch.{touch as touchOf};
 ghost use Rattle.model.specs.Refusals.{spanIn};
 ghost use Rattle.lent.specs.Lent.{rangesOf};
 ghost use Rattle.parts.specs.Parts.{mid, back, backRanges};
-ghost use Rattle.usedspan.specs.Turn.{Others, whole, firstNumber, Begun, four, looked, Placed, Judged, PoolReady, TouchedAt, refusing, oldFrom, keptOld, Settled, TurnTaken, Finished, oldRanges, Ready, Turned, runOn, smallWith, RunAt, RunReady, Ran};
-
-// A store's part of the pools, as it was before the first turn.
-pub struct Old {
-    pub node: [usize; 128],
-    pub start: [usize; 128],
-    pub end: [usize; 128],
-    pub id: [u64; 128],
-    pub stamp: [u64; 128],
-    pub touched: [f64; 128],
-    pub write: [u32; 128],
-    pub marks: [usize; 256],
-}
+ghost use Rattle.undo.specs.Old.{oldRanges};
+ghost use Rattle.usedspan.specs.Turn.{Others, whole, firstNumber, Begun, four, looked, Placed, Judged, PoolReady, TouchedAt, refusing, keptOld, smallFor, TurnTaken, Finished, Ready, Turned, runOn, smallWith, RunAt, RunReady, Ran};
 
 // A touch between two of its spans: the small numbers that the turns so far left, the store's part before the first of them,
 // the store, the time, whether reads are counted, how many turns there were, the bytes read, and the refusal's number, 0 for none.
@@ -92,7 +83,7 @@ pub fn begin(x: Small, s: usize, n: usize, time: f64, counted: bool) -> Turn
         counted,
         turns: 0,
         sum: 0,
-        refused: first_number(x.stores, s, n, time),
+        refused: first_number(x.books[2] as usize, s, n, time),
     }
 }
 
@@ -111,11 +102,11 @@ pub fn four_first(n: u8) -> u8
 
 // One span looked at: 4, unless it is one of the tree.
 pub fn check_one(sp: Span, len: &[usize], y: Turn) -> Turn
-    requires { ⌜ y .small .nodes ≤ length (now len) ⌝ }
-    ensures { λ r. ⌜ ((t : Tree) → t .len ≡ now (len .entry) → t .nodes ≡ y .small .nodes → r ≡ looked (spanIn t sp) y) ⌝ }
+    requires { ⌜ nodesIn (y .small .books) ≤ length (now len) ⌝ }
+    ensures { λ r. ⌜ ((t : Tree) → t .len ≡ now (len .entry) → t .nodes ≡ nodesIn (y .small .books) → r ≡ looked (spanIn t sp) y) ⌝ }
 {
     let x = y.small;
-    if refuse::span_in(len, x.nodes, sp) {
+    if refuse::span_in(len, x.books[0] as usize, sp) {
         return y;
     }
     let mut z = y;
@@ -123,155 +114,7 @@ pub fn check_one(sp: Span, len: &[usize], y: Turn) -> Turn
     z
 }
 
-// ---- a store's part copied, and put back; the same at each width
-
-fn copy_usize(col: &[usize], a: usize) -> [usize; 128]
-    requires { ⌜ a + 128 ≤ length (now col) ⌝ }
-    ensures { λ r. ⌜ r ≡ mid a 128 (now (col .entry)) ⌝ }
-{
-    let mut out = [0usize; 128];
-    let mut i = 0;
-    while i < 128 {
-        out[i] = col[a + i];
-        i += 1;
-    }
-    out
-}
-
-fn put_usize(col: &mut [usize], a: usize, from: [usize; 128])
-    requires { ⌜ a + 128 ≤ length (now col) ⌝ }
-    ensures { λ _. ⌜ now (col .exit) ≡ back a 128 from (now (col .entry)) ⌝ }
-{
-    let mut i = 0;
-    while i < 128 {
-        col[a + i] = from[i];
-        i += 1;
-    }
-}
-
-fn copy_u64(col: &[u64], a: usize) -> [u64; 128]
-    requires { ⌜ a + 128 ≤ length (now col) ⌝ }
-    ensures { λ r. ⌜ r ≡ mid a 128 (now (col .entry)) ⌝ }
-{
-    let mut out = [0u64; 128];
-    let mut i = 0;
-    while i < 128 {
-        out[i] = col[a + i];
-        i += 1;
-    }
-    out
-}
-
-fn put_u64(col: &mut [u64], a: usize, from: [u64; 128])
-    requires { ⌜ a + 128 ≤ length (now col) ⌝ }
-    ensures { λ _. ⌜ now (col .exit) ≡ back a 128 from (now (col .entry)) ⌝ }
-{
-    let mut i = 0;
-    while i < 128 {
-        col[a + i] = from[i];
-        i += 1;
-    }
-}
-
-fn copy_f64(col: &[f64], a: usize) -> [f64; 128]
-    requires { ⌜ a + 128 ≤ length (now col) ⌝ }
-    ensures { λ r. ⌜ r ≡ mid a 128 (now (col .entry)) ⌝ }
-{
-    let mut out = [0.0; 128];
-    let mut i = 0;
-    while i < 128 {
-        out[i] = col[a + i];
-        i += 1;
-    }
-    out
-}
-
-fn put_f64(col: &mut [f64], a: usize, from: [f64; 128])
-    requires { ⌜ a + 128 ≤ length (now col) ⌝ }
-    ensures { λ _. ⌜ now (col .exit) ≡ back a 128 from (now (col .entry)) ⌝ }
-{
-    let mut i = 0;
-    while i < 128 {
-        col[a + i] = from[i];
-        i += 1;
-    }
-}
-
-fn copy_u32(col: &[u32], a: usize) -> [u32; 128]
-    requires { ⌜ a + 128 ≤ length (now col) ⌝ }
-    ensures { λ r. ⌜ r ≡ mid a 128 (now (col .entry)) ⌝ }
-{
-    let mut out = [0u32; 128];
-    let mut i = 0;
-    while i < 128 {
-        out[i] = col[a + i];
-        i += 1;
-    }
-    out
-}
-
-fn put_u32(col: &mut [u32], a: usize, from: [u32; 128])
-    requires { ⌜ a + 128 ≤ length (now col) ⌝ }
-    ensures { λ _. ⌜ now (col .exit) ≡ back a 128 from (now (col .entry)) ⌝ }
-{
-    let mut i = 0;
-    while i < 128 {
-        col[a + i] = from[i];
-        i += 1;
-    }
-}
-
-fn copy_marks(col: &[usize], a: usize) -> [usize; 256]
-    requires { ⌜ a + 256 ≤ length (now col) ⌝ }
-    ensures { λ r. ⌜ r ≡ mid a 256 (now (col .entry)) ⌝ }
-{
-    let mut out = [0usize; 256];
-    let mut i = 0;
-    while i < 256 {
-        out[i] = col[a + i];
-        i += 1;
-    }
-    out
-}
-
-fn put_marks(col: &mut [usize], a: usize, from: [usize; 256])
-    requires { ⌜ a + 256 ≤ length (now col) ⌝ }
-    ensures { λ _. ⌜ now (col .exit) ≡ back a 256 from (now (col .entry)) ⌝ }
-{
-    let mut i = 0;
-    while i < 256 {
-        col[a + i] = from[i];
-        i += 1;
-    }
-}
-
-// The part of store s as it is.
-pub fn keep(
-    node: &[usize],
-    start: &[usize],
-    end: &[usize],
-    id: &[u64],
-    stamp: &[u64],
-    touched: &[f64],
-    write: &[u32],
-    marks: &[usize],
-    s: usize,
-) -> Old
-    requires { ⌜ (s < 8) × RangesLent (rangesOf (now node) (now start) (now end) (now id) (now stamp) (now touched) (now write)) × (2048 ≤ length (now marks)) ⌝ }
-    ensures { λ r. ⌜ r ≡ oldFrom s (rangesOf (now (node .entry)) (now (start .entry)) (now (end .entry)) (now (id .entry)) (now (stamp .entry)) (now (touched .entry)) (now (write .entry))) (now (marks .entry)) ⌝ }
-{
-    let a = 128 * s;
-    Old {
-        node: copy_usize(node, a),
-        start: copy_usize(start, a),
-        end: copy_usize(end, a),
-        id: copy_u64(id, a),
-        stamp: copy_u64(stamp, a),
-        touched: copy_f64(touched, a),
-        write: copy_u32(write, a),
-        marks: copy_marks(marks, 256 * s),
-    }
-}
+// ---- one turn
 
 // What is kept of the part: before the first turn what it is, and later what was kept then.
 fn keep_first(
@@ -289,47 +132,10 @@ fn keep_first(
     ensures { λ r. ⌜ r ≡ keptOld (y .turns) (y .old) (y .s) (rangesOf (now (node .entry)) (now (start .entry)) (now (end .entry)) (now (id .entry)) (now (stamp .entry)) (now (touched .entry)) (now (write .entry))) (now (marks .entry)) ⌝ }
 {
     if y.turns == 0 {
-        return keep(node, start, end, id, stamp, touched, write, marks, y.s);
+        return undo::keep(node, start, end, id, stamp, touched, write, marks, y.s);
     }
     y.old
 }
-
-// The part of store s as it was.
-pub fn undo(
-    node: &mut [usize],
-    start: &mut [usize],
-    end: &mut [usize],
-    id: &mut [u64],
-    stamp: &mut [u64],
-    touched: &mut [f64],
-    write: &mut [u32],
-    marks: &mut [usize],
-    s: usize,
-    old: Old,
-)
-    requires { ⌜ (s < 8) × RangesLent (rangesOf (now node) (now start) (now end) (now id) (now stamp) (now touched) (now write)) × (2048 ≤ length (now marks)) ⌝ }
-    ensures { λ _. ⌜ ((rangesOf (now (node .exit)) (now (start .exit)) (now (end .exit)) (now (id .exit)) (now (stamp .exit)) (now (touched .exit)) (now (write .exit))) ≡ backRanges (128 * s) 128 (oldRanges old) (rangesOf (now (node .entry)) (now (start .entry)) (now (end .entry)) (now (id .entry)) (now (stamp .entry)) (now (touched .entry)) (now (write .entry)))) × (now (marks .exit) ≡ back (256 * s) 256 (old .marks) (now (marks .entry))) ⌝ }
-{
-    let a = 128 * s;
-    let old_node = old.node;
-    put_usize(node, a, old_node);
-    let old_start = old.start;
-    put_usize(start, a, old_start);
-    let old_end = old.end;
-    put_usize(end, a, old_end);
-    let old_id = old.id;
-    put_u64(id, a, old_id);
-    let old_stamp = old.stamp;
-    put_u64(stamp, a, old_stamp);
-    let old_touched = old.touched;
-    put_f64(touched, a, old_touched);
-    let old_write = old.write;
-    put_u32(write, a, old_write);
-    let old_marks = old.marks;
-    put_marks(marks, 256 * s, old_marks);
-}
-
-// ---- one turn
 
 // What a turn is refused for: 8, 11 or nothing, 0.
 fn turn_number(
@@ -383,7 +189,7 @@ fn touch_pools(
     next: u64,
 ) -> Used
     requires { ⌜ PoolReady (now depth) (now bytes) s n (rangesOf (now node) (now start) (now end) (now id) (now stamp) (now touched) (now write)) (now marks) sp refreshes top next ⌝ }
-    ensures { λ r. ⌜ ((t : Tree) (x : Store) → t .depth ≡ now (depth .entry) → x .ranges ≡ ranges (rangesOf (now (node .entry)) (now (start .entry)) (now (end .entry)) (now (id .entry)) (now (stamp .entry)) (now (touched .entry)) (now (write .entry))) (128 * s) n → x .stamp ≡ top → x .refreshes ≡ refreshes → x .marks ≡ mid (256 * s) 256 (now (marks .entry)) → TouchedAt s (touchOf t (now (bytes .entry)) x next sp time counted) n (rangesOf (now (node .entry)) (now (start .entry)) (now (end .entry)) (now (id .entry)) (now (stamp .entry)) (now (touched .entry)) (now (write .entry))) (now (marks .entry)) (rangesOf (now (node .exit)) (now (start .exit)) (now (end .exit)) (now (id .exit)) (now (stamp .exit)) (now (touched .exit)) (now (write .exit))) (now (marks .exit)) r) ⌝ }
+    ensures { λ r. ⌜ ((t : Tree) (x : Store) → t .depth ≡ now (depth .entry) → x .ranges ≡ ranges (rangesOf (now (node .entry)) (now (start .entry)) (now (end .entry)) (now (id .entry)) (now (stamp .entry)) (now (touched .entry)) (now (write .entry))) (128 * s) n → x .book .stamp ≡ top → eqb (x .book .policy) 1 ≡ refreshes → x .marks ≡ mid (256 * s) 256 (now (marks .entry)) → TouchedAt s (touchOf t (now (bytes .entry)) x next sp time counted) n (rangesOf (now (node .entry)) (now (start .entry)) (now (end .entry)) (now (id .entry)) (now (stamp .entry)) (now (touched .entry)) (now (write .entry))) (now (marks .entry)) (rangesOf (now (node .exit)) (now (start .exit)) (now (end .exit)) (now (id .exit)) (now (stamp .exit)) (now (touched .exit)) (now (write .exit))) (now (marks .exit)) r) ⌝ }
 {
     let a = 128 * s;
     let e = a + 128;
@@ -410,15 +216,18 @@ fn touch_pools(
     )
 }
 
-// The small numbers after a turn of store s.
-fn settle(x: Small, s: usize, w: Used) -> Small
-    requires { ⌜ (s < 8) × (at (x .stamp) s + w .stamps ≤ maxStamp) × (x .next + w .need ≤ maxStamp) ⌝ }
-    ensures { λ r. ⌜ Settled s w x r ⌝ }
+// The small numbers with so many records and this stamp of store s, and this next id.
+pub fn small_for(x: Small, s: usize, n: usize, top: u64, next: u64) -> Small
+    requires { ⌜ s < 8 ⌝ }
+    ensures { λ r. ⌜ r ≡ smallFor s n top next x ⌝ }
 {
+    let mut b = books::book_of(&x.books, s);
+    b.records = n;
+    b.stamp = top;
+    let stalls = x.books[4];
     let mut r = x;
-    r.next = x.next + w.need as u64;
-    r.records[s] = w.n;
-    r.stamp[s] = x.stamp[s] + w.stamps;
+    books::put_book(&mut r.books, s, b);
+    books::put_next(&mut r.books, next, stalls);
     r
 }
 
@@ -504,18 +313,20 @@ fn refuse_turn(
     requires { ⌜ (y .s < 8) × RangesLent (rangesOf (now node) (now start) (now end) (now id) (now stamp) (now touched) (now write)) × (2048 ≤ length (now marks)) ⌝ }
     ensures { λ r. ⌜ (r ≡ refusing number y) × ((rangesOf (now (node .exit)) (now (start .exit)) (now (end .exit)) (now (id .exit)) (now (stamp .exit)) (now (touched .exit)) (now (write .exit))) ≡ backRanges (128 * y .s) 128 (oldRanges old) (rangesOf (now (node .entry)) (now (start .entry)) (now (end .entry)) (now (id .entry)) (now (stamp .entry)) (now (touched .entry)) (now (write .entry)))) × (now (marks .exit) ≡ back (256 * y .s) 256 (old .marks) (now (marks .entry))) ⌝ }
 {
-    undo(node, start, end, id, stamp, touched, write, marks, y.s, old);
+    undo::undo(node, start, end, id, stamp, touched, write, marks, y.s, old);
     let mut z = y;
     z.refused = number;
     z
 }
 
-// A turn that is taken: the small numbers and the bytes read with it.
-fn take_turn(y: Turn, old: Old, used: Used) -> Turn
-    requires { ⌜ (y .s < 8) × (at (y .small .stamp) (y .s) + used .stamps ≤ maxStamp) × (y .small .next + used .need ≤ maxStamp) × (y .turns < 64) × (y .sum + used .bytes < 18446744073709551616) ⌝ }
-    ensures { λ r. ⌜ TurnTaken y old used r ⌝ }
+// A turn that is taken, the store's stamp being `top`: the small numbers and the bytes read with it.
+fn take_turn(y: Turn, old: Old, used: Used, top: u64) -> Turn
+    requires { ⌜ (y .s < 8) × (top + used .stamps ≤ maxStamp) × (nextIdIn (y .small .books) + used .need ≤ maxStamp) × (y .turns < 64) × (y .sum + used .bytes < 18446744073709551616) ⌝ }
+    ensures { λ r. ⌜ TurnTaken y old used top r ⌝ }
 {
-    let small = settle(y.small, y.s, used);
+    let x = y.small;
+    let next = x.books[3] + used.need as u64;
+    let small = small_for(x, y.s, used.n, top + used.stamps, next);
     Turn {
         small,
         old,
@@ -551,11 +362,11 @@ pub fn one(
     }
     let x = y.small;
     let s = y.s;
-    let n = x.records[s];
-    let refreshes = x.refreshes[s];
-    let top = x.stamp[s];
+    let b = books::book_of(&x.books, s);
+    let refreshes = b.policy == 1;
+    let next = x.books[3];
     let old = keep_first(node, start, end, id, stamp, touched, write, marks, y);
-    let number = turn_number(node, start, end, s, n, sp, refreshes, top, x.next);
+    let number = turn_number(node, start, end, s, b.records, sp, refreshes, b.stamp, next);
     if number != 0 {
         return refuse_turn(
             node,
@@ -583,15 +394,15 @@ pub fn one(
         depth,
         bytes,
         s,
-        n,
+        b.records,
         sp,
         y.time,
         y.counted,
         refreshes,
-        top,
-        x.next,
+        b.stamp,
+        next,
     );
-    take_turn(y, old, used)
+    take_turn(y, old, used, b.stamp)
 }
 
 // The answer, from the small numbers that the touch began with.

@@ -1,86 +1,49 @@
--- `bring::settle` meets its contract: each number is set by itself, and `books-settled` has them together.
+-- `bring::settle` meets its contract: the store's numbers are laid, then the next id and the stalls, and `books-settled` has them together.
 use borrow.Author.Needs.{needs}
-use mathlib.Core.Path.{refl}
-use Rattle.lent.specs.Lent.{booksOf}
 use Rattle.bring.proofs.Laws.{books-settled}
 use Rattle.bring.proofs.settle.Statement.{statement}
 use Rattle.bring.proofs.settle.Tie as tie
 
-add-y : tie.Need-add-y
-add-y c = search needs
+element-copy-out-next : tie.Need-element-copy-out-next
+element-copy-out-next c = search needs
+
+add-next : tie.Need-add-next
+add-next c = search needs
+
+element-copy-out-stalls-after : tie.Need-element-copy-out-stalls-after
+element-copy-out-stalls-after c = search needs
 
 stalls-after-requires : tie.Need-stalls-after-requires
 stalls-after-requires c κs = search needs
 
-mul-y : tie.Need-mul-y
-mul-y c = search needs
-
-element-write-y : tie.Need-element-write-y
-element-write-y c = search needs
-
-mul-y-2 : tie.Need-mul-y-2
-mul-y-2 c = search needs
-
-element-write-y-2 : tie.Need-element-write-y-2
-element-write-y-2 c = search needs
-
-mul-y-3 : tie.Need-mul-y-3
-mul-y-3 c = search needs
-
-element-copy-out-y : tie.Need-element-copy-out-y
-element-copy-out-y c = search needs
-
-add-y-2 : tie.Need-add-y-2
-add-y-2 c = search needs
-
-mul-y-4 : tie.Need-mul-y-4
-mul-y-4 c = search needs
-
-element-write-y-3 : tie.Need-element-write-y-3
-element-write-y-3 c = search needs
-
-mul-wrapping-add-u64 : tie.Need-mul-wrapping-add-u64
-mul-wrapping-add-u64 c = search needs
-
-element-copy-out-wrapping-add-u64 : tie.Need-element-copy-out-wrapping-add-u64
-element-copy-out-wrapping-add-u64 c = search needs
+add-c : tie.Need-add-c
+add-c c = search needs
 
 wrapping-add-u64-requires : tie.Need-wrapping-add-u64-requires
 wrapping-add-u64-requires c κs = search needs
 
-mul-y-5 : tie.Need-mul-y-5
-mul-y-5 c = search needs
+put-book-requires : tie.Need-put-book-requires
+put-book-requires c κs = search needs
 
-element-write-y-4 : tie.Need-element-write-y-4
-element-write-y-4 c = search needs
+put-next-requires : tie.Need-put-next-requires
+put-next-requires c κs = search needs
 
 returns : tie.Need-returns
 returns c =
-    let a = c .before .before .before .before .args in
-    record {
-      nodes = refl;
-      used = refl;
-      books = books-settled (a .s) (a .need) (a .t .n) (a .t .held) (a .t .outs) (a .t .stalled) (booksOf (a .t1)) (c .before .before .before .stalls-after .result) (c .wrapping-add-u64 .result) (c .before .before .before .stalls-after .ensures) (c .wrapping-add-u64 .ensures);
-    }
+    let a = c .before .before .before .before .before .before .before .before .before .args in
+    books-settled (a .s) (a .need) (a .t .n) (a .t .held) (a .t .outs) (a .t .stalled) (a .b) (a .books .now) (c .before .before .put-book .last .0) (c .put-next .last .0) (c .before .before .before .before .before .before .stalls-after .result) (c .before .before .before .before .wrapping-add-u64 .result)
+    (c .before .before .before .before .before .before .stalls-after .ensures) (c .before .before .before .before .wrapping-add-u64 .ensures) (c .before .before .put-book .ensures) (c .put-next .ensures)
 
 pub settle-spec : {M : Type 1} → statement M
 settle-spec =
     tie.close
     (tie.spec
-    add-y
+    element-copy-out-next
+    add-next
+    element-copy-out-stalls-after
     stalls-after-requires
-    mul-y
-    element-write-y
-    mul-y-2
-    element-write-y-2
-    mul-y-3
-    element-copy-out-y
-    add-y-2
-    mul-y-4
-    element-write-y-3
-    mul-wrapping-add-u64
-    element-copy-out-wrapping-add-u64
+    add-c
     wrapping-add-u64-requires
-    mul-y-5
-    element-write-y-4
+    put-book-requires
+    put-next-requires
     returns)

@@ -1,33 +1,38 @@
--- `counters::store_available_for_stage` meets its contract, by the laws of its counter. Assumes nothing.
+-- `counters::store_available_for_stage` meets its contract, by the laws of the counters. Assumes nothing.
+use Prim.Native.Nat.{_-_}
 use mathlib.Core.Path.{refl}
 use borrow.Author.Needs.{needs}
-use Rattle.counters.proofs.Laws.{available-none, available-is, none-left}
+use Rattle.model.specs.Calls.{availableCall}
+use Rattle.counters.proofs.Laws.{missing, counted, none-left}
 use Rattle.counters.proofs.store_available_for_stage.Statement.{statement}
 use Rattle.counters.proofs.store_available_for_stage.Tie as tie
 
+element-copy-out-if1 : tie.Need-element-copy-out-if1
+element-copy-out-if1 c = search needs
+
 returns : tie.Need-returns
-returns c = available-none (c .before .args .t1) (c .before .args .s) (c .if1 .taken)
+unfolding availableCall
+returns c = missing (λ b. b .capacity - b .pinned) (c .before .before .args .t1) (c .before .before .args .s) (c .if1 .taken)
 
-mul-capacity : tie.Need-mul-capacity
-mul-capacity c = search needs
-
-element-copy-out-capacity : tie.Need-element-copy-out-capacity
-element-copy-out-capacity c = search needs
-
-mul-pinned : tie.Need-mul-pinned
-mul-pinned c = search needs
-
-element-copy-out-pinned : tie.Need-element-copy-out-pinned
-element-copy-out-pinned c = search needs
+book-of-requires : tie.Need-book-of-requires
+book-of-requires c κs = search needs
 
 returns-2 : tie.Need-returns-2
-returns-2 c = available-is (c .before .before .before .before .args .t1) (c .before .before .before .before .args .s) (c .before .before .before .if1 .left) 0 (none-left (c .if2 .taken))
+unfolding availableCall
+returns-2 c =
+    let k = c .before .before in
+    let a = k .before .before .before .before .before .args in
+    counted (λ b. b .capacity - b .pinned) (a .t1) (a .s) (k .before .before .before .if1 .left) (k .book-of .ensures) (none-left (c .if2 .taken))
 
-sub-t10 : tie.Need-sub-t10
-sub-t10 c = search needs
+sub-t7 : tie.Need-sub-t7
+sub-t7 c = search needs
 
 returns-3 : tie.Need-returns-3
-returns-3 c = available-is (c .before .before .before .before .args .t1) (c .before .before .before .before .args .s) (c .before .before .before .if1 .left) _ refl
+unfolding availableCall
+returns-3 c =
+    let k = c .before .before .before in
+    let a = k .before .before .before .before .before .args in
+    counted (λ b. b .capacity - b .pinned) (a .t1) (a .s) (k .before .before .before .if1 .left) (k .book-of .ensures) refl
 
 pub store-available-for-stage-spec : {M : Type 1} → statement M
-store-available-for-stage-spec = tie.close (tie.spec returns mul-capacity element-copy-out-capacity mul-pinned element-copy-out-pinned returns-2 sub-t10 returns-3)
+store-available-for-stage-spec = tie.close (tie.spec element-copy-out-if1 returns book-of-requires returns-2 sub-t7 returns-3)

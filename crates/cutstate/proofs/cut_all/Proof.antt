@@ -1,45 +1,58 @@
 -- `cutstate::cut_all` meets its contract: the tree's half and the stores' half make the model's cut.
 -- Assumes nothing.
 use mathlib.Core.Path.{refl}
-use Prim.Native.Nat.{_+_}
+use borrow.Author.Needs.{needs}
+use Rattle.model.specs.State.{nodesIn, usedIn}
 use Rattle.lent.specs.Lent.{treeOf, rangesOf, pinsOf, stateOf}
-use Rattle.cutstate.proofs.Laws.{tree-asks, number-fits, all-is}
+use Rattle.cutstate.proofs.Laws.{tree-asks, number-fits, counts-written, all-is}
 use Rattle.cutstate.proofs.cut_all.Statement.{statement}
 use Rattle.cutstate.proofs.cut_all.Tie as tie
 
+element-copy-out-nodes : tie.Need-element-copy-out-nodes
+element-copy-out-nodes c = search needs
+
+element-copy-out-used : tie.Need-element-copy-out-used
+element-copy-out-used c = search needs
+
 cut-tree-requires : tie.Need-cut-tree-requires
 cut-tree-requires c κs =
-    let z = c .before .before .before .before .before .before .before .before .before .before .before .before .before .before .before .before .before .before .before .before .before .before in
+    let z = c .before .before .before .before .before .before .before .before .before .before .before .before .before .before .before .before .before .before .before .before .before .before .before .before in
     let a = z .args in
     tree-asks (a .j) (a .k)
-    (stateOf (treeOf (a .parent .now) (a .depth .now) (a .len .now) (a .run .now) (a .words .now) (a .x .nodes) (a .x .used)) (rangesOf (a .node .now) (a .start .now) (a .end .now) (a .id .now) (a .stamp .now) (a .touched .now) (a .write .now))
-    (pinsOf (a .pin-node .now) (a .pin-start .now) (a .pin-end .now) (a .pin-count .now)) (a .marks .now) (a .bytes .now) (a .x)) (z .pre)
+    (stateOf (treeOf (a .parent .now) (a .depth .now) (a .len .now) (a .run .now) (a .words .now) (nodesIn (a .t19 .books)) (usedIn (a .t19 .books))) (rangesOf (a .node .now) (a .start .now) (a .end .now) (a .id .now) (a .stamp .now) (a .touched .now) (a .write .now))
+    (pinsOf (a .pin-node .now) (a .pin-start .now) (a .pin-end .now) (a .pin-count .now)) (a .marks .now) (a .bytes .now) (a .t19 .books)) (z .pre)
+
+add-put-counts : tie.Need-add-put-counts
+add-put-counts c = let z = c .before .before .before .before .before .before .before .before .before .before .before .before .before .before .before .before .before .before .before .before .before .before .before .before .before .before .before .before .before .before .before .before .before .before in record { fits = number-fits (nodesIn (z .args .t19 .books)) (z .pre .room) }
+
+put-counts-requires : tie.Need-put-counts-requires
+put-counts-requires c κs = search needs
 
 cut-stores-requires : tie.Need-cut-stores-requires
 cut-stores-requires c κs =
-    let z = c .before .before .before .before .before .before .before .before .before .before .before .before .before .before .before .before .before .before .before .before .before .before .before .before .before .before .before .before .before .before .before .before .before .before .before .before .before .before .before .before .before .before .before in
+    let z = c .before .before .before .before .before .before .before .before .before .before .before .before .before .before .before .before .before .before .before .before .before .before .before .before .before .before .before .before .before .before .before .before .before .before .before .before .before .before .before .before .before .before .before .before .before .before .before in
     let a = z .args in
+    let t = treeOf (a .parent .now) (a .depth .now) (a .len .now) (a .run .now) (a .words .now) (nodesIn (a .t19 .books)) (usedIn (a .t19 .books)) in
     record {
-      tree = treeOf (a .parent .now) (a .depth .now) (a .len .now) (a .run .now) (a .words .now) (a .x .nodes) (a .x .used);
+      tree = t;
       bytes = a .bytes .now;
+      old = a .t19 .books;
       new = refl;
+      counted = counts-written (a .j) (a .k) t (a .t19 .books) (c .before .before .before .before .before .before .before .before .before .before .before .before .put-counts .last .0) (c .before .before .before .before .before .before .before .before .before .before .before .before .put-counts .ensures);
       whole = z .pre;
     }
 
-add-y : tie.Need-add-y
-add-y c = let z = c .before .before .before .before .before .before .before .before .before .before .before .before .before .before .before .before .before .before .before .before .before .before .before .before .before .before .before .before .before .before .before .before .before .before .before .before .before .before .before .before .before .before .before .before .before .before .before .before .before .before .before .before .before .before .before .before .before .before .before .before .before .before .before .before .before .before .before .before in record { fits = number-fits (z .args .x .nodes) (z .pre .room) }
-
 same-length : tie.Need-same-length
-same-length c = c .before .before .before .before .before .before .before .before .before .before .before .before .before .before .before .before .before .before .before .before .before .before .before .before .before .before .before .before .before .before .before .before .before .before .before .before .before .before .before .before .before .before .before .before .before .cut-tree .kept .0
+same-length c = c .before .before .before .before .before .before .before .before .before .before .before .before .before .before .before .before .before .before .before .before .before .before .before .before .before .before .before .before .before .before .before .before .before .before .before .before .before .before .before .before .before .before .before .before .before .before .before .cut-tree .kept .0
 
 same-length-2 : tie.Need-same-length-2
-same-length-2 c = c .before .before .before .before .before .before .before .before .before .before .before .before .before .before .before .before .before .before .before .before .before .before .before .before .before .before .before .before .before .before .before .before .before .before .before .before .before .before .before .before .before .before .before .before .before .cut-tree .kept .1 .0
+same-length-2 c = c .before .before .before .before .before .before .before .before .before .before .before .before .before .before .before .before .before .before .before .before .before .before .before .before .before .before .before .before .before .before .before .before .before .before .before .before .before .before .before .before .before .before .before .before .before .before .before .cut-tree .kept .1 .0
 
 same-length-3 : tie.Need-same-length-3
-same-length-3 c = c .before .before .before .before .before .before .before .before .before .before .before .before .before .before .before .before .before .before .before .before .before .before .before .before .before .before .before .before .before .before .before .before .before .before .before .before .before .before .before .before .before .before .before .before .before .cut-tree .kept .1 .1 .0
+same-length-3 c = c .before .before .before .before .before .before .before .before .before .before .before .before .before .before .before .before .before .before .before .before .before .before .before .before .before .before .before .before .before .before .before .before .before .before .before .before .before .before .before .before .before .before .before .before .before .before .before .cut-tree .kept .1 .1 .0
 
 same-length-4 : tie.Need-same-length-4
-same-length-4 c = c .before .before .before .before .before .before .before .before .before .before .before .before .before .before .before .before .before .before .before .before .before .before .before .before .before .before .before .before .before .before .before .before .before .before .before .before .before .before .before .before .before .before .before .before .before .cut-tree .kept .1 .1 .1 .0
+same-length-4 c = c .before .before .before .before .before .before .before .before .before .before .before .before .before .before .before .before .before .before .before .before .before .before .before .before .before .before .before .before .before .before .before .before .before .before .before .before .before .before .before .before .before .before .before .before .before .before .before .cut-tree .kept .1 .1 .1 .0
 
 same-length-5 : tie.Need-same-length-5
 same-length-5 c = c .before .before .before .before .before .before .before .before .before .before .before .before .before .before .before .before .before .before .before .before .before .before .before .before .cut-stores .kept .0
@@ -79,26 +92,29 @@ same-length-16 c = c .before .before .before .before .before .before .before .be
 
 returns : tie.Need-returns
 returns c =
-    let a = c .before .before .before .before .before .before .before .before .before .before .before .before .before .before .before .before .before .before .before .before .before .before .before .before .before .before .before .before .before .before .before .before .before .before .before .before .before .before .before .before .before .before .before .before .before .before .before .before .before .before .before .before .before .before .before .before .before .before .before .before .before .before .before .before .before .before .before .before .args in
-    let f = c .before .before .before .before .before .before .before .before .before .before .before .before .before .before .before .before .before .before .before .before .before .before .before .before .before .before .before .before .before .before .before .before .before .before .before .before .before .before .before .before .before .before .before .before .before .cut-tree in
+    let a = c .before .before .before .before .before .before .before .before .before .before .before .before .before .before .before .before .before .before .before .before .before .before .before .before .before .before .before .before .before .before .before .before .before .before .before .before .before .before .before .before .before .before .before .before .before .before .before .before .before .before .before .before .before .before .before .before .before .before .before .before .before .before .before .before .before .before .before .before .before .before .before .before .args in
+    let f = c .before .before .before .before .before .before .before .before .before .before .before .before .before .before .before .before .before .before .before .before .before .before .before .before .before .before .before .before .before .before .before .before .before .before .before .before .before .before .before .before .before .before .before .before .before .before .before .cut-tree in
     let g = c .before .before .before .before .before .before .before .before .before .before .before .before .before .before .before .before .before .before .before .before .before .before .before .before .cut-stores in
-    all-is (a .j) (a .k) (a .x .nodes)
-    (treeOf (a .parent .now) (a .depth .now) (a .len .now) (a .run .now) (a .words .now) (a .x .nodes) (a .x .used))
-    (treeOf (f .last .0) (f .last .1 .0) (f .last .1 .1 .0) (f .last .1 .1 .1 .0) (a .words .now) (a .x .nodes + 1) (a .x .used))
+    all-is (a .j) (a .k)
+    (treeOf (a .parent .now) (a .depth .now) (a .len .now) (a .run .now) (a .words .now) (nodesIn (a .t19 .books)) (usedIn (a .t19 .books)))
+    (f .last .0) (f .last .1 .0) (f .last .1 .1 .0) (f .last .1 .1 .1 .0) (a .words .now)
     (rangesOf (a .node .now) (a .start .now) (a .end .now) (a .id .now) (a .stamp .now) (a .touched .now) (a .write .now))
     (rangesOf (g .last .0) (g .last .1 .0) (g .last .1 .1 .0) (g .last .1 .1 .1 .0) (g .last .1 .1 .1 .1 .0) (g .last .1 .1 .1 .1 .1 .0) (g .last .1 .1 .1 .1 .1 .1 .0))
     (pinsOf (a .pin-node .now) (a .pin-start .now) (a .pin-end .now) (a .pin-count .now))
     (pinsOf (g .last .1 .1 .1 .1 .1 .1 .1 .0) (g .last .1 .1 .1 .1 .1 .1 .1 .1 .0) (g .last .1 .1 .1 .1 .1 .1 .1 .1 .1 .0) (g .last .1 .1 .1 .1 .1 .1 .1 .1 .1 .1 .0))
-    (a .marks .now) (g .last .1 .1 .1 .1 .1 .1 .1 .1 .1 .1 .1 .0) (a .bytes .now) (a .x) (g .result) refl (f .ensures (a .words .now) (a .x .used))
-    (g .ensures (treeOf (f .last .0) (f .last .1 .0) (f .last .1 .1 .0) (f .last .1 .1 .1 .0) (a .words .now) (a .x .nodes + 1) (a .x .used)) (a .bytes .now))
+    (a .marks .now) (g .last .1 .1 .1 .1 .1 .1 .1 .1 .1 .1 .1 .0) (a .bytes .now) (a .t19 .books) (c .before .before .before .before .before .before .before .before .before .before .before .before .before .before .before .before .before .before .before .before .before .before .before .before .before .before .before .before .before .before .before .before .before .before .before .before .before .put-counts .last .0) (g .result .books)
+    (f .ensures (a .words .now) (usedIn (a .t19 .books))) (c .before .before .before .before .before .before .before .before .before .before .before .before .before .before .before .before .before .before .before .before .before .before .before .before .before .before .before .before .before .before .before .before .before .before .before .before .before .put-counts .ensures) (g .ensures)
 
 pub cut-all-spec : {M : Type 1} → statement M
 cut-all-spec =
     tie.close
     (tie.spec
+    element-copy-out-nodes
+    element-copy-out-used
     cut-tree-requires
+    add-put-counts
+    put-counts-requires
     cut-stores-requires
-    add-y
     same-length
     same-length-2
     same-length-3

@@ -2,6 +2,7 @@
 use Prim.Native.Nat.{_≤_}
 use mathlib.Core.Path.{sym, subst}
 use Rattle.counters.specs.Counted.{Of}
+use Rattle.model.specs.State.{storesIn}
 use Rattle.exported.proofs.Telling.{count-is}
 use Rattle.exports.proofs.Counter.{counter-numbered}
 use Rattle.exports.proofs.scorebeetle_counter.Statement.{statement}
@@ -11,7 +12,7 @@ small-from-requires : tie.Need-small-from-requires
 small-from-requires c κs = tt
 
 counter-of-requires : tie.Need-counter-of-requires
-counter-of-requires c κs = subst (λ x. x .stores ≤ 8) (sym (c .small-from .ensures)) (c .before .pre .0)
+counter-of-requires c κs = subst (λ x. storesIn (x .books) ≤ 8) (sym (c .small-from .ensures)) (c .before .pre .0)
 
 count-requires : tie.Need-count-requires
 count-requires c κs = tt

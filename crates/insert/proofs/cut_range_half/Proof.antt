@@ -7,26 +7,14 @@ use Rattle.insert.proofs.Halves.{half-is}
 use Rattle.insert.proofs.cut_range_half.Statement.{statement}
 use Rattle.insert.proofs.cut_range_half.Tie as tie
 
-mul-n : tie.Need-mul-n
-mul-n c = search needs
-
-element-copy-out-n : tie.Need-element-copy-out-n
-element-copy-out-n c = search needs
-
 cut-ranges-requires : tie.Need-cut-ranges-requires
-cut-ranges-requires c κs = search needs
+cut-ranges-requires c κs = let r = c .before .before .before .before .before .before .before .before .before .before .before .before .before .before .before .pre in (r .store, r .records, r .high, r .lent)
 
 cut-marks-requires : tie.Need-cut-marks-requires
 cut-marks-requires c κs =
-    let r = c .before .before .before .before .before .before .before .before .before .before .before .before .before .before .before .before .before .before .before .before .before .before .before .before .before .before .before .before .before .before .before .before .before .pre in
+    let r = c .before .before .before .before .before .before .before .before .before .before .before .before .before .before .before .before .before .before .before .before .before .before .before .before .before .before .before .before .before .before .before .before .pre in
     let f = c .before .before .before .before .before .before .before .before .before .before .before .before .before .before .before .before .cut-ranges in
     (r .store, omega (arith, f .ensures .1, r .records), r .node, r .new, r .marks, omega (arith, f .kept .0, r .lent .node))
-
-mul-out : tie.Need-mul-out
-mul-out c = let r = c .before .before .before .before .before .before .before .before .before .before .before .before .before .before .before .before .before .before .before .before .before .before .before .before .before .before .before .before .before .before .before .before .before .before .before .before .pre in omega (arith, r .store)
-
-element-write-out : tie.Need-element-write-out
-element-write-out c = c .before .before .before .before .before .before .before .before .before .before .before .before .before .before .before .before .before .before .before .before .before .before .before .before .before .before .before .before .before .before .before .before .before .before .before .before .pre .store
 
 same-length : tie.Need-same-length
 same-length c = search needs
@@ -54,25 +42,21 @@ same-length-8 c = search needs
 
 returns : tie.Need-returns
 returns c =
-    let z = c .before .before .before .before .before .before .before .before .before .before .before .before .before .before .before .before .before .before .before .before .before .before .before .before .before .before .before .before .before .before .before .before .before .before .before .before in
+    let z = c .before .before .before .before .before .before .before .before .before .before .before .before .before .before .before .before .before .before .before .before .before .before .before .before .before .before .before .before .before .before .before .before .before .before .before in
     let a = z .args in
     let f = c .before .before .before .before .before .before .before .before .before .before .before .before .before .before .before .before .before .before .before .cut-ranges in
     let g = c .before .before .cut-marks in
     let new = rangesOf (f .last .0) (f .last .1 .0) (f .last .1 .1 .0) (f .last .1 .1 .1 .0) (f .last .1 .1 .1 .1 .0) (f .last .1 .1 .1 .1 .1 .0) (f .last .1 .1 .1 .1 .1 .1 .0) in
-    half-is (a .j) (a .k) (a .m) (a .s)
-    (rangesOf (a .node .now) (a .start .now) (a .end .now) (a .id .now) (a .stamp .now) (a .touched .now) (a .write .now)) (a .marks .now) (a .t9) (z .pre)
-    new (g .last .0) (f .result .n) (f .result .next) (f .ensures .0) (f .ensures .1) (f .ensures .2) (g .ensures new refl)
+    half-is (a .j) (a .k) (a .m) (a .s) (a .n) (a .next)
+    (rangesOf (a .node .now) (a .start .now) (a .end .now) (a .id .now) (a .stamp .now) (a .touched .now) (a .write .now)) (a .marks .now) (z .pre)
+    new (g .last .0) (f .result) (f .ensures .0) (f .ensures .1) (f .ensures .2) (g .ensures new refl)
 
 pub cut-range-half-spec : {M : Type 1} → statement M
 cut-range-half-spec =
     tie.close
     (tie.spec
-    mul-n
-    element-copy-out-n
     cut-ranges-requires
     cut-marks-requires
-    mul-out
-    element-write-out
     same-length
     same-length-2
     same-length-3

@@ -3,6 +3,7 @@
 use mathlib.Core.Path.{refl}
 use native.Mathlib.Nat.{le-refl}
 use borrow.Author.Needs.{needs}
+use Rattle.model.specs.State.{usedIn}
 use Rattle.lent.specs.Lent.{rangesOf, pinsOf}
 use Rattle.answers.specs.Answers.{stateFrom}
 use Rattle.tree.specs.Walk.{pathListOf}
@@ -15,10 +16,13 @@ returns : tie.Need-returns
 returns c =
     let z = c .before .before .before .before .before .before .before .before .before .before .before .before .before .before .before .before .before .before .before .before .before .before in
     let a = z .args in
-    let st = stateFrom (a .parent .now) (a .depth .now) (a .len .now) (a .run .now) (a .words .now) (a .node .now) (a .start .now) (a .end .now) (a .id .now) (a .stamp .now) (a .touched .now) (a .write .now) (a .pin-node .now) (a .pin-start .now) (a .pin-end .now) (a .pin-count .now) (a .marks .now) (a .bytes .now) (a .x) in
+    let st = stateFrom (a .parent .now) (a .depth .now) (a .len .now) (a .run .now) (a .words .now) (a .node .now) (a .start .now) (a .end .now) (a .id .now) (a .stamp .now) (a .touched .now) (a .write .now) (a .pin-node .now) (a .pin-start .now) (a .pin-end .now) (a .pin-count .now) (a .marks .now) (a .bytes .now) (a .t21) in
     let l = pathListOf (a .path-node .now) (a .path-len .now) in
     let hs = a .hashes .now in
     many-refused st l hs (z .pre .0) (z .pre .1) (c .if1 .taken)
+
+element-copy-out-nodes : tie.Need-element-copy-out-nodes
+element-copy-out-nodes c = search needs
 
 slice-aggregate-resolve : tie.Need-slice-aggregate-resolve
 slice-aggregate-resolve c = search needs
@@ -28,22 +32,22 @@ slice-aggregate-resolve-2 c = search needs
 
 resolve-requires : tie.Need-resolve-requires
 resolve-requires c κs =
-    let z = c .before .before .before .before .before .before .before .before .before .before .before .before .before .before .before .before .before .before .before .before .before .before .before .before .before .before .before .before in
+    let z = c .before .before .before .before .before .before .before .before .before .before .before .before .before .before .before .before .before .before .before .before .before .before .before .before .before .before .before .before .before in
     let a = z .args in
-    let st = stateFrom (a .parent .now) (a .depth .now) (a .len .now) (a .run .now) (a .words .now) (a .node .now) (a .start .now) (a .end .now) (a .id .now) (a .stamp .now) (a .touched .now) (a .write .now) (a .pin-node .now) (a .pin-start .now) (a .pin-end .now) (a .pin-count .now) (a .marks .now) (a .bytes .now) (a .x) in
+    let st = stateFrom (a .parent .now) (a .depth .now) (a .len .now) (a .run .now) (a .words .now) (a .node .now) (a .start .now) (a .end .now) (a .id .now) (a .stamp .now) (a .touched .now) (a .write .now) (a .pin-node .now) (a .pin-start .now) (a .pin-end .now) (a .pin-count .now) (a .marks .now) (a .bytes .now) (a .t21) in
     let l = pathListOf (a .path-node .now) (a .path-len .now) in
     let hs = a .hashes .now in
-    ((a .depth .now, a .x .used, sound-walkable st (z .pre .0)), record { node = le-refl 255; len = le-refl 255 })
+    ((a .depth .now, usedIn (a .t21 .books), sound-walkable st (z .pre .0)), record { node = le-refl 255; len = le-refl 255 })
 
 refusal-requires : tie.Need-refusal-requires
 refusal-requires c κs =
-    let z = c .before .before .before .before .before .before .before .before .before .before .before .before .before .before .before .before .before .before .before .before .before .before .before .before .before .before .before .before .before .before .before .before .before .before .before .before .before .before in
+    let z = c .before .before .before .before .before .before .before .before .before .before .before .before .before .before .before .before .before .before .before .before .before .before .before .before .before .before .before .before .before .before .before .before .before .before .before .before .before .before .before in
     let a = z .args in
-    let st = stateFrom (a .parent .now) (a .depth .now) (a .len .now) (a .run .now) (a .words .now) (a .node .now) (a .start .now) (a .end .now) (a .id .now) (a .stamp .now) (a .touched .now) (a .write .now) (a .pin-node .now) (a .pin-start .now) (a .pin-end .now) (a .pin-count .now) (a .marks .now) (a .bytes .now) (a .x) in
+    let st = stateFrom (a .parent .now) (a .depth .now) (a .len .now) (a .run .now) (a .words .now) (a .node .now) (a .start .now) (a .end .now) (a .id .now) (a .stamp .now) (a .touched .now) (a .write .now) (a .pin-node .now) (a .pin-start .now) (a .pin-end .now) (a .pin-count .now) (a .marks .now) (a .bytes .now) (a .t21) in
     let l = pathListOf (a .path-node .now) (a .path-len .now) in
     let hs = a .hashes .now in
     let r = c .before .before .before .before .before .before .before .before .before .resolve in
-    (st, hs, shown (a .parent .now) (a .depth .now) (a .len .now) (a .run .now) (a .words .now) (rangesOf (a .node .now) (a .start .now) (a .end .now) (a .id .now) (a .stamp .now) (a .touched .now) (a .write .now)) (pinsOf (a .pin-node .now) (a .pin-start .now) (a .pin-end .now) (a .pin-count .now)) (a .marks .now) (a .bytes .now) (a .x) hs (r .result) (z .pre .0) (c .before .before .before .before .before .before .before .before .before .before .before .before .before .before .before .before .if1 .left) (r .ensures (a .depth .now) (a .x .used) .answer))
+    (st, hs, shown (a .parent .now) (a .depth .now) (a .len .now) (a .run .now) (a .words .now) (rangesOf (a .node .now) (a .start .now) (a .end .now) (a .id .now) (a .stamp .now) (a .touched .now) (a .write .now)) (pinsOf (a .pin-node .now) (a .pin-start .now) (a .pin-end .now) (a .pin-count .now)) (a .marks .now) (a .bytes .now) (a .t21) hs (r .result) (z .pre .0) (c .before .before .before .before .before .before .before .before .before .before .before .before .before .before .before .before .before .if1 .left) (r .ensures (a .depth .now) (usedIn (a .t21 .books)) .answer))
 
 same-length : tie.Need-same-length
 same-length c = refl
@@ -77,14 +81,14 @@ same-length-10 c = refl
 
 returns-2 : tie.Need-returns-2
 returns-2 c =
-    let z = c .before .before .before .before .before .before .before .before .before .before .before .before .before .before .before .before .before .before .before .before .before .before .before .before .before .before .before .before .before .before .before .before .before .before .before .before .before .before .before .before in
+    let z = c .before .before .before .before .before .before .before .before .before .before .before .before .before .before .before .before .before .before .before .before .before .before .before .before .before .before .before .before .before .before .before .before .before .before .before .before .before .before .before .before .before in
     let a = z .args in
-    let st = stateFrom (a .parent .now) (a .depth .now) (a .len .now) (a .run .now) (a .words .now) (a .node .now) (a .start .now) (a .end .now) (a .id .now) (a .stamp .now) (a .touched .now) (a .write .now) (a .pin-node .now) (a .pin-start .now) (a .pin-end .now) (a .pin-count .now) (a .marks .now) (a .bytes .now) (a .x) in
+    let st = stateFrom (a .parent .now) (a .depth .now) (a .len .now) (a .run .now) (a .words .now) (a .node .now) (a .start .now) (a .end .now) (a .id .now) (a .stamp .now) (a .touched .now) (a .write .now) (a .pin-node .now) (a .pin-start .now) (a .pin-end .now) (a .pin-count .now) (a .marks .now) (a .bytes .now) (a .t21) in
     let l = pathListOf (a .path-node .now) (a .path-len .now) in
     let hs = a .hashes .now in
     let r = c .before .before .before .before .before .before .before .before .before .before .before .resolve in
     let f = c .before .refusal in
-    number-refused st l hs (z .pre .0) (z .pre .1) (c .before .before .before .before .before .before .before .before .before .before .before .before .before .before .before .before .before .before .if1 .left) (f .result) (f .ensures st hs (shown (a .parent .now) (a .depth .now) (a .len .now) (a .run .now) (a .words .now) (rangesOf (a .node .now) (a .start .now) (a .end .now) (a .id .now) (a .stamp .now) (a .touched .now) (a .write .now)) (pinsOf (a .pin-node .now) (a .pin-start .now) (a .pin-end .now) (a .pin-count .now)) (a .marks .now) (a .bytes .now) (a .x) hs (r .result) (z .pre .0) (c .before .before .before .before .before .before .before .before .before .before .before .before .before .before .before .before .before .before .if1 .left) (r .ensures (a .depth .now) (a .x .used) .answer))) (c .if2 .taken)
+    number-refused st l hs (z .pre .0) (z .pre .1) (c .before .before .before .before .before .before .before .before .before .before .before .before .before .before .before .before .before .before .before .if1 .left) (f .result) (f .ensures st hs (shown (a .parent .now) (a .depth .now) (a .len .now) (a .run .now) (a .words .now) (rangesOf (a .node .now) (a .start .now) (a .end .now) (a .id .now) (a .stamp .now) (a .touched .now) (a .write .now)) (pinsOf (a .pin-node .now) (a .pin-start .now) (a .pin-end .now) (a .pin-count .now)) (a .marks .now) (a .bytes .now) (a .t21) hs (r .result) (z .pre .0) (c .before .before .before .before .before .before .before .before .before .before .before .before .before .before .before .before .before .before .before .if1 .left) (r .ensures (a .depth .now) (usedIn (a .t21 .books)) .answer))) (c .if2 .taken)
 
 slice-aggregate-insert-found : tie.Need-slice-aggregate-insert-found
 slice-aggregate-insert-found c = search needs
@@ -94,15 +98,15 @@ slice-aggregate-insert-found-2 c = search needs
 
 insert-found-requires : tie.Need-insert-found-requires
 insert-found-requires c κs =
-    let z = c .before .before .before .before .before .before .before .before .before .before .before .before .before .before .before .before .before .before .before .before .before .before .before .before .before .before .before .before .before .before .before .before .before .before .before .before .before .before .before .before .before .before .before .before .before .before .before .before .before .before .before .before .before .before .before .before .before .before .before .before .before in
+    let z = c .before .before .before .before .before .before .before .before .before .before .before .before .before .before .before .before .before .before .before .before .before .before .before .before .before .before .before .before .before .before .before .before .before .before .before .before .before .before .before .before .before .before .before .before .before .before .before .before .before .before .before .before .before .before .before .before .before .before .before .before .before .before in
     let a = z .args in
-    let st = stateFrom (a .parent .now) (a .depth .now) (a .len .now) (a .run .now) (a .words .now) (a .node .now) (a .start .now) (a .end .now) (a .id .now) (a .stamp .now) (a .touched .now) (a .write .now) (a .pin-node .now) (a .pin-start .now) (a .pin-end .now) (a .pin-count .now) (a .marks .now) (a .bytes .now) (a .x) in
+    let st = stateFrom (a .parent .now) (a .depth .now) (a .len .now) (a .run .now) (a .words .now) (a .node .now) (a .start .now) (a .end .now) (a .id .now) (a .stamp .now) (a .touched .now) (a .write .now) (a .pin-node .now) (a .pin-start .now) (a .pin-end .now) (a .pin-count .now) (a .marks .now) (a .bytes .now) (a .t21) in
     let l = pathListOf (a .path-node .now) (a .path-len .now) in
     let hs = a .hashes .now in
     let r = c .before .before .before .before .before .before .before .before .before .before .before .before .before .before .before .before .before .before .before .before .before .before .before .before .before .before .before .before .before .before .before .before .resolve in
     let f = c .before .before .before .before .before .before .before .before .before .before .before .before .before .before .before .before .before .before .before .before .before .before .refusal in
-    passed st l hs (z .pre .0) (z .pre .1) (c .before .before .before .before .before .before .before .before .before .before .before .before .before .before .before .before .before .before .before .before .before .before .before .before .before .before .before .before .before .before .before .before .before .before .before .before .before .before .before .if1 .left) (f .result) (f .ensures st hs (shown (a .parent .now) (a .depth .now) (a .len .now) (a .run .now) (a .words .now) (rangesOf (a .node .now) (a .start .now) (a .end .now) (a .id .now) (a .stamp .now) (a .touched .now) (a .write .now)) (pinsOf (a .pin-node .now) (a .pin-start .now) (a .pin-end .now) (a .pin-count .now)) (a .marks .now) (a .bytes .now) (a .x) hs (r .result) (z .pre .0) (c .before .before .before .before .before .before .before .before .before .before .before .before .before .before .before .before .before .before .before .before .before .before .before .before .before .before .before .before .before .before .before .before .before .before .before .before .before .before .before .if1 .left) (r .ensures (a .depth .now) (a .x .used) .answer))) (pathListOf (r .last .1 .1 .1 .1 .1 .1 .0) (r .last .1 .1 .1 .1 .1 .1 .1 .0)) (r .result) (c .before .before .before .before .before .before .before .before .before .before .before .before .before .before .before .before .before .before .before .before .before .if2 .left)
-    (r .ensures (a .depth .now) (a .x .used))
+    passed st l hs (z .pre .0) (z .pre .1) (c .before .before .before .before .before .before .before .before .before .before .before .before .before .before .before .before .before .before .before .before .before .before .before .before .before .before .before .before .before .before .before .before .before .before .before .before .before .before .before .before .if1 .left) (f .result) (f .ensures st hs (shown (a .parent .now) (a .depth .now) (a .len .now) (a .run .now) (a .words .now) (rangesOf (a .node .now) (a .start .now) (a .end .now) (a .id .now) (a .stamp .now) (a .touched .now) (a .write .now)) (pinsOf (a .pin-node .now) (a .pin-start .now) (a .pin-end .now) (a .pin-count .now)) (a .marks .now) (a .bytes .now) (a .t21) hs (r .result) (z .pre .0) (c .before .before .before .before .before .before .before .before .before .before .before .before .before .before .before .before .before .before .before .before .before .before .before .before .before .before .before .before .before .before .before .before .before .before .before .before .before .before .before .before .if1 .left) (r .ensures (a .depth .now) (usedIn (a .t21 .books)) .answer))) (pathListOf (r .last .1 .1 .1 .1 .1 .1 .0) (r .last .1 .1 .1 .1 .1 .1 .1 .0)) (r .result) (c .before .before .before .before .before .before .before .before .before .before .before .before .before .before .before .before .before .before .before .before .before .if2 .left)
+    (r .ensures (a .depth .now) (usedIn (a .t21 .books)))
 
 same-length-11 : tie.Need-same-length-11
 same-length-11 c = c .before .before .before .before .before .before .before .before .before .before .before .before .before .before .before .before .before .before .before .before .before .before .before .before .before .before .before .before .before .before .before .before .before .before .before .before .before .before .insert-found .kept .0
@@ -169,6 +173,7 @@ insert-spec =
     tie.close
     (tie.spec
     returns
+    element-copy-out-nodes
     slice-aggregate-resolve
     slice-aggregate-resolve-2
     resolve-requires

@@ -3,6 +3,8 @@
 use mathlib.Core.List.{[], _∷_}
 use mathlib.Core.Path.{_∙_}
 use native.Mathlib.Omega.{arith}
+use borrow.Author.Needs.{needs}
+use Rattle.model.specs.State.{nodesIn}
 use Rattle.model.specs.Tree.{resolve}
 use Rattle.lent.specs.Lent.{rangesOf, pinsOf}
 use Rattle.answers.specs.Answers.{stateFrom}
@@ -15,7 +17,7 @@ lay-path-requires : tie.Need-lay-path-requires
 lay-path-requires c κs =
     let z = c .before .before .before .before .before .before .before .before .before .before .before .before .before .before .before .before .before .before .before .before .before .before .before .before .before .before .before in
     let a = z .args in
-    let st = stateFrom (a .parent .now) (a .depth .now) (a .len .now) (a .run .now) (a .words .now) (a .node .now) (a .start .now) (a .end .now) (a .id .now) (a .stamp .now) (a .touched .now) (a .write .now) (a .pin-node .now) (a .pin-start .now) (a .pin-end .now) (a .pin-count .now) (a .marks .now) (a .bytes .now) (a .x) in
+    let st = stateFrom (a .parent .now) (a .depth .now) (a .len .now) (a .run .now) (a .words .now) (a .node .now) (a .start .now) (a .end .now) (a .id .now) (a .stamp .now) (a .touched .now) (a .write .now) (a .pin-node .now) (a .pin-start .now) (a .pin-end .now) (a .pin-count .now) (a .marks .now) (a .bytes .now) (a .t21) in
     let l = pathListOf (a .path-node .now) (a .path-len .now) in
     let found = pathListOf (a .found-node .now) (a .found-len .now) in
     let hs = a .hashes .now in
@@ -31,7 +33,7 @@ returns : tie.Need-returns
 returns c =
     let z = c .before .before .before .before .before .before .before .before .before .before .before .before .before .before .before .before .before .before .before .before .before .before .before .before .before .before .before .before .before .before .before .before in
     let a = z .args in
-    let st = stateFrom (a .parent .now) (a .depth .now) (a .len .now) (a .run .now) (a .words .now) (a .node .now) (a .start .now) (a .end .now) (a .id .now) (a .stamp .now) (a .touched .now) (a .write .now) (a .pin-node .now) (a .pin-start .now) (a .pin-end .now) (a .pin-count .now) (a .marks .now) (a .bytes .now) (a .x) in
+    let st = stateFrom (a .parent .now) (a .depth .now) (a .len .now) (a .run .now) (a .words .now) (a .node .now) (a .start .now) (a .end .now) (a .id .now) (a .stamp .now) (a .touched .now) (a .write .now) (a .pin-node .now) (a .pin-start .now) (a .pin-end .now) (a .pin-count .now) (a .marks .now) (a .bytes .now) (a .t21) in
     let l = pathListOf (a .path-node .now) (a .path-len .now) in
     let found = pathListOf (a .found-node .now) (a .found-len .now) in
     let hs = a .hashes .now in
@@ -42,7 +44,7 @@ add-segs : tie.Need-add-segs
 add-segs c =
     let z = c .before .before .before .before .before .before .before .before .before .before .before .before .before .before .before .before .before .before .before .before .before .before .before .before .before .before in
     let a = z .args in
-    let st = stateFrom (a .parent .now) (a .depth .now) (a .len .now) (a .run .now) (a .words .now) (a .node .now) (a .start .now) (a .end .now) (a .id .now) (a .stamp .now) (a .touched .now) (a .write .now) (a .pin-node .now) (a .pin-start .now) (a .pin-end .now) (a .pin-count .now) (a .marks .now) (a .bytes .now) (a .x) in
+    let st = stateFrom (a .parent .now) (a .depth .now) (a .len .now) (a .run .now) (a .words .now) (a .node .now) (a .start .now) (a .end .now) (a .id .now) (a .stamp .now) (a .touched .now) (a .write .now) (a .pin-node .now) (a .pin-start .now) (a .pin-end .now) (a .pin-count .now) (a .marks .now) (a .bytes .now) (a .t21) in
     let l = pathListOf (a .path-node .now) (a .path-len .now) in
     let found = pathListOf (a .found-node .now) (a .found-len .now) in
     let hs = a .hashes .now in
@@ -52,7 +54,7 @@ mul-if2 : tie.Need-mul-if2
 mul-if2 c =
     let z = c .before .before .before .before .before .before .before .before .before .before .before .before .before .before .before .before .before .before .before .before .before .before .before .before .before .before in
     let a = z .args in
-    let st = stateFrom (a .parent .now) (a .depth .now) (a .len .now) (a .run .now) (a .words .now) (a .node .now) (a .start .now) (a .end .now) (a .id .now) (a .stamp .now) (a .touched .now) (a .write .now) (a .pin-node .now) (a .pin-start .now) (a .pin-end .now) (a .pin-count .now) (a .marks .now) (a .bytes .now) (a .x) in
+    let st = stateFrom (a .parent .now) (a .depth .now) (a .len .now) (a .run .now) (a .words .now) (a .node .now) (a .start .now) (a .end .now) (a .id .now) (a .stamp .now) (a .touched .now) (a .write .now) (a .pin-node .now) (a .pin-start .now) (a .pin-end .now) (a .pin-count .now) (a .marks .now) (a .bytes .now) (a .t21) in
     let l = pathListOf (a .path-node .now) (a .path-len .now) in
     let found = pathListOf (a .found-node .now) (a .found-len .now) in
     let hs = a .hashes .now in
@@ -62,7 +64,7 @@ slice-read-if2 : tie.Need-slice-read-if2
 slice-read-if2 c =
     let z = c .before .before .before .before .before .before .before .before .before .before .before .before .before .before .before .before .before .before .before .before .before .before .before .before .before .before .before in
     let a = z .args in
-    let st = stateFrom (a .parent .now) (a .depth .now) (a .len .now) (a .run .now) (a .words .now) (a .node .now) (a .start .now) (a .end .now) (a .id .now) (a .stamp .now) (a .touched .now) (a .write .now) (a .pin-node .now) (a .pin-start .now) (a .pin-end .now) (a .pin-count .now) (a .marks .now) (a .bytes .now) (a .x) in
+    let st = stateFrom (a .parent .now) (a .depth .now) (a .len .now) (a .run .now) (a .words .now) (a .node .now) (a .start .now) (a .end .now) (a .id .now) (a .stamp .now) (a .touched .now) (a .write .now) (a .pin-node .now) (a .pin-start .now) (a .pin-end .now) (a .pin-count .now) (a .marks .now) (a .bytes .now) (a .t21) in
     let l = pathListOf (a .path-node .now) (a .path-len .now) in
     let found = pathListOf (a .found-node .now) (a .found-len .now) in
     let hs = a .hashes .now in
@@ -72,7 +74,7 @@ add-rest-requires : tie.Need-add-rest-requires
 add-rest-requires c κs =
     let z = c .before .before .before .before .before .before .before .before .before .before .before .before .before .before .before .before .before .before .before .before .before .before .before .before .before .before .before .before .before .before .before .before .before .before .before in
     let a = z .args in
-    let st = stateFrom (a .parent .now) (a .depth .now) (a .len .now) (a .run .now) (a .words .now) (a .node .now) (a .start .now) (a .end .now) (a .id .now) (a .stamp .now) (a .touched .now) (a .write .now) (a .pin-node .now) (a .pin-start .now) (a .pin-end .now) (a .pin-count .now) (a .marks .now) (a .bytes .now) (a .x) in
+    let st = stateFrom (a .parent .now) (a .depth .now) (a .len .now) (a .run .now) (a .words .now) (a .node .now) (a .start .now) (a .end .now) (a .id .now) (a .stamp .now) (a .touched .now) (a .write .now) (a .pin-node .now) (a .pin-start .now) (a .pin-end .now) (a .pin-count .now) (a .marks .now) (a .bytes .now) (a .t21) in
     let l = pathListOf (a .path-node .now) (a .path-len .now) in
     let found = pathListOf (a .found-node .now) (a .found-len .now) in
     let hs = a .hashes .now in
@@ -103,7 +105,7 @@ returns-2 : tie.Need-returns-2
 returns-2 c =
     let z = c .before .before .before .before .before .before .before .before .before .before .before .before .before .before .before .before .before .before .before .before .before .before .before .before .before .before .before .before .before .before .before .before .before .before .before .before .before .before .before .before .before .before .before .before .before .before .before .before .before .before in
     let a = z .args in
-    let st = stateFrom (a .parent .now) (a .depth .now) (a .len .now) (a .run .now) (a .words .now) (a .node .now) (a .start .now) (a .end .now) (a .id .now) (a .stamp .now) (a .touched .now) (a .write .now) (a .pin-node .now) (a .pin-start .now) (a .pin-end .now) (a .pin-count .now) (a .marks .now) (a .bytes .now) (a .x) in
+    let st = stateFrom (a .parent .now) (a .depth .now) (a .len .now) (a .run .now) (a .words .now) (a .node .now) (a .start .now) (a .end .now) (a .id .now) (a .stamp .now) (a .touched .now) (a .write .now) (a .pin-node .now) (a .pin-start .now) (a .pin-end .now) (a .pin-count .now) (a .marks .now) (a .bytes .now) (a .t21) in
     let l = pathListOf (a .path-node .now) (a .path-len .now) in
     let found = pathListOf (a .found-node .now) (a .found-len .now) in
     let hs = a .hashes .now in
@@ -113,27 +115,30 @@ returns-2 c =
     (pathListOf (g .last .1 .1 .1 .1 .1 .0) (g .last .1 .1 .1 .1 .1 .1 .0))
     (g .ensures (resolve (st .tree) hs) [] (rangesOf (a .node .now) (a .start .now) (a .end .now) (a .id .now) (a .stamp .now) (a .touched .now) (a .write .now)) (pinsOf (a .pin-node .now) (a .pin-start .now) (a .pin-end .now) (a .pin-count .now)) (a .marks .now) (a .bytes .now) (z .pre .path))
 
+element-copy-out-new : tie.Need-element-copy-out-new
+element-copy-out-new c = search needs
+
 cut-all-requires : tie.Need-cut-all-requires
 cut-all-requires c κs =
-    let z = c .before .before .before .before .before .before .before .before .before .before .before .before .before .before .before .before .before .before .before .before .before .before .before .before .before .before .before .before .before .before .before .before .before .before .before .before .before .before .before .before .before .before .before .before .before in
+    let z = c .before .before .before .before .before .before .before .before .before .before .before .before .before .before .before .before .before .before .before .before .before .before .before .before .before .before .before .before .before .before .before .before .before .before .before .before .before .before .before .before .before .before .before .before .before .before in
     let a = z .args in
-    let st = stateFrom (a .parent .now) (a .depth .now) (a .len .now) (a .run .now) (a .words .now) (a .node .now) (a .start .now) (a .end .now) (a .id .now) (a .stamp .now) (a .touched .now) (a .write .now) (a .pin-node .now) (a .pin-start .now) (a .pin-end .now) (a .pin-count .now) (a .marks .now) (a .bytes .now) (a .x) in
+    let st = stateFrom (a .parent .now) (a .depth .now) (a .len .now) (a .run .now) (a .words .now) (a .node .now) (a .start .now) (a .end .now) (a .id .now) (a .stamp .now) (a .touched .now) (a .write .now) (a .pin-node .now) (a .pin-start .now) (a .pin-end .now) (a .pin-count .now) (a .marks .now) (a .bytes .now) (a .t21) in
     let l = pathListOf (a .path-node .now) (a .path-len .now) in
     let found = pathListOf (a .found-node .now) (a .found-len .now) in
     let hs = a .hashes .now in
-    cut-asks st l hs (a .m) found (z .pre) (c .before .before .before .before .before .before .before .before .before .before .before .before .before .before .before .before .before .before .before .before .if1 .left) (c .before .before .before .before .before .before .before .before .before .before .before .before .before .before .before .before .before .if2 .left)
+    cut-asks st l hs (a .m) found (z .pre) (c .before .before .before .before .before .before .before .before .before .before .before .before .before .before .before .before .before .before .before .before .before .if1 .left) (c .before .before .before .before .before .before .before .before .before .before .before .before .before .before .before .before .before .before .if2 .left)
 
 add-rest-requires-2 : tie.Need-add-rest-requires-2
 add-rest-requires-2 c κs =
-    let z = c .before .before .before .before .before .before .before .before .before .before .before .before .before .before .before .before .before .before .before .before .before .before .before .before .before .before .before .before .before .before .before .before .before .before .before .before .before .before .before .before .before .before .before .before .before .before .before .before .before .before .before .before .before .before .before .before .before .before .before .before .before .before .before .before .before .before .before .before .before .before .before .before .before .before .before .before .before .before .before .before .before .before .before .before .before in
+    let z = c .before .before .before .before .before .before .before .before .before .before .before .before .before .before .before .before .before .before .before .before .before .before .before .before .before .before .before .before .before .before .before .before .before .before .before .before .before .before .before .before .before .before .before .before .before .before .before .before .before .before .before .before .before .before .before .before .before .before .before .before .before .before .before .before .before .before .before .before .before .before .before .before .before .before .before .before .before .before .before .before .before .before .before .before .before .before in
     let a = z .args in
-    let st = stateFrom (a .parent .now) (a .depth .now) (a .len .now) (a .run .now) (a .words .now) (a .node .now) (a .start .now) (a .end .now) (a .id .now) (a .stamp .now) (a .touched .now) (a .write .now) (a .pin-node .now) (a .pin-start .now) (a .pin-end .now) (a .pin-count .now) (a .marks .now) (a .bytes .now) (a .x) in
+    let st = stateFrom (a .parent .now) (a .depth .now) (a .len .now) (a .run .now) (a .words .now) (a .node .now) (a .start .now) (a .end .now) (a .id .now) (a .stamp .now) (a .touched .now) (a .write .now) (a .pin-node .now) (a .pin-start .now) (a .pin-end .now) (a .pin-count .now) (a .marks .now) (a .bytes .now) (a .t21) in
     let l = pathListOf (a .path-node .now) (a .path-len .now) in
     let found = pathListOf (a .found-node .now) (a .found-len .now) in
     let hs = a .hashes .now in
     let f = c .before .before .before .before .before .before .before .before .before .before .before .before .before .before .before .before .before .before .before .before .before .before .before .before .before .before .before .before .before .before .before .before .before .before .before .before .before .before .before .cut-all in (
       resolve (st .tree) hs,
-      leaf-asks-cut st l hs (a .m) found (z .pre) (c .before .before .before .before .before .before .before .before .before .before .before .before .before .before .before .before .before .before .before .before .before .before .before .before .before .before .before .before .before .before .before .before .before .before .before .before .before .before .before .before .before .before .before .before .before .before .before .before .before .before .before .before .before .before .before .before .before .before .before .before .if1 .left) (c .before .before .before .before .before .before .before .before .before .before .before .before .before .before .before .before .before .before .before .before .before .before .before .before .before .before .before .before .before .before .before .before .before .before .before .before .before .before .before .before .before .before .before .before .before .before .before .before .before .before .before .before .before .before .before .before .before .if2 .left)
+      leaf-asks-cut st l hs (a .m) found (z .pre) (c .before .before .before .before .before .before .before .before .before .before .before .before .before .before .before .before .before .before .before .before .before .before .before .before .before .before .before .before .before .before .before .before .before .before .before .before .before .before .before .before .before .before .before .before .before .before .before .before .before .before .before .before .before .before .before .before .before .before .before .before .before .if1 .left) (c .before .before .before .before .before .before .before .before .before .before .before .before .before .before .before .before .before .before .before .before .before .before .before .before .before .before .before .before .before .before .before .before .before .before .before .before .before .before .before .before .before .before .before .before .before .before .before .before .before .before .before .before .before .before .before .before .before .before .if2 .left)
           (stateFrom (f .last .0) (f .last .1 .0) (f .last .1 .1 .0) (f .last .1 .1 .1 .0) (a .words .now) (f .last .1 .1 .1 .1 .1 .0) (f .last .1 .1 .1 .1 .1 .1 .0) (f .last .1 .1 .1 .1 .1 .1 .1 .0) (f .last .1 .1 .1 .1 .1 .1 .1 .1 .0) (f .last .1 .1 .1 .1 .1 .1 .1 .1 .1 .0) (f .last .1 .1 .1 .1 .1 .1 .1 .1 .1 .1 .0) (f .last .1 .1 .1 .1 .1 .1 .1 .1 .1 .1 .1 .0) (f .last .1 .1 .1 .1 .1 .1 .1 .1 .1 .1 .1 .1 .0) (f .last .1 .1 .1 .1 .1 .1 .1 .1 .1 .1 .1 .1 .1 .0) (f .last .1 .1 .1 .1 .1 .1 .1 .1 .1 .1 .1 .1 .1 .1 .0) (f .last .1 .1 .1 .1 .1 .1 .1 .1 .1 .1 .1 .1 .1 .1 .1 .0) (f .last .1 .1 .1 .1 .1 .1 .1 .1 .1 .1 .1 .1 .1 .1 .1 .1 .0) (a .bytes .now) (f .result)) (f .ensures),
     )
 
@@ -196,19 +201,19 @@ same-length-28 c = c .before .before .before .before .before .before .before .be
 
 returns-3 : tie.Need-returns-3
 returns-3 c =
-    let z = c .before .before .before .before .before .before .before .before .before .before .before .before .before .before .before .before .before .before .before .before .before .before .before .before .before .before .before .before .before .before .before .before .before .before .before .before .before .before .before .before .before .before .before .before .before .before .before .before .before .before .before .before .before .before .before .before .before .before .before .before .before .before .before .before .before .before .before .before .before .before .before .before .before .before .before .before .before .before .before .before .before .before .before .before .before .before .before .before .before .before .before .before .before .before .before .before .before .before .before .before in
+    let z = c .before .before .before .before .before .before .before .before .before .before .before .before .before .before .before .before .before .before .before .before .before .before .before .before .before .before .before .before .before .before .before .before .before .before .before .before .before .before .before .before .before .before .before .before .before .before .before .before .before .before .before .before .before .before .before .before .before .before .before .before .before .before .before .before .before .before .before .before .before .before .before .before .before .before .before .before .before .before .before .before .before .before .before .before .before .before .before .before .before .before .before .before .before .before .before .before .before .before .before .before .before in
     let a = z .args in
-    let st = stateFrom (a .parent .now) (a .depth .now) (a .len .now) (a .run .now) (a .words .now) (a .node .now) (a .start .now) (a .end .now) (a .id .now) (a .stamp .now) (a .touched .now) (a .write .now) (a .pin-node .now) (a .pin-start .now) (a .pin-end .now) (a .pin-count .now) (a .marks .now) (a .bytes .now) (a .x) in
+    let st = stateFrom (a .parent .now) (a .depth .now) (a .len .now) (a .run .now) (a .words .now) (a .node .now) (a .start .now) (a .end .now) (a .id .now) (a .stamp .now) (a .touched .now) (a .write .now) (a .pin-node .now) (a .pin-start .now) (a .pin-end .now) (a .pin-count .now) (a .marks .now) (a .bytes .now) (a .t21) in
     let l = pathListOf (a .path-node .now) (a .path-len .now) in
     let found = pathListOf (a .found-node .now) (a .found-len .now) in
     let hs = a .hashes .now in
     let f = c .before .before .before .before .before .before .before .before .before .before .before .before .before .before .before .before .before .before .before .before .before .before .before .before .before .before .before .before .before .before .before .before .before .before .before .before .before .before .before .before .before .before .before .before .before .before .before .before .before .before .before .before .before .before .cut-all in
     let g = c .before .before .before .before .before .before .before .before .before .before .before .before .before .before .add-rest2 in
-    cut-new st l hs (a .m) found (z .pre) (c .before .before .before .before .before .before .before .before .before .before .before .before .before .before .before .before .before .before .before .before .before .before .before .before .before .before .before .before .before .before .before .before .before .before .before .before .before .before .before .before .before .before .before .before .before .before .before .before .before .before .before .before .before .before .before .before .before .before .before .before .before .before .before .before .before .before .before .before .before .before .before .before .before .before .before .if1 .left) (c .before .before .before .before .before .before .before .before .before .before .before .before .before .before .before .before .before .before .before .before .before .before .before .before .before .before .before .before .before .before .before .before .before .before .before .before .before .before .before .before .before .before .before .before .before .before .before .before .before .before .before .before .before .before .before .before .before .before .before .before .before .before .before .before .before .before .before .before .before .before .before .before .if2 .left)
+    cut-new st l hs (a .m) found (z .pre) (c .before .before .before .before .before .before .before .before .before .before .before .before .before .before .before .before .before .before .before .before .before .before .before .before .before .before .before .before .before .before .before .before .before .before .before .before .before .before .before .before .before .before .before .before .before .before .before .before .before .before .before .before .before .before .before .before .before .before .before .before .before .before .before .before .before .before .before .before .before .before .before .before .before .before .before .before .if1 .left) (c .before .before .before .before .before .before .before .before .before .before .before .before .before .before .before .before .before .before .before .before .before .before .before .before .before .before .before .before .before .before .before .before .before .before .before .before .before .before .before .before .before .before .before .before .before .before .before .before .before .before .before .before .before .before .before .before .before .before .before .before .before .before .before .before .before .before .before .before .before .before .before .before .before .if2 .left)
     (stateFrom (f .last .0) (f .last .1 .0) (f .last .1 .1 .0) (f .last .1 .1 .1 .0) (a .words .now) (f .last .1 .1 .1 .1 .1 .0) (f .last .1 .1 .1 .1 .1 .1 .0) (f .last .1 .1 .1 .1 .1 .1 .1 .0) (f .last .1 .1 .1 .1 .1 .1 .1 .1 .0) (f .last .1 .1 .1 .1 .1 .1 .1 .1 .1 .0) (f .last .1 .1 .1 .1 .1 .1 .1 .1 .1 .1 .0) (f .last .1 .1 .1 .1 .1 .1 .1 .1 .1 .1 .1 .0) (f .last .1 .1 .1 .1 .1 .1 .1 .1 .1 .1 .1 .1 .0) (f .last .1 .1 .1 .1 .1 .1 .1 .1 .1 .1 .1 .1 .1 .0) (f .last .1 .1 .1 .1 .1 .1 .1 .1 .1 .1 .1 .1 .1 .1 .0) (f .last .1 .1 .1 .1 .1 .1 .1 .1 .1 .1 .1 .1 .1 .1 .1 .0) (f .last .1 .1 .1 .1 .1 .1 .1 .1 .1 .1 .1 .1 .1 .1 .1 .1 .0) (a .bytes .now) (f .result)) (f .ensures)
     (stateFrom (g .last .0) (g .last .1 .0) (g .last .1 .1 .0) (g .last .1 .1 .1 .0) (g .last .1 .1 .1 .1 .0) (f .last .1 .1 .1 .1 .1 .0) (f .last .1 .1 .1 .1 .1 .1 .0) (f .last .1 .1 .1 .1 .1 .1 .1 .0) (f .last .1 .1 .1 .1 .1 .1 .1 .1 .0) (f .last .1 .1 .1 .1 .1 .1 .1 .1 .1 .0) (f .last .1 .1 .1 .1 .1 .1 .1 .1 .1 .1 .0) (f .last .1 .1 .1 .1 .1 .1 .1 .1 .1 .1 .1 .0) (f .last .1 .1 .1 .1 .1 .1 .1 .1 .1 .1 .1 .1 .0) (f .last .1 .1 .1 .1 .1 .1 .1 .1 .1 .1 .1 .1 .1 .0) (f .last .1 .1 .1 .1 .1 .1 .1 .1 .1 .1 .1 .1 .1 .1 .0) (f .last .1 .1 .1 .1 .1 .1 .1 .1 .1 .1 .1 .1 .1 .1 .1 .0) (f .last .1 .1 .1 .1 .1 .1 .1 .1 .1 .1 .1 .1 .1 .1 .1 .1 .0) (a .bytes .now) (g .result))
     (pathListOf (g .last .1 .1 .1 .1 .1 .0) (g .last .1 .1 .1 .1 .1 .1 .0))
-    (g .ensures (resolve (st .tree) hs) (record { node = a .m .node; at = a .m .len; new = a .x .nodes } ∷ [])
+    (g .ensures (resolve (st .tree) hs) (record { node = a .m .node; at = a .m .len; new = nodesIn (a .t21 .books) } ∷ [])
     (rangesOf (f .last .1 .1 .1 .1 .1 .0) (f .last .1 .1 .1 .1 .1 .1 .0) (f .last .1 .1 .1 .1 .1 .1 .1 .0) (f .last .1 .1 .1 .1 .1 .1 .1 .1 .0) (f .last .1 .1 .1 .1 .1 .1 .1 .1 .1 .0) (f .last .1 .1 .1 .1 .1 .1 .1 .1 .1 .1 .0) (f .last .1 .1 .1 .1 .1 .1 .1 .1 .1 .1 .1 .0)) (pinsOf (f .last .1 .1 .1 .1 .1 .1 .1 .1 .1 .1 .1 .1 .0) (f .last .1 .1 .1 .1 .1 .1 .1 .1 .1 .1 .1 .1 .1 .0) (f .last .1 .1 .1 .1 .1 .1 .1 .1 .1 .1 .1 .1 .1 .1 .0) (f .last .1 .1 .1 .1 .1 .1 .1 .1 .1 .1 .1 .1 .1 .1 .1 .0)) (f .last .1 .1 .1 .1 .1 .1 .1 .1 .1 .1 .1 .1 .1 .1 .1 .1 .0) (a .bytes .now) (z .pre .path))
 
 pub insert-found-spec : {M : Type 1} → statement M
@@ -231,6 +236,7 @@ insert-found-spec =
     same-length-8
     same-length-9
     returns-2
+    element-copy-out-new
     cut-all-requires
     add-rest-requires-2
     same-length-10

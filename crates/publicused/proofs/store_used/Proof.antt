@@ -43,7 +43,7 @@ use denote.Triple.Clauses.{Lasts, ensured, lasts}
 use denote.Triple.Table.{entered, cited}
 use denote.Triple.Walked.{says, Stays, stay-none, stay-none-slice, stay-slice, walkOf, goes-none, goes-none-slice, goes-slice, Walks, ends-at, walked, walk-meets}
 use denote.Exit.{yes}
-use Rattle.model.specs.State.{Ranges}
+use Rattle.model.specs.State.{Ranges, nodesIn}
 use Rattle.model.specs.Calls.{storeUsed}
 use Rattle.lent.specs.declared.Small.{Small}
 use Rattle.lent.specs.Lent.{rangesOf}
@@ -406,12 +406,12 @@ module _ {M : Type 1} (𝓤 : URA M) (H : Heap 𝓤) (A : Atoms 𝓤) (W : Given
   abbrev to₂ : (s : Vars) (y : Turn) → Names₂ → C₂ 𝓤 H A mem run .Ghost
   to₂ s y p = ((κs₂ p, (q₁₈, (q₂, tt)), tt, args₂ s y p, (v₁₈ ∷ [], (v₂ ∷ [], ((S′.lowered y) ∷ [], tt)))), tt)
 
-  goes₂ : (s : Vars) (y : Turn) (p : Names₂) → Is S.the-row y ((S′.lowered y) ∷ []) → y .small .nodes ≤ length ys₂ → ent 𝓤 (⋆ 𝓤 H A (‵ (flft κ₁₈ q₁₈) ∷ ‵ (flft κ₂ q₂) ∷ ‵ (ShrSlice (named 0) κ₁₈ R .own (x₁₈ γ₁₈ ys₁₈) (v₁₈ ∷ [])) ∷ ‵ (ShrSlice (named 1) κ₂ usize .own (x₂ γ₂ ys₂) (v₂ ∷ [])) ∷ [])) (C₂ 𝓤 H A mem run .pre (to₂ s y p))
+  goes₂ : (s : Vars) (y : Turn) (p : Names₂) → Is S.the-row y ((S′.lowered y) ∷ []) → nodesIn (y .small .books) ≤ length ys₂ → ent 𝓤 (⋆ 𝓤 H A (‵ (flft κ₁₈ q₁₈) ∷ ‵ (flft κ₂ q₂) ∷ ‵ (ShrSlice (named 0) κ₁₈ R .own (x₁₈ γ₁₈ ys₁₈) (v₁₈ ∷ [])) ∷ ‵ (ShrSlice (named 1) κ₂ usize .own (x₂ γ₂ ys₂) (v₂ ∷ [])) ∷ [])) (C₂ 𝓤 H A mem run .pre (to₂ s y p))
   goes₂ s y p gy ok =
       qed W (‵ (flft κ₁₈ q₁₈) ∷ ‵ (flft κ₂ q₂) ∷ ‵ (ShrSlice (named 0) κ₁₈ R .own (x₁₈ γ₁₈ ys₁₈) (v₁₈ ∷ [])) ∷ ‵ (ShrSlice (named 1) κ₂ usize .own (x₂ γ₂ ys₂) (v₂ ∷ [])) ∷ []) ∵ says ! ok $ nothing ! $ move ! (2 ∷ 0 ∷ []) $ join ! $ move ! (1 ∷ 0 ∷ []) $ join ! $ frame ! $
       nothing ! $ owned ! S.the-row (Is S.the-row) (LL.makes S.the-type S′.the-plain 𝓤 H A) y _ gy $ fjoin ! $ move ! (2 ∷ 0 ∷ []) $ fjoin ! $ move ! (1 ∷ 0 ∷ []) $ fjoin ! $ done !
 
-  lend₂ : (s : Vars) (y : Turn) → Is S.the-row y ((S′.lowered y) ∷ []) → y .small .nodes ≤ length ys₂ → ent 𝓤 (Cols s) (H .⇛ (ex 𝓤 (λ (p : Names₂). sep 𝓤 (C₂ 𝓤 H A mem run .pre (to₂ s y p)) (Kept₂ s p))))
+  lend₂ : (s : Vars) (y : Turn) → Is S.the-row y ((S′.lowered y) ∷ []) → nodesIn (y .small .books) ≤ length ys₂ → ent 𝓤 (Cols s) (H .⇛ (ex 𝓤 (λ (p : Names₂). sep 𝓤 (C₂ 𝓤 H A mem run .pre (to₂ s y p)) (Kept₂ s p))))
   lend₂ s y gy ok =
       qed W (raw (Cols s) ∷ []) ∵ updating ! $ use1 W (‵ Have₀ ⊛ ‵ Have₁ ⊛ ‵ Have₂ ⊛ ‵ Have₃ ⊛ ‵ Have₄ ⊛ ‵ (Have₅ (s .node)) ⊛ ‵ (Have₆ (s .start)) ⊛ ‵ (Have₇ (s .end)) ⊛ ‵ (Have₈ (s .id)) ⊛ ‵ (Have₉ (s .stamp)) ⊛ ‵ (Have₁₀ (s .touched)) ⊛ ‵ (Have₁₁ (s .write)) ⊛ ‵ Have₁₂ ⊛ ‵ Have₁₃ ⊛ ‵ Have₁₄ ⊛ ‵ Have₁₅ ⊛ ‵ (Have₁₆ (s .marks)) ⊛ ‵ Have₁₇ ⊛ ‵ Have₁₈) (id⊢ 𝓤 _) $ split ! $ move ! (1 ∷ []) $ split ! $ move ! (1 ∷ []) $ split ! $ move ! (1 ∷ []) $ split ! $ move ! (1 ∷ []) $ split ! $ move ! (1 ∷ []) $ split ! $ move ! (1 ∷ []) $ split ! $ move ! (1 ∷ []) $ split ! $ move ! (1 ∷ []) $ split ! $ move ! (1 ∷ []) $ split ! $ move ! (1 ∷ []) $ split ! $ move ! (1 ∷ []) $ split ! $ move ! (1 ∷ []) $ split ! $ move ! (1 ∷ []) $ split ! $ move ! (1 ∷ []) $ split ! $ move ! (1 ∷ []) $ split ! $ move ! (1 ∷ []) $ split ! $ move ! (1 ∷ []) $ split ! $
       move ! (1 ∷ []) $ fsplit ! $ use1 W (‵ (ShrSlice (named 18) κ₁₈ R .own (x₁₈ γ₁₈ ys₁₈) (v₁₈ ∷ [])) ⊛ ‵ (ShrSlice (named 18) κ₁₈ R .own (x₁₈ γ₁₈ ys₁₈) (v₁₈ ∷ []))) (shr-slice-copy 𝓤 H A W (named 18) κ₁₈ R .twice (x₁₈ γ₁₈ ys₁₈) (v₁₈ ∷ [])) $ split ! $
@@ -543,7 +543,7 @@ module _ {M : Type 1} (𝓤 : URA M) (H : Heap 𝓤) (A : Atoms 𝓤) (W : Given
   abbrev Begins : Turn → Type 0
   Begins y = Started (stateFrom ys₀ ys₁ ys₂ ys₃ ys₄ (s₀ .node) (s₀ .start) (s₀ .end) (s₀ .id) (s₀ .stamp) (s₀ .touched) (s₀ .write) ys₁₂ ys₁₃ ys₁₄ ys₁₅ (s₀ .marks) ys₁₇ x) x no many time counted y
 
-  begins-looks : (y : Turn) → Begins y → y .small .nodes ≤ length ys₂
+  begins-looks : (y : Turn) → Begins y → nodesIn (y .small .books) ≤ length ys₂
   begins-looks y b = start-looks (others ys₀ ys₂ ys₃ ys₄ ys₁₂ ys₁₃ ys₁₄ ys₁₅) ys₁ ys₁₇ (pools s₀) (s₀ .marks) x no ys₁₈ time counted y b
 
   begins-turns : (y : Turn) → Begins y → (z : Turn) → Looks ys₁₈ ys₂ y many z → AtFirst ys₁₈ ys₁ ys₁₇ (pools s₀) (s₀ .marks) z

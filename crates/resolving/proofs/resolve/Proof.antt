@@ -1,4 +1,5 @@
 -- `resolving::resolve` meets its contract: refused by 3, or what `tree::resolve` answers. Assumes nothing.
+use borrow.Author.Needs.{needs}
 use Rattle.tree.proofs.Sound.{sound-walkable}
 use Rattle.resolving.proofs.Outcomes.{many-is, resolved-is}
 use Rattle.resolving.proofs.resolve.Statement.{statement}
@@ -8,9 +9,13 @@ use Rattle.resolving.proofs.resolve.Tie as tie
 returns : tie.Need-returns
 returns c = many-is _ _ (c .before .before .before .before .before .before .before .before .before .before .before .before .before .before .before .before .before .before .before .before .before .before .args .hashes .now) (c .before .before .before .before .before .before .before .before .before .before .before .before .before .before .before .before .before .before .before .before .before .before .pre .0) (c .before .before .before .before .before .before .before .before .before .before .before .before .before .before .before .before .before .before .before .before .before .before .pre .1) (c .if1 .taken)
 
--- at After-resolve-arg2
+-- at Else1
+element-copy-out-resolve : tie.Need-element-copy-out-resolve
+element-copy-out-resolve c = search needs
+
+-- at After-resolve-arg3
 resolve-requires : tie.Need-resolve-requires
-resolve-requires c κs = ((_, _, sound-walkable _ (c .before .before .before .before .before .before .before .before .before .before .before .before .before .before .before .before .before .before .before .before .before .before .before .before .pre .0)), c .before .before .before .before .before .before .before .before .before .before .before .before .before .before .before .before .before .before .before .before .before .before .before .before .pre .1)
+resolve-requires c κs = ((_, _, sound-walkable _ (c .before .before .before .before .before .before .before .before .before .before .before .before .before .before .before .before .before .before .before .before .before .before .before .before .before .pre .0)), c .before .before .before .before .before .before .before .before .before .before .before .before .before .before .before .before .before .before .before .before .before .before .before .before .before .pre .1)
 
 -- at After-slice-known4
 same-length : tie.Need-same-length
@@ -22,13 +27,14 @@ same-length-2 c = c .before .before .before .before .resolve .kept .1 .1 .1 .1 .
 
 -- at After-slice-known4
 returns-2 : tie.Need-returns-2
-returns-2 c = resolved-is _ _ (c .before .before .before .before .before .before .before .before .before .before .before .before .before .before .before .before .before .before .before .before .before .before .before .before .before .before .before .before .before .args .hashes .now) (c .before .before .before .before .before .before .before .before .before .before .before .before .before .before .before .before .before .before .before .before .before .before .before .before .before .before .before .before .before .pre .0) (c .before .before .before .before .before .before .before .before .before .before .before .before .before .before .before .before .before .before .before .before .before .before .before .before .before .before .before .before .before .pre .1) (c .before .before .before .before .before .before .before .if1 .left) (c .before .before .before .before .resolve .ensures _ _)
+returns-2 c = resolved-is _ _ (c .before .before .before .before .before .before .before .before .before .before .before .before .before .before .before .before .before .before .before .before .before .before .before .before .before .before .before .before .before .before .args .hashes .now) (c .before .before .before .before .before .before .before .before .before .before .before .before .before .before .before .before .before .before .before .before .before .before .before .before .before .before .before .before .before .before .pre .0) (c .before .before .before .before .before .before .before .before .before .before .before .before .before .before .before .before .before .before .before .before .before .before .before .before .before .before .before .before .before .before .pre .1) (c .before .before .before .before .before .before .before .before .if1 .left) (c .before .before .before .before .resolve .ensures _ _)
 
 pub resolve-spec : {M : Type 1} → statement M
 resolve-spec =
     tie.close
     (tie.spec
     returns
+    element-copy-out-resolve
     resolve-requires
     same-length
     same-length-2

@@ -2,8 +2,15 @@
 use Rattle.sure.proofs.Says.{says-yes, says-no}
 use borrow.Author.Needs.{needs}
 use native.Mathlib.Omega.{arith}
+use mathlib.Core.Path.{_≡_}
+use lib.ListN.{length}
+use Rattle.model.specs.Sizes.{maxNumbers}
 use Rattle.setup.proofs.fits.Statement.{statement}
 use Rattle.setup.proofs.fits.Tie as tie
+
+-- an array by value has the length of its type
+numbers-long : (c : tie.Start) → length (c .args .x .books) ≡ maxNumbers
+numbers-long c = search needs
 
 -- at Then1
 returns : tie.Need-returns
@@ -84,6 +91,7 @@ returns-12 c =
       pins = (says-yes (c .before .before .before .pins-lent .result) (c .before .before .if9 .left) (c .before .before .before .pins-lent .ensures));
       marks = c .before .if10 .left;
       bytes = c .if11 .left;
+      books = omega (arith, numbers-long (c .before .before .before .before .before .before .before .before .before .before .before .before .before .before .before .before .before .before .before .before .before .before .before .before .before .before .before .before .before .before .before .before .before .before .before .before .before));
     }
 
 pub fits-spec : {M : Type 1} → statement M

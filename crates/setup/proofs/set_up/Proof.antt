@@ -1,11 +1,17 @@
 -- `setup::set_up` meets its contract: refused by 12, or all parts written. Assumes nothing.
-use mathlib.Core.Path.{refl}
+use mathlib.Core.Path.{_≡_, refl}
+use lib.ListN.{length}
+use Rattle.model.specs.Sizes.{maxNumbers}
 use native.Mathlib.Omega.{arith}
 use borrow.Author.Needs.{needs}
 use Rattle.sure.proofs.Says.{says-yes, says-no}
 use Rattle.setup.proofs.Outcomes.{refused-is, written-is}
 use Rattle.setup.proofs.set_up.Statement.{statement}
 use Rattle.setup.proofs.set_up.Tie as tie
+
+-- an array by value has the length of its type
+numbers-long : (c : tie.Start) → length (c .args .x .books) ≡ maxNumbers
+numbers-long c = search needs
 
 -- at After-fits-arg6
 fits-requires : tie.Need-fits-requires
@@ -55,7 +61,7 @@ copy-in-requires c κs = let f = (says-yes (c .before .before .before .before .b
 
 -- at After-slice-known12
 fresh-small-requires : tie.Need-fresh-small-requires
-fresh-small-requires c κs = let f = (says-yes (c .before .before .before .before .before .before .before .before .before .before .before .before .before .before .before .before .before .before .before .before .before .before .fits2 .result) (c .before .before .before .before .before .before .before .before .before .before .before .before .before .before .before .before .before .before .before .before .before .if1 .left) (c .before .before .before .before .before .before .before .before .before .before .before .before .before .before .before .before .before .before .before .before .before .before .fits2 .ensures)) in (f .stores, omega (arith, f .policies, f .stores))
+fresh-small-requires c κs = let f = (says-yes (c .before .before .before .before .before .before .before .before .before .before .before .before .before .before .before .before .before .before .before .before .before .before .fits2 .result) (c .before .before .before .before .before .before .before .before .before .before .before .before .before .before .before .before .before .before .before .before .before .if1 .left) (c .before .before .before .before .before .before .before .before .before .before .before .before .before .before .before .before .before .before .before .before .before .before .fits2 .ensures)) in (f .stores, f .policies)
 
 -- at After-fresh-small
 same-length-7 : tie.Need-same-length-7
@@ -86,7 +92,7 @@ returns-2 : tie.Need-returns-2
 returns-2 c =
     let r = c .before .before .before .before .before .before .before .before .before .before .before .before .before .before .before .before .before .root-only .ensures in
     written-is (c .before .before .before .before .before .before .before .before .before .before .before .before .before .before .before .before .before .before .before .before .before .before .before .before .before .before .before .before .before .before .before .before .before .before .before .before .before .before .before .before .before .before .before .before .before .before .before .before .before .before .before .args .table .now) (c .before .before .before .before .before .before .before .before .before .before .before .before .before .before .before .before .before .before .before .before .before .before .before .before .before .before .before .before .before .before .before .before .before .before .before .before .before .before .before .before .before .before .before .before .before .before .before .before .before .before .before .args .capacity .now) (c .before .before .before .before .before .before .before .before .before .before .before .before .before .before .before .before .before .before .before .before .before .before .before .before .before .before .before .before .before .before .before .before .before .before .before .before .before .before .before .before .before .before .before .before .before .before .before .before .before .before .before .args .refreshes .now) (says-yes (c .before .before .before .before .before .before .before .before .before .before .before .before .before .before .before .before .before .before .before .before .before .before .before .fits2 .result) (c .before .before .before .before .before .before .before .before .before .before .before .before .before .before .before .before .before .before .before .before .before .before .if1 .left) (c .before .before .before .before .before .before .before .before .before .before .before .before .before .before .before .before .before .before .before .before .before .before .before .fits2 .ensures))
-    (r .0) (r .1) (r .2) (r .3) (c .before .before .before .before .before .before .before .clear-marks .ensures) (c .before .before .before .copy-in .ensures) (c .fresh-small .ensures)
+    (r .0) (r .1) (r .2) (r .3) (c .before .before .before .before .before .before .before .clear-marks .ensures) (c .before .before .before .copy-in .ensures) (numbers-long (c .before .before .before .before .before .before .before .before .before .before .before .before .before .before .before .before .before .before .before .before .before .before .before .before .before .before .before .before .before .before .before .before .before .before .before .before .before .before .before .before .before .before .before .before .before .before .before .before .before .before .before)) (c .fresh-small .ensures)
 
 pub set-up-spec : {M : Type 1} → statement M
 set-up-spec =

@@ -1,8 +1,8 @@
 -- `sound::all_counts_fit` meets its contract: a test of each store. Assumes nothing.
 use Prim.Native.Nat.{_-_, _≤_}
 use Rattle.model.specs.Words.{Each}
-use Rattle.model.specs.Sound.{StoreCounts}
-use Rattle.lent.specs.Lent.{booksOf}
+use Rattle.sound.specs.Stores.{CountsFit}
+use Rattle.sound.proofs.Books.{counts-said}
 use Rattle.soundtree.proofs.Each.{each-none, each-more, each-whole, each-not}
 use Rattle.sure.proofs.Says.{says-yes, says-no}
 use borrow.Author.Needs.{needs}
@@ -11,19 +11,27 @@ use Rattle.sound.proofs.all_counts_fit.Statement.{statement}
 use Rattle.sound.proofs.all_counts_fit.Tie as tie
 
 abbrev Inv-loop : tie.InvT-loop
-Inv-loop x s₀ s = (0 ≤ s) × Each 0 s (StoreCounts (booksOf x))
+Inv-loop books stores s₀ s = (0 ≤ s) × Each 0 s (CountsFit books)
 
 abbrev μ-loop : tie.MeasureT-loop
-μ-loop x s₀ s = x .stores - s
+μ-loop books stores s₀ s = stores - s
+
+element-copy-out-stores : tie.Need-element-copy-out-stores Inv-loop μ-loop
+element-copy-out-stores c = search needs
 
 loop-holds : tie.Need-loop-holds Inv-loop μ-loop
 loop-holds c = (omega arith, each-none _ 0)
 
-store-counts-fit-requires : tie.Need-store-counts-fit-requires Inv-loop μ-loop
-store-counts-fit-requires c κs = search needs
+book-of-requires : tie.Need-book-of-requires Inv-loop μ-loop
+book-of-requires c κs = search needs
+
+counts-fit-requires : tie.Need-counts-fit-requires Inv-loop μ-loop
+counts-fit-requires c κs = search needs
 
 returns : tie.Need-returns Inv-loop μ-loop
-returns c = each-not (c .before .before .before .before .loop .inv .0) (c .before .before .if1 .taken) (says-no (c .before .store-counts-fit .result) (c .if2 .taken) (c .before .store-counts-fit .ensures))
+returns c =
+    let said = counts-said (c .before .before .before .before .before .before .args .books .now) (c .before .before .before .before .loop .s) (c .before .before .book-of .ensures) (c .before .counts-fit .result) (c .before .counts-fit .ensures) in
+    each-not (c .before .before .before .before .loop .inv .0) (c .before .before .before .loop-test .taken) (says-no (c .before .counts-fit .result) (c .if1 .taken) said)
 
 add-s : tie.Need-add-s Inv-loop μ-loop
 add-s c = search needs
@@ -32,10 +40,12 @@ loop-less : tie.Need-loop-less Inv-loop μ-loop
 loop-less c = search needs
 
 loop-again : tie.Need-loop-again Inv-loop μ-loop
-loop-again c = (omega arith, each-more (c .before .before .before .before .loop .inv .1) (says-yes (c .before .store-counts-fit .result) (c .if2 .left) (c .before .store-counts-fit .ensures)))
+loop-again c =
+    let said = counts-said (c .before .before .before .before .before .before .args .books .now) (c .before .before .before .before .loop .s) (c .before .before .book-of .ensures) (c .before .counts-fit .result) (c .before .counts-fit .ensures) in
+    (omega arith, each-more (c .before .before .before .before .loop .inv .1) (says-yes (c .before .counts-fit .result) (c .if1 .left) said))
 
 returns-2 : tie.Need-returns-2 Inv-loop μ-loop
-returns-2 c = each-whole (c .before .before .loop .inv .1) (c .if1 .left)
+returns-2 c = each-whole (c .before .loop .inv .1) (c .loop-test .left)
 
 pub all-counts-fit-spec : {M : Type 1} → statement M
 all-counts-fit-spec =
@@ -43,8 +53,10 @@ all-counts-fit-spec =
     (tie.spec
     Inv-loop
     μ-loop
+    element-copy-out-stores
     loop-holds
-    store-counts-fit-requires
+    book-of-requires
+    counts-fit-requires
     returns
     add-s
     loop-less

@@ -1,8 +1,9 @@
 -- `sound::all_pins_fit` meets its contract: a test of each store. Assumes nothing.
 use Prim.Native.Nat.{_-_, _≤_}
 use Rattle.model.specs.Words.{Each}
+use Rattle.model.specs.State.{nodesIn}
 use Rattle.sound.specs.Stores.{StorePins}
-use Rattle.lent.specs.Lent.{booksOf}
+use Rattle.sound.proofs.Books.{counts-by, pins-said}
 use Rattle.soundtree.proofs.Each.{each-none, each-more, each-whole, each-not}
 use Rattle.sure.proofs.Says.{says-yes, says-no}
 use borrow.Author.Needs.{needs}
@@ -11,37 +12,41 @@ use Rattle.sound.proofs.all_pins_fit.Statement.{statement}
 use Rattle.sound.proofs.all_pins_fit.Tie as tie
 
 abbrev Inv-loop : tie.InvT-loop
-Inv-loop len node start end count x s₀ s = (0 ≤ s) × Each 0 s (StorePins len node start end count (x .nodes) (booksOf x))
+Inv-loop len node start end count books nodes stores s₀ s = (0 ≤ s) × Each 0 s (StorePins len node start end count nodes books)
 
 abbrev μ-loop : tie.MeasureT-loop
-μ-loop len node start end count x s₀ s = x .stores - s
+μ-loop len node start end count books nodes stores s₀ s = stores - s
+
+element-copy-out-nodes : tie.Need-element-copy-out-nodes Inv-loop μ-loop
+element-copy-out-nodes c = search needs
+
+element-copy-out-stores : tie.Need-element-copy-out-stores Inv-loop μ-loop
+element-copy-out-stores c = search needs
 
 loop-holds : tie.Need-loop-holds Inv-loop μ-loop
 loop-holds c = (omega arith, each-none _ 0)
 
+book-of-requires : tie.Need-book-of-requires Inv-loop μ-loop
+book-of-requires c κs = search needs
+
 mul-a : tie.Need-mul-a Inv-loop μ-loop
 mul-a c = search needs
 
-mul-n : tie.Need-mul-n Inv-loop μ-loop
-mul-n c = search needs
-
-element-copy-out-n : tie.Need-element-copy-out-n Inv-loop μ-loop
-element-copy-out-n c = search needs
-
-mul-pinned : tie.Need-mul-pinned Inv-loop μ-loop
-mul-pinned c = search needs
-
-element-copy-out-pinned : tie.Need-element-copy-out-pinned Inv-loop μ-loop
-element-copy-out-pinned c = search needs
-
 pins-fit-requires : tie.Need-pins-fit-requires Inv-loop μ-loop
 pins-fit-requires c κs =
-    let k = c .before .before .before .before .before .before .before .before .before .pre .7 (c .before .before .before .loop .s) (c .before .before .before .loop .inv .0) (c .before .before .loop-test .taken) in
-    let p = c .before .before .before .before .before .before .before .before .before .pre in
+    let k =
+    counts-by (c .before .before .before .before .before .before .before .before .before .before .args .books .now) (c .before .before .loop .s) (c .book-of .ensures)
+    (c .before .before .before .before .before .before .before .before .before .before .pre .7 (c .before .before .loop .s) (c .before .before .loop .inv .0) (c .before .loop-test .taken)) in
+    let p = c .before .before .before .before .before .before .before .before .before .before .pre in
     (k .entries, omega (arith, k .entries), p .1, p .2, p .3, p .4, p .5, k .pinned, p .6)
 
 returns : tie.Need-returns Inv-loop μ-loop
-returns c = each-not (c .before .before .before .before .before .loop .inv .0) (c .before .before .before .before .loop-test .taken) (says-no (c .before .pins-fit .result) (c .if1 .taken) (c .before .pins-fit .ensures))
+returns c =
+    let a = c .before .before .before .before .before .before .before .before .before .before .before .before .args in
+    let said =
+    pins-said (a .books .now) (c .before .before .before .before .loop .s) (c .before .before .book-of .ensures) (a .len .now) (a .node .now) (a .start .now) (a .end .now) (a .count .now) (nodesIn (a .books .now))
+    (c .before .pins-fit .result) (c .before .pins-fit .ensures) in
+    each-not (c .before .before .before .before .loop .inv .0) (c .before .before .before .loop-test .taken) (says-no (c .before .pins-fit .result) (c .if1 .taken) said)
 
 add-s : tie.Need-add-s Inv-loop μ-loop
 add-s c = search needs
@@ -50,7 +55,12 @@ loop-less : tie.Need-loop-less Inv-loop μ-loop
 loop-less c = search needs
 
 loop-again : tie.Need-loop-again Inv-loop μ-loop
-loop-again c = (omega arith, each-more (c .before .before .before .before .before .loop .inv .1) (says-yes (c .before .pins-fit .result) (c .if1 .left) (c .before .pins-fit .ensures)))
+loop-again c =
+    let a = c .before .before .before .before .before .before .before .before .before .before .before .before .args in
+    let said =
+    pins-said (a .books .now) (c .before .before .before .before .loop .s) (c .before .before .book-of .ensures) (a .len .now) (a .node .now) (a .start .now) (a .end .now) (a .count .now) (nodesIn (a .books .now))
+    (c .before .pins-fit .result) (c .before .pins-fit .ensures) in
+    (omega arith, each-more (c .before .before .before .before .loop .inv .1) (says-yes (c .before .pins-fit .result) (c .if1 .left) said))
 
 returns-2 : tie.Need-returns-2 Inv-loop μ-loop
 returns-2 c = each-whole (c .before .loop .inv .1) (c .loop-test .left)
@@ -61,12 +71,11 @@ all-pins-fit-spec =
     (tie.spec
     Inv-loop
     μ-loop
+    element-copy-out-nodes
+    element-copy-out-stores
     loop-holds
+    book-of-requires
     mul-a
-    mul-n
-    element-copy-out-n
-    mul-pinned
-    element-copy-out-pinned
     pins-fit-requires
     returns
     add-s

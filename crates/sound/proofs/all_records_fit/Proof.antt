@@ -1,8 +1,9 @@
 -- `sound::all_records_fit` meets its contract: a test of each store. Assumes nothing.
 use Prim.Native.Nat.{_-_, _≤_}
 use Rattle.model.specs.Words.{Each}
+use Rattle.model.specs.State.{nodesIn}
 use Rattle.sound.specs.Stores.{StoreRecords}
-use Rattle.lent.specs.Lent.{booksOf}
+use Rattle.sound.proofs.Books.{counts-by, records-said}
 use Rattle.soundtree.proofs.Each.{each-none, each-more, each-whole, each-not}
 use Rattle.sure.proofs.Says.{says-yes, says-no}
 use borrow.Author.Needs.{needs}
@@ -11,49 +12,44 @@ use Rattle.sound.proofs.all_records_fit.Statement.{statement}
 use Rattle.sound.proofs.all_records_fit.Tie as tie
 
 abbrev Inv-loop : tie.InvT-loop
-Inv-loop len node start end id stamp touched x s₀ s = (0 ≤ s) × Each 0 s (StoreRecords len node start end id stamp touched (x .nodes) (booksOf x))
+Inv-loop len node start end id stamp touched books nodes stores next s₀ s = (0 ≤ s) × Each 0 s (StoreRecords len node start end id stamp touched nodes books)
 
 abbrev μ-loop : tie.MeasureT-loop
-μ-loop len node start end id stamp touched x s₀ s = x .stores - s
+μ-loop len node start end id stamp touched books nodes stores next s₀ s = stores - s
+
+element-copy-out-nodes : tie.Need-element-copy-out-nodes Inv-loop μ-loop
+element-copy-out-nodes c = search needs
+
+element-copy-out-stores : tie.Need-element-copy-out-stores Inv-loop μ-loop
+element-copy-out-stores c = search needs
+
+element-copy-out-next : tie.Need-element-copy-out-next Inv-loop μ-loop
+element-copy-out-next c = search needs
 
 loop-holds : tie.Need-loop-holds Inv-loop μ-loop
 loop-holds c = (omega arith, each-none _ 0)
 
-mul-a : tie.Need-mul-a Inv-loop μ-loop
-mul-a c = search needs
+book-of-requires : tie.Need-book-of-requires Inv-loop μ-loop
+book-of-requires c κs = search needs
 
-mul-n : tie.Need-mul-n Inv-loop μ-loop
-mul-n c = search needs
-
-element-copy-out-n : tie.Need-element-copy-out-n Inv-loop μ-loop
-element-copy-out-n c = search needs
-
-mul-top : tie.Need-mul-top Inv-loop μ-loop
-mul-top c = search needs
-
-element-copy-out-top : tie.Need-element-copy-out-top Inv-loop μ-loop
-element-copy-out-top c = search needs
-
-mul-held : tie.Need-mul-held Inv-loop μ-loop
-mul-held c = search needs
-
-element-copy-out-held : tie.Need-element-copy-out-held Inv-loop μ-loop
-element-copy-out-held c = search needs
-
-mul-capacity : tie.Need-mul-capacity Inv-loop μ-loop
-mul-capacity c = search needs
-
-element-copy-out-capacity : tie.Need-element-copy-out-capacity Inv-loop μ-loop
-element-copy-out-capacity c = search needs
+mul-records-fit : tie.Need-mul-records-fit Inv-loop μ-loop
+mul-records-fit c = search needs
 
 records-fit-requires : tie.Need-records-fit-requires Inv-loop μ-loop
 records-fit-requires c κs =
-    let k = c .before .before .before .before .before .before .before .before .before .before .before .before .before .pre .9 (c .before .before .before .before .before .loop .s) (c .before .before .before .before .before .loop .inv .0) (c .before .before .before .before .loop-test .taken) in
+    let k =
+    counts-by (c .before .before .before .before .before .before .before .before .before .before .before .before .before .args .books .now) (c .before .before .loop .s) (c .book-of .ensures)
+    (c .before .before .before .before .before .before .before .before .before .before .before .before .before .pre .9 (c .before .before .loop .s) (c .before .before .loop .inv .0) (c .before .loop-test .taken)) in
     let p = c .before .before .before .before .before .before .before .before .before .before .before .before .before .pre in
     (k .records, omega (arith, k .records), p .1, p .2, p .3, p .4, p .5, p .6, p .7, p .8)
 
 returns : tie.Need-returns Inv-loop μ-loop
-returns c = each-not (c .before .before .before .before .before .before .before .loop .inv .0) (c .before .before .before .before .before .before .loop-test .taken) (says-no (c .before .records-fit .result) (c .if1 .taken) (c .before .records-fit .ensures))
+returns c =
+    let a = c .before .before .before .before .before .before .before .before .before .before .before .before .before .before .before .args in
+    let said =
+    records-said (a .books .now) (c .before .before .before .before .loop .s) (c .before .before .book-of .ensures) (a .len .now) (a .node .now) (a .start .now) (a .end .now) (a .id .now) (a .stamp .now) (a .touched .now) (nodesIn (a .books .now))
+    (c .before .records-fit .result) (c .before .records-fit .ensures) in
+    each-not (c .before .before .before .before .loop .inv .0) (c .before .before .before .loop-test .taken) (says-no (c .before .records-fit .result) (c .if1 .taken) said)
 
 add-s : tie.Need-add-s Inv-loop μ-loop
 add-s c = search needs
@@ -62,7 +58,12 @@ loop-less : tie.Need-loop-less Inv-loop μ-loop
 loop-less c = search needs
 
 loop-again : tie.Need-loop-again Inv-loop μ-loop
-loop-again c = (omega arith, each-more (c .before .before .before .before .before .before .before .loop .inv .1) (says-yes (c .before .records-fit .result) (c .if1 .left) (c .before .records-fit .ensures)))
+loop-again c =
+    let a = c .before .before .before .before .before .before .before .before .before .before .before .before .before .before .before .args in
+    let said =
+    records-said (a .books .now) (c .before .before .before .before .loop .s) (c .before .before .book-of .ensures) (a .len .now) (a .node .now) (a .start .now) (a .end .now) (a .id .now) (a .stamp .now) (a .touched .now) (nodesIn (a .books .now))
+    (c .before .records-fit .result) (c .before .records-fit .ensures) in
+    (omega arith, each-more (c .before .before .before .before .loop .inv .1) (says-yes (c .before .records-fit .result) (c .if1 .left) said))
 
 returns-2 : tie.Need-returns-2 Inv-loop μ-loop
 returns-2 c = each-whole (c .before .loop .inv .1) (c .loop-test .left)
@@ -73,16 +74,12 @@ all-records-fit-spec =
     (tie.spec
     Inv-loop
     μ-loop
+    element-copy-out-nodes
+    element-copy-out-stores
+    element-copy-out-next
     loop-holds
-    mul-a
-    mul-n
-    element-copy-out-n
-    mul-top
-    element-copy-out-top
-    mul-held
-    element-copy-out-held
-    mul-capacity
-    element-copy-out-capacity
+    book-of-requires
+    mul-records-fit
     records-fit-requires
     returns
     add-s

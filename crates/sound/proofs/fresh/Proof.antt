@@ -10,10 +10,10 @@ use Rattle.sound.proofs.fresh.Statement.{statement}
 use Rattle.sound.proofs.fresh.Tie as tie
 
 abbrev Inv-loop : tie.InvT-loop
-Inv-loop id records prev from y link₀ link = Walk (idBucket id) (Live records) (λ (k : ℕ). at id k ≡ y) (y % 1024) from link
+Inv-loop id books prev from y link₀ link = Walk (idBucket id) (Live books) (λ (k : ℕ). at id k ≡ y) (y % 1024) from link
 
 abbrev μ-loop : tie.MeasureT-loop
-μ-loop id records prev from y link₀ link = link
+μ-loop id books prev from y link₀ link = link
 
 loop-holds : tie.Need-loop-holds Inv-loop μ-loop
 loop-holds c = record { hi = omega arith; here = c .pre .3; past = λ k g l. absurd (omega arith) }

@@ -14,7 +14,7 @@ returns : tie.Need-returns
 returns c = λ h. (says-no (c .before .numbers-fit .result) (c .if1 .taken) (c .before .numbers-fit .ensures)) (tested-of _ h .numbers)
 
 all-counts-fit-requires : tie.Need-all-counts-fit-requires
-all-counts-fit-requires c κs = (says-yes (c .before .numbers-fit .result) (c .if1 .left) (c .before .numbers-fit .ensures)) .stores
+all-counts-fit-requires c κs = (says-yes (c .before .before .before .numbers-fit .result) (c .before .before .if1 .left) (c .before .before .before .numbers-fit .ensures)) .stores
 
 returns-2 : tie.Need-returns-2
 returns-2 c = λ h. (says-no (c .before .all-counts-fit .result) (c .if2 .taken) (c .before .all-counts-fit .ensures)) (tested-of _ h .counts)
@@ -40,6 +40,12 @@ table-rises-requires c κs = search needs
 returns-6 : tie.Need-returns-6
 returns-6 c = λ h. (says-no (c .before .table-rises .result) (c .if6 .taken) (c .before .table-rises .ensures)) (tested-of _ h .table)
 
+element-copy-out-nodes : tie.Need-element-copy-out-nodes
+element-copy-out-nodes c = search needs
+
+element-copy-out-used : tie.Need-element-copy-out-used
+element-copy-out-used c = search needs
+
 tree-sound-requires : tie.Need-tree-sound-requires
 tree-sound-requires c κs = search needs
 
@@ -48,33 +54,33 @@ returns-7 c = λ h. (says-no (c .before .tree-sound .result) (c .if7 .taken) (c 
 
 all-records-fit-requires : tie.Need-all-records-fit-requires
 all-records-fit-requires c κs =
-    let r = (says-yes (c .before .before .before .before .before .before .before .before .ranges-lent .result) (c .before .before .before .before .before .before .before .if3 .left) (c .before .before .before .before .before .before .before .before .ranges-lent .ensures)) in
-    let t = (says-yes (c .before .tree-sound .result) (c .if7 .left) (c .before .tree-sound .ensures)) in
-    ((says-yes (c .before .before .before .before .before .before .before .before .before .before .before .before .numbers-fit .result) (c .before .before .before .before .before .before .before .before .before .before .before .if1 .left) (c .before .before .before .before .before .before .before .before .before .before .before .before .numbers-fit .ensures)) .stores, omega (arith, t .sized .high, t .sized .lent .len), r .node, r .start, r .end, r .id, r .stamp, r .touched, lens-bound t, (says-yes (c .before .before .before .before .before .before .before .before .before .before .all-counts-fit .result) (c .before .before .before .before .before .before .before .before .before .if2 .left) (c .before .before .before .before .before .before .before .before .before .before .all-counts-fit .ensures)))
+    let r = (says-yes (c .before .before .before .before .before .before .before .before .before .before .before .before .ranges-lent .result) (c .before .before .before .before .before .before .before .before .before .before .before .if3 .left) (c .before .before .before .before .before .before .before .before .before .before .before .before .ranges-lent .ensures)) in
+    let t = (says-yes (c .before .before .before .tree-sound .result) (c .before .before .if7 .left) (c .before .before .before .tree-sound .ensures)) in
+    ((says-yes (c .before .before .before .before .before .before .before .before .before .before .before .before .before .before .before .before .before .before .numbers-fit .result) (c .before .before .before .before .before .before .before .before .before .before .before .before .before .before .before .before .before .if1 .left) (c .before .before .before .before .before .before .before .before .before .before .before .before .before .before .before .before .before .before .numbers-fit .ensures)) .stores, omega (arith, t .sized .high, t .sized .lent .len), r .node, r .start, r .end, r .id, r .stamp, r .touched, lens-bound t, (says-yes (c .before .before .before .before .before .before .before .before .before .before .before .before .before .before .all-counts-fit .result) (c .before .before .before .before .before .before .before .before .before .before .before .before .before .if2 .left) (c .before .before .before .before .before .before .before .before .before .before .before .before .before .before .all-counts-fit .ensures)))
 
 returns-8 : tie.Need-returns-8
 returns-8 c = λ h. (says-no (c .before .all-records-fit .result) (c .if8 .taken) (c .before .all-records-fit .ensures)) (tested-of _ h .records)
 
 all-pins-fit-requires : tie.Need-all-pins-fit-requires
 all-pins-fit-requires c κs =
-    let p = (says-yes (c .before .before .before .before .before .before .before .before .pins-lent .result) (c .before .before .before .before .before .before .before .if4 .left) (c .before .before .before .before .before .before .before .before .pins-lent .ensures)) in
-    let t = (says-yes (c .before .before .before .tree-sound .result) (c .before .before .if7 .left) (c .before .before .before .tree-sound .ensures)) in
-    ((says-yes (c .before .before .before .before .before .before .before .before .before .before .before .before .before .before .numbers-fit .result) (c .before .before .before .before .before .before .before .before .before .before .before .before .before .if1 .left) (c .before .before .before .before .before .before .before .before .before .before .before .before .before .before .numbers-fit .ensures)) .stores, omega (arith, t .sized .high, t .sized .lent .len), p .node, p .start, p .end, p .count, lens-bound t, (says-yes (c .before .before .before .before .before .before .before .before .before .before .before .before .all-counts-fit .result) (c .before .before .before .before .before .before .before .before .before .before .before .if2 .left) (c .before .before .before .before .before .before .before .before .before .before .before .before .all-counts-fit .ensures)))
+    let p = (says-yes (c .before .before .before .before .before .before .before .before .before .before .before .before .before .before .pins-lent .result) (c .before .before .before .before .before .before .before .before .before .before .before .before .before .if4 .left) (c .before .before .before .before .before .before .before .before .before .before .before .before .before .before .pins-lent .ensures)) in
+    let t = (says-yes (c .before .before .before .before .before .before .before .tree-sound .result) (c .before .before .before .before .before .before .if7 .left) (c .before .before .before .before .before .before .before .tree-sound .ensures)) in
+    ((says-yes (c .before .before .before .before .before .before .before .before .before .before .before .before .before .before .before .before .before .before .before .before .before .before .numbers-fit .result) (c .before .before .before .before .before .before .before .before .before .before .before .before .before .before .before .before .before .before .before .before .before .if1 .left) (c .before .before .before .before .before .before .before .before .before .before .before .before .before .before .before .before .before .before .before .before .before .before .numbers-fit .ensures)) .stores, omega (arith, t .sized .high, t .sized .lent .len), p .node, p .start, p .end, p .count, lens-bound t, (says-yes (c .before .before .before .before .before .before .before .before .before .before .before .before .before .before .before .before .before .before .all-counts-fit .result) (c .before .before .before .before .before .before .before .before .before .before .before .before .before .before .before .before .before .if2 .left) (c .before .before .before .before .before .before .before .before .before .before .before .before .before .before .before .before .before .before .all-counts-fit .ensures)))
 
 returns-9 : tie.Need-returns-9
 returns-9 c = λ h. (says-no (c .before .all-pins-fit .result) (c .if9 .taken) (c .before .all-pins-fit .ensures)) (tested-of _ h .entries)
 
 all-marks-fit-requires : tie.Need-all-marks-fit-requires
 all-marks-fit-requires c κs =
-    let t = (says-yes (c .before .before .before .before .before .tree-sound .result) (c .before .before .before .before .if7 .left) (c .before .before .before .before .before .tree-sound .ensures)) in
-    let h = (says-yes (c .before .before .before .all-records-fit .result) (c .before .before .if8 .left) (c .before .before .before .all-records-fit .ensures)) in
-    ((says-yes (c .before .before .before .before .before .before .before .before .before .before .before .before .before .before .before .before .numbers-fit .result) (c .before .before .before .before .before .before .before .before .before .before .before .before .before .before .before .if1 .left) (c .before .before .before .before .before .before .before .before .before .before .before .before .before .before .before .before .numbers-fit .ensures)) .stores, t .sized .high, t .sized .lent .len, (says-yes (c .before .before .before .before .before .before .before .before .before .before .before .before .ranges-lent .result) (c .before .before .before .before .before .before .before .before .before .before .before .if3 .left) (c .before .before .before .before .before .before .before .before .before .before .before .before .ranges-lent .ensures)) .node, c .before .before .before .before .before .before .before .before .if5 .left, (says-yes (c .before .before .before .before .before .before .before .before .before .before .before .before .before .before .all-counts-fit .result) (c .before .before .before .before .before .before .before .before .before .before .before .before .before .if2 .left) (c .before .before .before .before .before .before .before .before .before .before .before .before .before .before .all-counts-fit .ensures)), λ s f l i g m. h s f l .inside i g m .inUse)
+    let t = (says-yes (c .before .before .before .before .before .before .before .before .before .before .before .tree-sound .result) (c .before .before .before .before .before .before .before .before .before .before .if7 .left) (c .before .before .before .before .before .before .before .before .before .before .before .tree-sound .ensures)) in
+    let h = (says-yes (c .before .before .before .before .before .before .before .all-records-fit .result) (c .before .before .before .before .before .before .if8 .left) (c .before .before .before .before .before .before .before .all-records-fit .ensures)) in
+    ((says-yes (c .before .before .before .before .before .before .before .before .before .before .before .before .before .before .before .before .before .before .before .before .before .before .before .before .before .before .numbers-fit .result) (c .before .before .before .before .before .before .before .before .before .before .before .before .before .before .before .before .before .before .before .before .before .before .before .before .before .if1 .left) (c .before .before .before .before .before .before .before .before .before .before .before .before .before .before .before .before .before .before .before .before .before .before .before .before .before .before .numbers-fit .ensures)) .stores, t .sized .high, t .sized .lent .len, (says-yes (c .before .before .before .before .before .before .before .before .before .before .before .before .before .before .before .before .before .before .before .before .ranges-lent .result) (c .before .before .before .before .before .before .before .before .before .before .before .before .before .before .before .before .before .before .before .if3 .left) (c .before .before .before .before .before .before .before .before .before .before .before .before .before .before .before .before .before .before .before .before .ranges-lent .ensures)) .node, c .before .before .before .before .before .before .before .before .before .before .before .before .before .before .before .before .if5 .left, (says-yes (c .before .before .before .before .before .before .before .before .before .before .before .before .before .before .before .before .before .before .before .before .before .before .all-counts-fit .result) (c .before .before .before .before .before .before .before .before .before .before .before .before .before .before .before .before .before .before .before .before .before .if2 .left) (c .before .before .before .before .before .before .before .before .before .before .before .before .before .before .before .before .before .before .before .before .before .before .all-counts-fit .ensures)), λ s f l i g m. h s f l .inside i g m .inUse)
 
 returns-10 : tie.Need-returns-10
 returns-10 c = λ h. (says-no (c .before .all-marks-fit .result) (c .if10 .taken) (c .before .all-marks-fit .ensures)) (tested-of _ h .marked)
 
 ids-differ-requires : tie.Need-ids-differ-requires
-ids-differ-requires c κs = ((says-yes (c .before .before .before .before .before .before .before .before .before .before .before .before .before .before .before .before .before .before .before .before .numbers-fit .result) (c .before .before .before .before .before .before .before .before .before .before .before .before .before .before .before .before .before .before .before .if1 .left) (c .before .before .before .before .before .before .before .before .before .before .before .before .before .before .before .before .before .before .before .before .numbers-fit .ensures)) .stores, (says-yes (c .before .before .before .before .before .before .before .before .before .before .before .before .before .before .before .before .ranges-lent .result) (c .before .before .before .before .before .before .before .before .before .before .before .before .before .before .before .if3 .left) (c .before .before .before .before .before .before .before .before .before .before .before .before .before .before .before .before .ranges-lent .ensures)) .id)
+ids-differ-requires c κs = ((says-yes (c .before .before .before .before .before .before .before .before .before .before .before .before .before .before .before .before .before .before .before .before .before .before .before .before .before .before .before .before .before .before .numbers-fit .result) (c .before .before .before .before .before .before .before .before .before .before .before .before .before .before .before .before .before .before .before .before .before .before .before .before .before .before .before .before .before .if1 .left) (c .before .before .before .before .before .before .before .before .before .before .before .before .before .before .before .before .before .before .before .before .before .before .before .before .before .before .before .before .before .before .numbers-fit .ensures)) .stores, (says-yes (c .before .before .before .before .before .before .before .before .before .before .before .before .before .before .before .before .before .before .before .before .before .before .before .before .ranges-lent .result) (c .before .before .before .before .before .before .before .before .before .before .before .before .before .before .before .before .before .before .before .before .before .before .before .if3 .left) (c .before .before .before .before .before .before .before .before .before .before .before .before .before .before .before .before .before .before .before .before .before .before .before .before .ranges-lent .ensures)) .id)
 
 returns-11 : tie.Need-returns-11
 returns-11 c = λ h. (says-no (c .before .ids-differ .result) (c .if11 .taken) (c .before .ids-differ .ensures)) (tested-of _ h .ids)
@@ -82,15 +88,15 @@ returns-11 c = λ h. (says-no (c .before .ids-differ .result) (c .if11 .taken) (
 returns-12 : tie.Need-returns-12
 returns-12 c =
     sound-of _ (record {
-      marks = c .before .before .before .before .before .before .before .before .before .before .before .before .before .before .if5 .left;
-      numbers = (says-yes (c .before .before .before .before .before .before .before .before .before .before .before .before .before .before .before .before .before .before .before .before .before .before .numbers-fit .result) (c .before .before .before .before .before .before .before .before .before .before .before .before .before .before .before .before .before .before .before .before .before .if1 .left) (c .before .before .before .before .before .before .before .before .before .before .before .before .before .before .before .before .before .before .before .before .before .before .numbers-fit .ensures));
-      counts = (says-yes (c .before .before .before .before .before .before .before .before .before .before .before .before .before .before .before .before .before .before .before .before .all-counts-fit .result) (c .before .before .before .before .before .before .before .before .before .before .before .before .before .before .before .before .before .before .before .if2 .left) (c .before .before .before .before .before .before .before .before .before .before .before .before .before .before .before .before .before .before .before .before .all-counts-fit .ensures));
-      ranges = (says-yes (c .before .before .before .before .before .before .before .before .before .before .before .before .before .before .before .before .before .before .ranges-lent .result) (c .before .before .before .before .before .before .before .before .before .before .before .before .before .before .before .before .before .if3 .left) (c .before .before .before .before .before .before .before .before .before .before .before .before .before .before .before .before .before .before .ranges-lent .ensures));
-      pins = (says-yes (c .before .before .before .before .before .before .before .before .before .before .before .before .before .before .before .before .pins-lent .result) (c .before .before .before .before .before .before .before .before .before .before .before .before .before .before .before .if4 .left) (c .before .before .before .before .before .before .before .before .before .before .before .before .before .before .before .before .pins-lent .ensures));
-      table = (says-yes (c .before .before .before .before .before .before .before .before .before .before .before .before .before .table-rises .result) (c .before .before .before .before .before .before .before .before .before .before .before .before .if6 .left) (c .before .before .before .before .before .before .before .before .before .before .before .before .before .table-rises .ensures));
-      tree = (says-yes (c .before .before .before .before .before .before .before .before .before .before .before .tree-sound .result) (c .before .before .before .before .before .before .before .before .before .before .if7 .left) (c .before .before .before .before .before .before .before .before .before .before .before .tree-sound .ensures));
-      records = (says-yes (c .before .before .before .before .before .before .before .before .before .all-records-fit .result) (c .before .before .before .before .before .before .before .before .if8 .left) (c .before .before .before .before .before .before .before .before .before .all-records-fit .ensures));
-      entries = (says-yes (c .before .before .before .before .before .before .before .all-pins-fit .result) (c .before .before .before .before .before .before .if9 .left) (c .before .before .before .before .before .before .before .all-pins-fit .ensures));
+      marks = c .before .before .before .before .before .before .before .before .before .before .before .before .before .before .before .before .before .before .before .before .before .before .if5 .left;
+      numbers = (says-yes (c .before .before .before .before .before .before .before .before .before .before .before .before .before .before .before .before .before .before .before .before .before .before .before .before .before .before .before .before .before .before .before .before .numbers-fit .result) (c .before .before .before .before .before .before .before .before .before .before .before .before .before .before .before .before .before .before .before .before .before .before .before .before .before .before .before .before .before .before .before .if1 .left) (c .before .before .before .before .before .before .before .before .before .before .before .before .before .before .before .before .before .before .before .before .before .before .before .before .before .before .before .before .before .before .before .before .numbers-fit .ensures));
+      counts = (says-yes (c .before .before .before .before .before .before .before .before .before .before .before .before .before .before .before .before .before .before .before .before .before .before .before .before .before .before .before .before .all-counts-fit .result) (c .before .before .before .before .before .before .before .before .before .before .before .before .before .before .before .before .before .before .before .before .before .before .before .before .before .before .before .if2 .left) (c .before .before .before .before .before .before .before .before .before .before .before .before .before .before .before .before .before .before .before .before .before .before .before .before .before .before .before .before .all-counts-fit .ensures));
+      ranges = (says-yes (c .before .before .before .before .before .before .before .before .before .before .before .before .before .before .before .before .before .before .before .before .before .before .before .before .before .before .ranges-lent .result) (c .before .before .before .before .before .before .before .before .before .before .before .before .before .before .before .before .before .before .before .before .before .before .before .before .before .if3 .left) (c .before .before .before .before .before .before .before .before .before .before .before .before .before .before .before .before .before .before .before .before .before .before .before .before .before .before .ranges-lent .ensures));
+      pins = (says-yes (c .before .before .before .before .before .before .before .before .before .before .before .before .before .before .before .before .before .before .before .before .before .before .before .before .pins-lent .result) (c .before .before .before .before .before .before .before .before .before .before .before .before .before .before .before .before .before .before .before .before .before .before .before .if4 .left) (c .before .before .before .before .before .before .before .before .before .before .before .before .before .before .before .before .before .before .before .before .before .before .before .before .pins-lent .ensures));
+      table = (says-yes (c .before .before .before .before .before .before .before .before .before .before .before .before .before .before .before .before .before .before .before .before .before .table-rises .result) (c .before .before .before .before .before .before .before .before .before .before .before .before .before .before .before .before .before .before .before .before .if6 .left) (c .before .before .before .before .before .before .before .before .before .before .before .before .before .before .before .before .before .before .before .before .before .table-rises .ensures));
+      tree = (says-yes (c .before .before .before .before .before .before .before .before .before .before .before .before .before .before .before .before .before .tree-sound .result) (c .before .before .before .before .before .before .before .before .before .before .before .before .before .before .before .before .if7 .left) (c .before .before .before .before .before .before .before .before .before .before .before .before .before .before .before .before .before .tree-sound .ensures));
+      records = (says-yes (c .before .before .before .before .before .before .before .before .before .before .before .before .before .all-records-fit .result) (c .before .before .before .before .before .before .before .before .before .before .before .before .if8 .left) (c .before .before .before .before .before .before .before .before .before .before .before .before .before .all-records-fit .ensures));
+      entries = (says-yes (c .before .before .before .before .before .before .before .before .before .all-pins-fit .result) (c .before .before .before .before .before .before .before .before .if9 .left) (c .before .before .before .before .before .before .before .before .before .all-pins-fit .ensures));
       marked = (says-yes (c .before .before .before .before .before .all-marks-fit .result) (c .before .before .before .before .if10 .left) (c .before .before .before .before .before .all-marks-fit .ensures));
       ids = (says-yes (c .before .ids-differ .result) (c .if11 .left) (c .before .ids-differ .ensures));
     })
@@ -110,6 +116,8 @@ sound-state-spec =
     returns-5
     table-rises-requires
     returns-6
+    element-copy-out-nodes
+    element-copy-out-used
     tree-sound-requires
     returns-7
     all-records-fit-requires

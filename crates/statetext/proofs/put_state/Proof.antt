@@ -4,6 +4,7 @@ use borrow.Author.Needs.{needs}
 use Prim.Native.Nat.{_+_, _*_, _-_, _≤_}
 use mathlib.Core.Path.{_≡_}
 use lib.ListN.{length}
+use Rattle.model.specs.State.{storesIn}
 use Rattle.model.specs.Sound.{Sound}
 use Rattle.answers.specs.Answers.{stateFrom}
 use Rattle.statetext.proofs.Laws.{nodes-of}
@@ -11,16 +12,22 @@ use Rattle.statetext.proofs.put_state.Statement.{statement}
 use Rattle.statetext.proofs.put_state.Tie as tie
 
 abbrev Inv-loop : tie.InvT-loop
-Inv-loop out₀ at parent depth len run words node start end id stamp touched write pin-node pin-start pin-end pin-count marks bytes x stores a next₀ s₀ out next s = (at ≤ next) × (next ≤ at + 36992 + 60928 * s) × (s ≤ x .stores) × (length out ≡ length out₀) × (at + 540672 ≤ length out) × Sound (stateFrom parent depth len run words node start end id stamp touched write pin-node pin-start pin-end pin-count marks bytes x)
+Inv-loop out₀ at parent depth len run words node start end id stamp touched write pin-node pin-start pin-end pin-count marks bytes x nodes stores a next₀ s₀ out next s = (at ≤ next) × (next ≤ at + 36992 + 60928 * s) × (s ≤ storesIn (x .books)) × (length out ≡ length out₀) × (at + 540672 ≤ length out) × Sound (stateFrom parent depth len run words node start end id stamp touched write pin-node pin-start pin-end pin-count marks bytes x)
 
 abbrev μ-loop : tie.MeasureT-loop
-μ-loop out₀ at parent depth len run words node start end id stamp touched write pin-node pin-start pin-end pin-count marks bytes x stores a next₀ s₀ out next s = x .stores - s
+μ-loop out₀ at parent depth len run words node start end id stamp touched write pin-node pin-start pin-end pin-count marks bytes x nodes stores a next₀ s₀ out next s = storesIn (x .books) - s
+
+element-copy-out-nodes : tie.Need-element-copy-out-nodes Inv-loop μ-loop
+element-copy-out-nodes c = search needs
+
+element-copy-out-stores : tie.Need-element-copy-out-stores Inv-loop μ-loop
+element-copy-out-stores c = search needs
 
 put-head-requires : tie.Need-put-head-requires Inv-loop μ-loop
-put-head-requires c κs = omega (arith, c .before .before .before .before .before .before .before .before .before .before .before .before .before .before .before .before .before .before .before .before .pre .1)
+put-head-requires c κs = omega (arith, c .before .before .before .before .before .before .before .before .before .before .before .before .before .before .before .before .before .before .before .before .before .before .pre .1)
 
 put-nodes-requires : tie.Need-put-nodes-requires Inv-loop μ-loop
-put-nodes-requires c κs = (nodes-of _ (c .before .before .before .before .before .before .before .before .before .before .before .before .before .before .before .before .before .before .before .before .before .before .before .before .pre .0), omega (arith, c .before .before .before .put-head .ensures .high, c .before .before .before .put-head .kept .0, c .before .before .before .before .before .before .before .before .before .before .before .before .before .before .before .before .before .before .before .before .before .before .before .before .pre .1))
+put-nodes-requires c κs = (nodes-of _ (c .before .before .before .before .before .before .before .before .before .before .before .before .before .before .before .before .before .before .before .before .before .before .before .before .before .before .pre .0), omega (arith, c .before .before .before .put-head .ensures .high, c .before .before .before .put-head .kept .0, c .before .before .before .before .before .before .before .before .before .before .before .before .before .before .before .before .before .before .before .before .before .before .before .before .before .before .pre .1))
 
 loop-holds : tie.Need-loop-holds Inv-loop μ-loop
 loop-holds c = (
@@ -28,8 +35,8 @@ loop-holds c = (
   omega (arith, c .before .before .before .before .before .before .put-head .ensures .high, c .before .before .put-nodes .ensures .high),
   omega arith,
   omega (arith, c .before .before .before .before .before .before .put-head .kept .0, c .before .before .put-nodes .kept .0),
-  omega (arith, c .before .before .before .before .before .before .put-head .kept .0, c .before .before .put-nodes .kept .0, c .before .before .before .before .before .before .before .before .before .before .before .before .before .before .before .before .before .before .before .before .before .before .before .before .before .before .before .pre .1),
-  c .before .before .before .before .before .before .before .before .before .before .before .before .before .before .before .before .before .before .before .before .before .before .before .before .before .before .before .pre .0,
+  omega (arith, c .before .before .before .before .before .before .put-head .kept .0, c .before .before .put-nodes .kept .0, c .before .before .before .before .before .before .before .before .before .before .before .before .before .before .before .before .before .before .before .before .before .before .before .before .before .before .before .before .before .pre .1),
+  c .before .before .before .before .before .before .before .before .before .before .before .before .before .before .before .before .before .before .before .before .before .before .before .before .before .before .before .before .before .pre .0,
 )
 
 put-whole-store-requires : tie.Need-put-whole-store-requires Inv-loop μ-loop
@@ -69,6 +76,8 @@ put-state-spec =
     (tie.spec
     Inv-loop
     μ-loop
+    element-copy-out-nodes
+    element-copy-out-stores
     put-head-requires
     put-nodes-requires
     loop-holds

@@ -1,16 +1,9 @@
 -- `storeinsert::gaps_of` meets its contract: the part of each column is lent on, and its gaps are the store's. Assumes nothing.
 use borrow.Author.Needs.{needs}
 use native.Mathlib.Omega.{arith}
-use mathlib.Core.Path.{refl}
 use Rattle.storeinsert.proofs.Laws.{width, gaps-part}
 use Rattle.storeinsert.proofs.gaps_of.Statement.{statement}
 use Rattle.storeinsert.proofs.gaps_of.Tie as tie
-
-mul-n : tie.Need-mul-n
-mul-n c = search needs
-
-array-read-n : tie.Need-array-read-n
-array-read-n c = search needs
 
 mul-a : tie.Need-mul-a
 mul-a c = search needs
@@ -59,18 +52,16 @@ store-missing-requires c κs = search needs
 
 returns : tie.Need-returns
 returns c =
-    let z = c .before .before .before .before .before .before .before .before in
+    let z = c .before .before .before .before .before .before .before in
     let a = z .args in (
       omega (arith, c .store-missing .ensures .0, z .pre .1),
-      λ st p q r e. gaps-part st (a .s) _ _ (a .sp) (c .store-missing .result) (a .node .now) (a .start .now) (a .end .now) (a .x .records) (width (a .s)) (z .pre .1) refl (c .store-missing .ensures .1) p q r e,
+      λ st p q r e. gaps-part st (a .s) _ (a .n) (a .sp) (c .store-missing .result) (a .node .now) (a .start .now) (a .end .now) (width (a .s)) (z .pre .1) (c .store-missing .ensures .1) p q r e,
     )
 
 pub gaps-of-spec : {M : Type 1} → statement M
 gaps-of-spec =
     tie.close
     (tie.spec
-    mul-n
-    array-read-n
     mul-a
     add-e
     mul-store-missing

@@ -1,42 +1,41 @@
 -- `storeinsert::store_insert` meets its contract: refused for its arguments, given back at capacity 0, or kept. Assumes nothing.
 use mathlib.Core.Path.{refl}
+use native.Mathlib.Omega.{arith}
 use Rattle.evicted.specs.Evicted.{outList}
 use Rattle.answers.specs.Answers.{stateFrom}
-use Rattle.bring.proofs.Laws.{index-fits}
-use Rattle.storeinsert.proofs.Laws.{in-eight, nodes-lent, is-none, argument-refused, store-there, priced, given-back, keep-ready}
+use Rattle.storeinsert.proofs.Laws.{in-eight, nodes-lent, none-read, some-read, argument-refused, store-there, priced, given-back, keep-ready}
 use Rattle.storeinsert.proofs.store_insert.Statement.{statement}
 use Rattle.storeinsert.proofs.store_insert.Tie as tie
 
+element-copy-out-nodes : tie.Need-element-copy-out-nodes
+element-copy-out-nodes c = omega arith
+
+element-copy-out-stores : tie.Need-element-copy-out-stores
+element-copy-out-stores c = omega arith
+
 argument-refusal-requires : tie.Need-argument-refusal-requires
-argument-refusal-requires c κs = nodes-lent (c .before .before .before .before .before .before .before .before .before .before .before .before .before .before .before .before .before .before .before .before .before .before .before .before .pre .0)
+argument-refusal-requires c κs = nodes-lent (c .before .before .before .before .before .before .before .before .before .before .before .before .before .before .before .before .before .before .before .before .before .before .before .before .before .before .pre .0)
 
 returns : tie.Need-returns
 returns c =
-    let z = c .before .before .before .before .before .before .before .before .before .before .before .before .before .before .before .before .before .before .before .before .before .before .before .before .before .before in
-    let st = (stateFrom (z .args .parent .now) (z .args .depth .now) (z .args .len .now) (z .args .run .now) (z .args .words .now) (z .args .node .now) (z .args .start .now) (z .args .end .now) (z .args .id .now) (z .args .stamp .now) (z .args .touched .now) (z .args .write .now) (z .args .pin-node .now) (z .args .pin-start .now) (z .args .pin-end .now) (z .args .pin-count .now) (z .args .marks .now) (z .args .bytes .now) (z .args .x)) in
+    let z = c .before .before .before .before .before .before .before .before .before .before .before .before .before .before .before .before .before .before .before .before .before .before .before .before .before .before .before .before in
+    let st = (stateFrom (z .args .parent .now) (z .args .depth .now) (z .args .len .now) (z .args .run .now) (z .args .words .now) (z .args .node .now) (z .args .start .now) (z .args .end .now) (z .args .id .now) (z .args .stamp .now) (z .args .touched .now) (z .args .write .now) (z .args .pin-node .now) (z .args .pin-start .now) (z .args .pin-end .now) (z .args .pin-count .now) (z .args .marks .now) (z .args .bytes .now) (z .args .t25)) in
     let l = (outList (z .args .out-node .now) (z .args .out-start .now) (z .args .out-end .now) (z .args .out-write .now) (z .args .out-bytes .now) (z .args .out-dead .now)) in
     argument-refused st l (z .args .s) (z .args .sp) (z .args .time) (z .pre .0) (z .pre .1) (z .args .w) (c .before .argument-refusal .result) (c .if1 .taken) (c .before .argument-refusal .ensures st refl refl refl)
 
-mul-if2 : tie.Need-mul-if2
-mul-if2 c =
-    let z = c .before .before .before .before .before .before .before .before .before .before .before .before .before .before .before .before .before .before .before .before .before .before .before .before .before .before .before in
-    let st = (stateFrom (z .args .parent .now) (z .args .depth .now) (z .args .len .now) (z .args .run .now) (z .args .words .now) (z .args .node .now) (z .args .start .now) (z .args .end .now) (z .args .id .now) (z .args .stamp .now) (z .args .touched .now) (z .args .write .now) (z .args .pin-node .now) (z .args .pin-start .now) (z .args .pin-end .now) (z .args .pin-count .now) (z .args .marks .now) (z .args .bytes .now) (z .args .x)) in
+book-of-requires : tie.Need-book-of-requires
+book-of-requires c κs =
+    let z = c .before .before .before .before .before .before .before .before .before .before .before .before .before .before .before .before .before .before .before .before .before .before .before .before .before .before .before .before .before .before in
+    let st = (stateFrom (z .args .parent .now) (z .args .depth .now) (z .args .len .now) (z .args .run .now) (z .args .words .now) (z .args .node .now) (z .args .start .now) (z .args .end .now) (z .args .id .now) (z .args .stamp .now) (z .args .touched .now) (z .args .write .now) (z .args .pin-node .now) (z .args .pin-start .now) (z .args .pin-end .now) (z .args .pin-count .now) (z .args .marks .now) (z .args .bytes .now) (z .args .t25)) in
     let l = (outList (z .args .out-node .now) (z .args .out-start .now) (z .args .out-end .now) (z .args .out-write .now) (z .args .out-bytes .now) (z .args .out-dead .now)) in
-    index-fits (in-eight (z .pre .0) (store-there st l (z .args .s) (z .args .sp) (z .args .time) (z .pre .0) (z .pre .1) (is-none (c .before .if1 .left) (c .before .before .argument-refusal .ensures st refl refl refl))))
-
-array-read-if2 : tie.Need-array-read-if2
-array-read-if2 c =
-    let z = c .before .before .before .before .before .before .before .before .before .before .before .before .before .before .before .before .before .before .before .before .before .before .before .before .before .before .before in
-    let st = (stateFrom (z .args .parent .now) (z .args .depth .now) (z .args .len .now) (z .args .run .now) (z .args .words .now) (z .args .node .now) (z .args .start .now) (z .args .end .now) (z .args .id .now) (z .args .stamp .now) (z .args .touched .now) (z .args .write .now) (z .args .pin-node .now) (z .args .pin-start .now) (z .args .pin-end .now) (z .args .pin-count .now) (z .args .marks .now) (z .args .bytes .now) (z .args .x)) in
-    let l = (outList (z .args .out-node .now) (z .args .out-start .now) (z .args .out-end .now) (z .args .out-write .now) (z .args .out-bytes .now) (z .args .out-dead .now)) in
-    in-eight (z .pre .0) (store-there st l (z .args .s) (z .args .sp) (z .args .time) (z .pre .0) (z .pre .1) (is-none (c .before .if1 .left) (c .before .before .argument-refusal .ensures st refl refl refl)))
+    in-eight (z .pre .0) (store-there st l (z .args .s) (z .args .sp) (z .args .time) (z .pre .0) (z .pre .1) (c .before .before .before .argument-refusal .result) (c .before .before .if1 .left) (c .before .before .before .argument-refusal .ensures st refl refl refl))
 
 give-back-requires : tie.Need-give-back-requires
 give-back-requires c κs =
-    let z = c .before .before .before .before .before .before .before .before .before .before .before .before .before .before .before .before .before .before .before .before .before .before .before .before .before .before .before .before .before .before .before .before .before .before in
-    let st = (stateFrom (z .args .parent .now) (z .args .depth .now) (z .args .len .now) (z .args .run .now) (z .args .words .now) (z .args .node .now) (z .args .start .now) (z .args .end .now) (z .args .id .now) (z .args .stamp .now) (z .args .touched .now) (z .args .write .now) (z .args .pin-node .now) (z .args .pin-start .now) (z .args .pin-end .now) (z .args .pin-count .now) (z .args .marks .now) (z .args .bytes .now) (z .args .x)) in
+    let z = c .before .before .before .before .before .before .before .before .before .before .before .before .before .before .before .before .before .before .before .before .before .before .before .before .before .before .before .before .before .before .before .before .before .before .before .before .before .before .before in
+    let st = (stateFrom (z .args .parent .now) (z .args .depth .now) (z .args .len .now) (z .args .run .now) (z .args .words .now) (z .args .node .now) (z .args .start .now) (z .args .end .now) (z .args .id .now) (z .args .stamp .now) (z .args .touched .now) (z .args .write .now) (z .args .pin-node .now) (z .args .pin-start .now) (z .args .pin-end .now) (z .args .pin-count .now) (z .args .marks .now) (z .args .bytes .now) (z .args .t25)) in
     let l = (outList (z .args .out-node .now) (z .args .out-start .now) (z .args .out-end .now) (z .args .out-write .now) (z .args .out-bytes .now) (z .args .out-dead .now)) in
-    (priced st l (z .args .s) (z .args .sp) (z .args .time) (z .pre .0) (z .pre .1) (is-none (c .before .before .before .before .before .before .before .before .if1 .left) (c .before .before .before .before .before .before .before .before .before .argument-refusal .ensures st refl refl refl)), z .pre .1)
+    (priced st l (z .args .s) (z .args .sp) (z .args .time) (z .pre .0) (z .pre .1) (c .before .before .before .before .before .before .before .before .before .before .before .before .argument-refusal .result) (c .before .before .before .before .before .before .before .before .before .before .before .if1 .left) (c .before .before .before .before .before .before .before .before .before .before .before .before .argument-refusal .ensures st refl refl refl), z .pre .1)
 
 same-length : tie.Need-same-length
 same-length c = c .before .before .before .before .before .before .before .before .before .before .before .before .give-back .kept .0
@@ -58,18 +57,18 @@ same-length-6 c = c .before .before .before .before .before .before .before .bef
 
 returns-2 : tie.Need-returns-2
 returns-2 c =
-    let z = c .before .before .before .before .before .before .before .before .before .before .before .before .before .before .before .before .before .before .before .before .before .before .before .before .before .before .before .before .before .before .before .before .before .before .before .before .before .before .before .before .before .before .before .before .before .before .before in
-    let st = (stateFrom (z .args .parent .now) (z .args .depth .now) (z .args .len .now) (z .args .run .now) (z .args .words .now) (z .args .node .now) (z .args .start .now) (z .args .end .now) (z .args .id .now) (z .args .stamp .now) (z .args .touched .now) (z .args .write .now) (z .args .pin-node .now) (z .args .pin-start .now) (z .args .pin-end .now) (z .args .pin-count .now) (z .args .marks .now) (z .args .bytes .now) (z .args .x)) in
+    let z = c .before .before .before .before .before .before .before .before .before .before .before .before .before .before .before .before .before .before .before .before .before .before .before .before .before .before .before .before .before .before .before .before .before .before .before .before .before .before .before .before .before .before .before .before .before .before .before .before .before .before .before .before in
+    let st = (stateFrom (z .args .parent .now) (z .args .depth .now) (z .args .len .now) (z .args .run .now) (z .args .words .now) (z .args .node .now) (z .args .start .now) (z .args .end .now) (z .args .id .now) (z .args .stamp .now) (z .args .touched .now) (z .args .write .now) (z .args .pin-node .now) (z .args .pin-start .now) (z .args .pin-end .now) (z .args .pin-count .now) (z .args .marks .now) (z .args .bytes .now) (z .args .t25)) in
     let l = (outList (z .args .out-node .now) (z .args .out-start .now) (z .args .out-end .now) (z .args .out-write .now) (z .args .out-bytes .now) (z .args .out-dead .now)) in
     let k = c .before .before .before .before .before .before .before .before .before .before .before .before .give-back in
-    given-back st l (z .args .s) (z .args .sp) (z .args .time) (z .pre .0) (z .pre .1) (is-none (c .before .before .before .before .before .before .before .before .before .before .before .before .before .before .before .before .before .before .before .before .before .if1 .left) (c .before .before .before .before .before .before .before .before .before .before .before .before .before .before .before .before .before .before .before .before .before .before .argument-refusal .ensures st refl refl refl)) (c .before .before .before .before .before .before .before .before .before .before .before .before .before .before .before .before .before .before .before .if2 .taken) (z .args .w) (outList (k .last .0) (k .last .1 .0) (k .last .1 .1 .0) (k .last .1 .1 .1 .0) (k .last .1 .1 .1 .1 .0) (k .last .1 .1 .1 .1 .1 .0)) (k .ensures)
+    given-back st l (z .args .s) (z .args .sp) (z .args .time) (z .pre .0) (z .pre .1) (c .before .before .before .before .before .before .before .before .before .before .before .before .before .before .before .before .before .before .before .before .before .before .before .before .before .argument-refusal .result) (c .before .before .before .before .before .before .before .before .before .before .before .before .before .before .before .before .before .before .before .before .before .before .before .before .if1 .left) (c .before .before .before .before .before .before .before .before .before .before .before .before .before .before .before .before .before .before .before .before .before .before .before .before .before .argument-refusal .ensures st refl refl refl) (none-read (c .before .before .before .before .before .before .before .before .before .before .before .before .before .before .before .before .before .before .before .before .before .book-of .ensures) (c .before .before .before .before .before .before .before .before .before .before .before .before .before .before .before .before .before .before .before .if2 .taken)) (z .args .w) (outList (k .last .0) (k .last .1 .0) (k .last .1 .1 .0) (k .last .1 .1 .1 .0) (k .last .1 .1 .1 .1 .0) (k .last .1 .1 .1 .1 .1 .0)) (k .ensures)
 
 keep-span-requires : tie.Need-keep-span-requires
 keep-span-requires c κs =
-    let z = c .before .before .before .before .before .before .before .before .before .before .before .before .before .before .before .before .before .before .before .before .before .before .before .before .before .before .before .before .before .before .before .before .before .before .before .before .before .before .before .before .before .before in
-    let st = (stateFrom (z .args .parent .now) (z .args .depth .now) (z .args .len .now) (z .args .run .now) (z .args .words .now) (z .args .node .now) (z .args .start .now) (z .args .end .now) (z .args .id .now) (z .args .stamp .now) (z .args .touched .now) (z .args .write .now) (z .args .pin-node .now) (z .args .pin-start .now) (z .args .pin-end .now) (z .args .pin-count .now) (z .args .marks .now) (z .args .bytes .now) (z .args .x)) in
+    let z = c .before .before .before .before .before .before .before .before .before .before .before .before .before .before .before .before .before .before .before .before .before .before .before .before .before .before .before .before .before .before .before .before .before .before .before .before .before .before .before .before .before .before .before .before .before .before .before in
+    let st = (stateFrom (z .args .parent .now) (z .args .depth .now) (z .args .len .now) (z .args .run .now) (z .args .words .now) (z .args .node .now) (z .args .start .now) (z .args .end .now) (z .args .id .now) (z .args .stamp .now) (z .args .touched .now) (z .args .write .now) (z .args .pin-node .now) (z .args .pin-start .now) (z .args .pin-end .now) (z .args .pin-count .now) (z .args .marks .now) (z .args .bytes .now) (z .args .t25)) in
     let l = (outList (z .args .out-node .now) (z .args .out-start .now) (z .args .out-end .now) (z .args .out-write .now) (z .args .out-bytes .now) (z .args .out-dead .now)) in
-    keep-ready st l (z .args .s) (z .args .sp) (z .args .time) (z .pre .0) (z .pre .1) (is-none (c .before .before .before .before .before .before .before .before .before .before .before .before .before .before .before .before .if1 .left) (c .before .before .before .before .before .before .before .before .before .before .before .before .before .before .before .before .before .argument-refusal .ensures st refl refl refl)) (c .before .before .before .before .before .before .before .before .before .before .before .before .before .before .if2 .left)
+    keep-ready st l (z .args .s) (z .args .sp) (z .args .time) (z .pre .0) (z .pre .1) (c .before .before .before .before .before .before .before .before .before .before .before .before .before .before .before .before .before .before .before .before .argument-refusal .result) (c .before .before .before .before .before .before .before .before .before .before .before .before .before .before .before .before .before .before .before .if1 .left) (c .before .before .before .before .before .before .before .before .before .before .before .before .before .before .before .before .before .before .before .before .argument-refusal .ensures st refl refl refl) (some-read (c .before .before .before .before .before .before .before .before .before .before .before .before .before .before .before .before .book-of .ensures) (c .before .before .before .before .before .before .before .before .before .before .before .before .before .before .if2 .left))
 
 same-length-7 : tie.Need-same-length-7
 same-length-7 c = c .before .before .before .before .before .before .before .before .before .before .before .before .before .before .before .before .before .before .before .before .before .before .before .before .before .before .before .before .keep-span .kept .1 .1 .1 .1 .1 .0
@@ -120,10 +119,11 @@ pub store-insert-spec : {M : Type 1} → statement M
 store-insert-spec =
     tie.close
     (tie.spec
+    element-copy-out-nodes
+    element-copy-out-stores
     argument-refusal-requires
     returns
-    mul-if2
-    array-read-if2
+    book-of-requires
     give-back-requires
     same-length
     same-length-2

@@ -1,18 +1,50 @@
 -- `storeremove::store_remove` meets its contract: a refusal's number is the definition's, and where there is none the law `call-done` has what the removal leaves. Assumes nothing.
+use Prim.Native.Nat.{ℕ}
 use borrow.Author.Needs.{needs}
-use mathlib.Core.Path.{refl}
-use Rattle.model.specs.State.{State}
+use native.Mathlib.Omega.{arith}
+use Rattle.model.specs.State.{Tree, Ranges, Pins, State, nodesIn, usedIn}
 use Rattle.lent.specs.Lent.{treeOf, rangesOf, pinsOf, stateOf}
-use Rattle.answers.specs.Answers.{stateFrom}
-use Rattle.storeremove.proofs.Laws.{index-fits, call-refused, store-in, pool-in, freed-in, settle-in, call-done}
+use Rattle.storeremove.proofs.Laws.{in-stores, seen, refused-store, call-refused, pool-in, freed-in, held-most, next-fits, call-done}
 use Rattle.storeremove.proofs.store_remove.Statement.{statement}
 use Rattle.storeremove.proofs.store_remove.Tie as tie
 
+-- the columns at entry
+abbrev T : tie.Start → ℕ → ℕ → Tree
+T z = treeOf (z .args .parent .now) (z .args .depth .now) (z .args .len .now) (z .args .run .now) (z .args .words .now)
+
+abbrev records : tie.Start → Ranges
+records z =
+    rangesOf (z .args .node .now) (z .args .start .now) (z .args .end .now) (z .args .id .now) (z .args .stamp .now) (z .args .touched .now)
+    (z .args .write .now)
+
+abbrev entries : tie.Start → Pins
+entries z = pinsOf (z .args .pin-node .now) (z .args .pin-start .now) (z .args .pin-end .now) (z .args .pin-count .now)
+
+abbrev state : tie.Start → State
+state z = stateOf (T z (nodesIn (z .args .t20 .books)) (usedIn (z .args .t20 .books))) (records z) (entries z) (z .args .marks .now) (z .args .bytes .now) (z .args .t20 .books)
+
+element-copy-out-stores : tie.Need-element-copy-out-stores
+element-copy-out-stores c = search needs
+
+returns : tie.Need-returns
+returns c =
+    let z = c .before .before .before .before .before .before .before .before .before .before .before .before .before .before .before .before .before .before .before .before .before in
+    call-refused (state z) (z .args .list .now) (z .args .s) (z .args .sp) 2 (refused-store (state z) (z .args .list .now) (z .args .s) (z .args .sp) (z .pre .0) (z .pre .1) (c .if1 .taken)) (λ e. omega arith)
+
+element-copy-out-nodes : tie.Need-element-copy-out-nodes
+element-copy-out-nodes c = search needs
+
+element-copy-out-next : tie.Need-element-copy-out-next
+element-copy-out-next c = search needs
+
+element-copy-out-stalls : tie.Need-element-copy-out-stalls
+element-copy-out-stalls c = search needs
+
+book-of-requires : tie.Need-book-of-requires
+book-of-requires c κs = let z = c .before .before .before .before .before .before .before .before .before .before .before .before .before .before .before .before .before .before .before .before .before .before .before .before .before .before in in-stores (state z) (z .args .s) (z .pre .0) (c .before .before .before .before .before .if1 .left)
+
 refusal-requires : tie.Need-refusal-requires
-refusal-requires c κs =
-    let z = c .before .before .before .before .before .before .before .before .before .before .before .before .before .before .before .before .before .before .before .before .before .before in
-    let st : State = stateFrom (z .args .parent .now) (z .args .depth .now) (z .args .len .now) (z .args .run .now) (z .args .words .now) (z .args .node .now) (z .args .start .now) (z .args .end .now) (z .args .id .now) (z .args .stamp .now) (z .args .touched .now) (z .args .write .now) (z .args .pin-node .now) (z .args .pin-start .now) (z .args .pin-end .now) (z .args .pin-count .now) (z .args .marks .now) (z .args .bytes .now) (z .args .x) in
-    (st, record { sound = z .pre .0; lens = refl; count = refl; nodes = refl; starts = refl; ends = refl; books = refl })
+refusal-requires c κs = let z = c .before .before .before .before .before .before .before .before .before .before .before .before .before .before .before .before .before .before .before .before .before .before .before .before .before .before .before .before .before .before in (state z, seen (state z) (z .args .s) (z .pre .0) (c .before .before .before .before .before .before .before .before .before .if1 .left) (c .before .before .before .book-of .result) (c .before .before .before .book-of .ensures))
 
 same-length : tie.Need-same-length
 same-length c = search needs
@@ -23,93 +55,89 @@ same-length-2 c = search needs
 same-length-3 : tie.Need-same-length-3
 same-length-3 c = search needs
 
-returns : tie.Need-returns
-returns c =
-    let z = c .before .before .before .before .before .before .before .before .before .before .before .before .before .before .before .before .before .before .before .before .before .before .before .before in
-    let st : State = stateFrom (z .args .parent .now) (z .args .depth .now) (z .args .len .now) (z .args .run .now) (z .args .words .now) (z .args .node .now) (z .args .start .now) (z .args .end .now) (z .args .id .now) (z .args .stamp .now) (z .args .touched .now) (z .args .write .now) (z .args .pin-node .now) (z .args .pin-start .now) (z .args .pin-end .now) (z .args .pin-count .now) (z .args .marks .now) (z .args .bytes .now) (z .args .x) in
-    let f = c .before .refusal .ensures .0 st (z .args .list .now) (record { sound = z .pre .0; lens = refl; count = refl; nodes = refl; starts = refl; ends = refl; books = refl }) (z .pre .1) in
-    call-refused st (z .args .list .now) (z .args .s) (z .args .sp) (c .before .refusal .result) f (c .if1 .taken)
-
-mul-remove-pools : tie.Need-mul-remove-pools
-mul-remove-pools c =
-    let z = c .before .before .before .before .before .before .before .before .before .before .before .before .before .before .before .before .before .before .before .before .before .before .before .before .before .before .before .before .before .before .before .before .before .before in
-    let st : State = stateFrom (z .args .parent .now) (z .args .depth .now) (z .args .len .now) (z .args .run .now) (z .args .words .now) (z .args .node .now) (z .args .start .now) (z .args .end .now) (z .args .id .now) (z .args .stamp .now) (z .args .touched .now) (z .args .write .now) (z .args .pin-node .now) (z .args .pin-start .now) (z .args .pin-end .now) (z .args .pin-count .now) (z .args .marks .now) (z .args .bytes .now) (z .args .x) in
-    let f = c .before .before .before .before .before .before .before .before .before .before .before .refusal .ensures .0 st (z .args .list .now) (record { sound = z .pre .0; lens = refl; count = refl; nodes = refl; starts = refl; ends = refl; books = refl }) (z .pre .1) in
-    index-fits (store-in st (z .args .list .now) (z .args .s) (z .args .sp) (z .pre .0) (z .pre .1) (c .before .before .before .before .before .before .before .before .before .before .before .refusal .result) f (c .before .before .before .before .before .before .before .before .before .before .if1 .left))
-
-array-read-remove-pools : tie.Need-array-read-remove-pools
-array-read-remove-pools c =
-    let z = c .before .before .before .before .before .before .before .before .before .before .before .before .before .before .before .before .before .before .before .before .before .before .before .before .before .before .before .before .before .before .before .before .before .before in
-    let st : State = stateFrom (z .args .parent .now) (z .args .depth .now) (z .args .len .now) (z .args .run .now) (z .args .words .now) (z .args .node .now) (z .args .start .now) (z .args .end .now) (z .args .id .now) (z .args .stamp .now) (z .args .touched .now) (z .args .write .now) (z .args .pin-node .now) (z .args .pin-start .now) (z .args .pin-end .now) (z .args .pin-count .now) (z .args .marks .now) (z .args .bytes .now) (z .args .x) in
-    let f = c .before .before .before .before .before .before .before .before .before .before .before .refusal .ensures .0 st (z .args .list .now) (record { sound = z .pre .0; lens = refl; count = refl; nodes = refl; starts = refl; ends = refl; books = refl }) (z .pre .1) in
-    store-in st (z .args .list .now) (z .args .s) (z .args .sp) (z .pre .0) (z .pre .1) (c .before .before .before .before .before .before .before .before .before .before .before .refusal .result) f (c .before .before .before .before .before .before .before .before .before .before .if1 .left)
+returns-2 : tie.Need-returns-2
+returns-2 c = let z = c .before .before .before .before .before .before .before .before .before .before .before .before .before .before .before .before .before .before .before .before .before .before .before .before .before .before .before .before .before .before .before .before in call-refused (state z) (z .args .list .now) (z .args .s) (z .args .sp) (c .before .refusal .result) (c .before .refusal .ensures .0 (state z) (z .args .list .now) (seen (state z) (z .args .s) (z .pre .0) (c .before .before .before .before .before .before .before .before .before .before .before .if1 .left) (c .before .before .before .before .before .book-of .result) (c .before .before .before .before .before .book-of .ensures)) (z .pre .1)) (c .if2 .taken)
 
 remove-pools-requires : tie.Need-remove-pools-requires
-remove-pools-requires c κs =
-    let z = c .before .before .before .before .before .before .before .before .before .before .before .before .before .before .before .before .before .before .before .before .before .before .before .before .before .before .before .before .before .before .before .before .before .before in
-    let st : State = stateFrom (z .args .parent .now) (z .args .depth .now) (z .args .len .now) (z .args .run .now) (z .args .words .now) (z .args .node .now) (z .args .start .now) (z .args .end .now) (z .args .id .now) (z .args .stamp .now) (z .args .touched .now) (z .args .write .now) (z .args .pin-node .now) (z .args .pin-start .now) (z .args .pin-end .now) (z .args .pin-count .now) (z .args .marks .now) (z .args .bytes .now) (z .args .x) in
-    let f = c .before .before .before .before .before .before .before .before .before .before .before .refusal .ensures .0 st (z .args .list .now) (record { sound = z .pre .0; lens = refl; count = refl; nodes = refl; starts = refl; ends = refl; books = refl }) (z .pre .1) in
-    pool-in st (z .args .list .now) (z .args .s) (z .args .sp) (z .pre .0) (z .pre .1) (c .before .before .before .before .before .before .before .before .before .before .before .refusal .result) f (c .before .before .before .before .before .before .before .before .before .before .if1 .left) (c .before .before .before .before .before .before .before .before .before .before .before .refusal .ensures .1 (c .before .before .before .before .before .before .before .before .before .before .if1 .left))
+remove-pools-requires c κs = let z = c .before .before .before .before .before .before .before .before .before .before .before .before .before .before .before .before .before .before .before .before .before .before .before .before .before .before .before .before .before .before .before .before .before .before .before .before .before .before .before .before .before in pool-in (state z) (z .args .list .now) (z .args .s) (z .args .sp) (z .pre .0) (z .pre .1) (c .before .before .before .before .before .before .before .before .before .before .refusal .result) (c .before .before .before .before .before .before .before .before .before .before .refusal .ensures .0 (state z) (z .args .list .now) (seen (state z) (z .args .s) (z .pre .0) (c .before .before .before .before .before .before .before .before .before .before .before .before .before .before .before .before .before .before .before .before .if1 .left) (c .before .before .before .before .before .before .before .before .before .before .before .before .before .before .book-of .result) (c .before .before .before .before .before .before .before .before .before .before .before .before .before .before .book-of .ensures)) (z .pre .1)) (c .before .before .before .before .before .before .before .before .before .if2 .left) (c .before .before .before .before .before .before .before .before .before .before .before .before .before .before .book-of .result) (c .before .before .before .before .before .before .before .before .before .before .before .before .before .before .book-of .ensures) (c .before .before .before .before .before .before .before .before .before .before .refusal .ensures .1 (c .before .before .before .before .before .before .before .before .before .if2 .left))
 
-settle-requires : tie.Need-settle-requires
-settle-requires c κs =
-    let z = c .before .before .before .before .before .before .before .before .before .before .before .before .before .before .before .before .before .before .before .before .before .before .before .before .before .before .before .before .before .before .before .before .before .before .before .before .before .before .before .before .before .before .before .before .before .before .before .before .before .before .before .before .before in
-    let st : State = stateFrom (z .args .parent .now) (z .args .depth .now) (z .args .len .now) (z .args .run .now) (z .args .words .now) (z .args .node .now) (z .args .start .now) (z .args .end .now) (z .args .id .now) (z .args .stamp .now) (z .args .touched .now) (z .args .write .now) (z .args .pin-node .now) (z .args .pin-start .now) (z .args .pin-end .now) (z .args .pin-count .now) (z .args .marks .now) (z .args .bytes .now) (z .args .x) in
-    let f = c .before .before .before .before .before .before .before .before .before .before .before .before .before .before .before .before .before .before .before .before .before .before .before .before .before .before .before .before .before .before .refusal .ensures .0 st (z .args .list .now) (record { sound = z .pre .0; lens = refl; count = refl; nodes = refl; starts = refl; ends = refl; books = refl }) (z .pre .1) in
-    let k = c .before .before .before .before .before .before .before .before .before .before .before .before .before .before .before .before .before .before .remove-pools in
-    settle-in st (z .args .list .now) (z .args .s) (z .args .sp) (z .pre .0) (z .pre .1) (c .before .before .before .before .before .before .before .before .before .before .before .before .before .before .before .before .before .before .before .before .before .before .before .before .before .before .before .before .before .before .refusal .result) f (c .before .before .before .before .before .before .before .before .before .before .before .before .before .before .before .before .before .before .before .before .before .before .before .before .before .before .before .before .before .if1 .left) (freed-in st (z .args .list .now) (z .args .s) (z .args .sp) (z .pre .0) (z .pre .1) (c .before .before .before .before .before .before .before .before .before .before .before .before .before .before .before .before .before .before .before .before .before .before .before .before .before .before .before .before .before .before .refusal .result) f (c .before .before .before .before .before .before .before .before .before .before .before .before .before .before .before .before .before .before .before .before .before .before .before .before .before .before .before .before .before .if1 .left) {c = rangesOf (k .last .0) (k .last .1 .0) (k .last .1 .1 .0) (k .last .1 .1 .1 .0) (k .last .1 .1 .1 .1 .0) (k .last .1 .1 .1 .1 .1 .0) (k .last .1 .1 .1 .1 .1 .1 .0)} {ms = k .last .1 .1 .1 .1 .1 .1 .1 .0} {ls = k .last .1 .1 .1 .1 .1 .1 .1 .1 .0} {r = k .result} (k .ensures))
+sub-b : tie.Need-sub-b
+sub-b c =
+    let z = c .before .before .before .before .before .before .before .before .before .before .before .before .before .before .before .before .before .before .before .before .before .before .before .before .before .before .before .before .before .before .before .before .before .before .before .before .before .before .before .before .before .before .before .before .before .before .before .before .before .before .before .before .before .before .before .before .before .before .before .before .before .before in
+    let k = c .before .before .before .before .before .before .before .before .before .before .before .before .before .before .before .before .before .before .before .before .remove-pools in
+    held-most (state z) (z .args .list .now) (z .args .s) (z .args .sp) (z .pre .0) (z .pre .1) (c .before .before .before .before .before .before .before .before .before .before .before .before .before .before .before .before .before .before .before .before .before .before .before .before .before .before .before .before .before .before .before .refusal .result) (c .before .before .before .before .before .before .before .before .before .before .before .before .before .before .before .before .before .before .before .before .before .before .before .before .before .before .before .before .before .before .before .refusal .ensures .0 (state z) (z .args .list .now) (seen (state z) (z .args .s) (z .pre .0) (c .before .before .before .before .before .before .before .before .before .before .before .before .before .before .before .before .before .before .before .before .before .before .before .before .before .before .before .before .before .before .before .before .before .before .before .before .before .before .before .before .before .if1 .left) (c .before .before .before .before .before .before .before .before .before .before .before .before .before .before .before .before .before .before .before .before .before .before .before .before .before .before .before .before .before .before .before .before .before .before .before .book-of .result) (c .before .before .before .before .before .before .before .before .before .before .before .before .before .before .before .before .before .before .before .before .before .before .before .before .before .before .before .before .before .before .before .before .before .before .before .book-of .ensures)) (z .pre .1)) (c .before .before .before .before .before .before .before .before .before .before .before .before .before .before .before .before .before .before .before .before .before .before .before .before .before .before .before .before .before .before .if2 .left) (c .before .before .before .before .before .before .before .before .before .before .before .before .before .before .before .before .before .before .before .before .before .before .before .before .before .before .before .before .before .before .before .before .before .before .before .book-of .result) (c .before .before .before .before .before .before .before .before .before .before .before .before .before .before .before .before .before .before .before .before .before .before .before .before .before .before .before .before .before .before .before .before .before .before .before .book-of .ensures) (freed-in (state z) (z .args .list .now) (z .args .s) (z .args .sp) (z .pre .0) (z .pre .1) (c .before .before .before .before .before .before .before .before .before .before .before .before .before .before .before .before .before .before .before .before .before .before .before .before .before .before .before .before .before .before .before .refusal .result) (c .before .before .before .before .before .before .before .before .before .before .before .before .before .before .before .before .before .before .before .before .before .before .before .before .before .before .before .before .before .before .before .refusal .ensures .0 (state z) (z .args .list .now) (seen (state z) (z .args .s) (z .pre .0) (c .before .before .before .before .before .before .before .before .before .before .before .before .before .before .before .before .before .before .before .before .before .before .before .before .before .before .before .before .before .before .before .before .before .before .before .before .before .before .before .before .before .if1 .left) (c .before .before .before .before .before .before .before .before .before .before .before .before .before .before .before .before .before .before .before .before .before .before .before .before .before .before .before .before .before .before .before .before .before .before .before .book-of .result) (c .before .before .before .before .before .before .before .before .before .before .before .before .before .before .before .before .before .before .before .before .before .before .before .before .before .before .before .before .before .before .before .before .before .before .before .book-of .ensures)) (z .pre .1)) (c .before .before .before .before .before .before .before .before .before .before .before .before .before .before .before .before .before .before .before .before .before .before .before .before .before .before .before .before .before .before .if2 .left) (c .before .before .before .before .before .before .before .before .before .before .before .before .before .before .before .before .before .before .before .before .before .before .before .before .before .before .before .before .before .before .before .before .before .before .before .book-of .result) (c .before .before .before .before .before .before .before .before .before .before .before .before .before .before .before .before .before .before .before .before .before .before .before .before .before .before .before .before .before .before .before .before .before .before .before .book-of .ensures) {c = rangesOf (k .last .0) (k .last .1 .0) (k .last .1 .1 .0) (k .last .1 .1 .1 .0) (k .last .1 .1 .1 .1 .0) (k .last .1 .1 .1 .1 .1 .0) (k .last .1 .1 .1 .1 .1 .1 .0)} {ms = k .last .1 .1 .1 .1 .1 .1 .1 .0} {ls = k .last .1 .1 .1 .1 .1 .1 .1 .1 .0} {r = k .result} (k .ensures))
+
+version-past-requires : tie.Need-version-past-requires
+version-past-requires c κs = tt
+
+put-book-requires : tie.Need-put-book-requires
+put-book-requires c κs = let z = c .before .before .before .before .before .before .before .before .before .before .before .before .before .before .before .before .before .before .before .before .before .before .before .before .before .before .before .before .before .before .before .before .before .before .before .before .before .before .before .before .before .before .before .before .before .before .before .before .before .before .before .before .before .before .before .before .before .before .before .before .before .before .before .before in in-stores (state z) (z .args .s) (z .pre .0) (c .before .before .before .before .before .before .before .before .before .before .before .before .before .before .before .before .before .before .before .before .before .before .before .before .before .before .before .before .before .before .before .before .before .before .before .before .before .before .before .before .before .before .before .if1 .left)
+
+add-put-next : tie.Need-add-put-next
+add-put-next c =
+    let z = c .before .before .before .before .before .before .before .before .before .before .before .before .before .before .before .before .before .before .before .before .before .before .before .before .before .before .before .before .before .before .before .before .before .before .before .before .before .before .before .before .before .before .before .before .before .before .before .before .before .before .before .before .before .before .before .before .before .before .before .before .before .before .before .before .before .before in
+    let k = c .before .before .before .before .before .before .before .before .before .before .before .before .before .before .before .before .before .before .before .before .before .before .before .before .remove-pools in
+    next-fits (state z) (z .args .list .now) (z .args .s) (z .args .sp) (z .pre .0) (z .pre .1) (c .before .before .before .before .before .before .before .before .before .before .before .before .before .before .before .before .before .before .before .before .before .before .before .before .before .before .before .before .before .before .before .before .before .before .before .refusal .result) (c .before .before .before .before .before .before .before .before .before .before .before .before .before .before .before .before .before .before .before .before .before .before .before .before .before .before .before .before .before .before .before .before .before .before .before .refusal .ensures .0 (state z) (z .args .list .now) (seen (state z) (z .args .s) (z .pre .0) (c .before .before .before .before .before .before .before .before .before .before .before .before .before .before .before .before .before .before .before .before .before .before .before .before .before .before .before .before .before .before .before .before .before .before .before .before .before .before .before .before .before .before .before .before .before .if1 .left) (c .before .before .before .before .before .before .before .before .before .before .before .before .before .before .before .before .before .before .before .before .before .before .before .before .before .before .before .before .before .before .before .before .before .before .before .before .before .before .before .book-of .result) (c .before .before .before .before .before .before .before .before .before .before .before .before .before .before .before .before .before .before .before .before .before .before .before .before .before .before .before .before .before .before .before .before .before .before .before .before .before .before .before .book-of .ensures)) (z .pre .1)) (c .before .before .before .before .before .before .before .before .before .before .before .before .before .before .before .before .before .before .before .before .before .before .before .before .before .before .before .before .before .before .before .before .before .before .if2 .left) (c .before .before .before .before .before .before .before .before .before .before .before .before .before .before .before .before .before .before .before .before .before .before .before .before .before .before .before .before .before .before .before .before .before .before .before .before .before .before .before .book-of .result) (c .before .before .before .before .before .before .before .before .before .before .before .before .before .before .before .before .before .before .before .before .before .before .before .before .before .before .before .before .before .before .before .before .before .before .before .before .before .before .before .book-of .ensures) (freed-in (state z) (z .args .list .now) (z .args .s) (z .args .sp) (z .pre .0) (z .pre .1) (c .before .before .before .before .before .before .before .before .before .before .before .before .before .before .before .before .before .before .before .before .before .before .before .before .before .before .before .before .before .before .before .before .before .before .before .refusal .result) (c .before .before .before .before .before .before .before .before .before .before .before .before .before .before .before .before .before .before .before .before .before .before .before .before .before .before .before .before .before .before .before .before .before .before .before .refusal .ensures .0 (state z) (z .args .list .now) (seen (state z) (z .args .s) (z .pre .0) (c .before .before .before .before .before .before .before .before .before .before .before .before .before .before .before .before .before .before .before .before .before .before .before .before .before .before .before .before .before .before .before .before .before .before .before .before .before .before .before .before .before .before .before .before .before .if1 .left) (c .before .before .before .before .before .before .before .before .before .before .before .before .before .before .before .before .before .before .before .before .before .before .before .before .before .before .before .before .before .before .before .before .before .before .before .before .before .before .before .book-of .result) (c .before .before .before .before .before .before .before .before .before .before .before .before .before .before .before .before .before .before .before .before .before .before .before .before .before .before .before .before .before .before .before .before .before .before .before .before .before .before .before .book-of .ensures)) (z .pre .1)) (c .before .before .before .before .before .before .before .before .before .before .before .before .before .before .before .before .before .before .before .before .before .before .before .before .before .before .before .before .before .before .before .before .before .before .if2 .left) (c .before .before .before .before .before .before .before .before .before .before .before .before .before .before .before .before .before .before .before .before .before .before .before .before .before .before .before .before .before .before .before .before .before .before .before .before .before .before .before .book-of .result) (c .before .before .before .before .before .before .before .before .before .before .before .before .before .before .before .before .before .before .before .before .before .before .before .before .before .before .before .before .before .before .before .before .before .before .before .before .before .before .before .book-of .ensures) {c = rangesOf (k .last .0) (k .last .1 .0) (k .last .1 .1 .0) (k .last .1 .1 .1 .0) (k .last .1 .1 .1 .1 .0) (k .last .1 .1 .1 .1 .1 .0) (k .last .1 .1 .1 .1 .1 .1 .0)} {ms = k .last .1 .1 .1 .1 .1 .1 .1 .0} {ls = k .last .1 .1 .1 .1 .1 .1 .1 .1 .0} {r = k .result} (k .ensures))
+
+put-next-requires : tie.Need-put-next-requires
+put-next-requires c κs = tt
 
 same-length-4 : tie.Need-same-length-4
-same-length-4 c = c .before .before .before .before .before .before .before .before .before .before .before .before .before .before .before .before .before .before .before .remove-pools .kept .0
+same-length-4 c = c .before .before .before .before .before .before .before .before .before .before .before .before .before .before .before .before .before .before .before .before .before .before .before .before .before .remove-pools .kept .0
 
 same-length-5 : tie.Need-same-length-5
-same-length-5 c = c .before .before .before .before .before .before .before .before .before .before .before .before .before .before .before .before .before .before .before .remove-pools .kept .1 .0
+same-length-5 c = c .before .before .before .before .before .before .before .before .before .before .before .before .before .before .before .before .before .before .before .before .before .before .before .before .before .remove-pools .kept .1 .0
 
 same-length-6 : tie.Need-same-length-6
-same-length-6 c = c .before .before .before .before .before .before .before .before .before .before .before .before .before .before .before .before .before .before .before .remove-pools .kept .1 .1 .0
+same-length-6 c = c .before .before .before .before .before .before .before .before .before .before .before .before .before .before .before .before .before .before .before .before .before .before .before .before .before .remove-pools .kept .1 .1 .0
 
 same-length-7 : tie.Need-same-length-7
-same-length-7 c = c .before .before .before .before .before .before .before .before .before .before .before .before .before .before .before .before .before .before .before .remove-pools .kept .1 .1 .1 .0
+same-length-7 c = c .before .before .before .before .before .before .before .before .before .before .before .before .before .before .before .before .before .before .before .before .before .before .before .before .before .remove-pools .kept .1 .1 .1 .0
 
 same-length-8 : tie.Need-same-length-8
-same-length-8 c = c .before .before .before .before .before .before .before .before .before .before .before .before .before .before .before .before .before .before .before .remove-pools .kept .1 .1 .1 .1 .0
+same-length-8 c = c .before .before .before .before .before .before .before .before .before .before .before .before .before .before .before .before .before .before .before .before .before .before .before .before .before .remove-pools .kept .1 .1 .1 .1 .0
 
 same-length-9 : tie.Need-same-length-9
-same-length-9 c = c .before .before .before .before .before .before .before .before .before .before .before .before .before .before .before .before .before .before .before .remove-pools .kept .1 .1 .1 .1 .1 .0
+same-length-9 c = c .before .before .before .before .before .before .before .before .before .before .before .before .before .before .before .before .before .before .before .before .before .before .before .before .before .remove-pools .kept .1 .1 .1 .1 .1 .0
 
 same-length-10 : tie.Need-same-length-10
-same-length-10 c = c .before .before .before .before .before .before .before .before .before .before .before .before .before .before .before .before .before .before .before .remove-pools .kept .1 .1 .1 .1 .1 .1 .0
+same-length-10 c = c .before .before .before .before .before .before .before .before .before .before .before .before .before .before .before .before .before .before .before .before .before .before .before .before .before .remove-pools .kept .1 .1 .1 .1 .1 .1 .0
 
 same-length-11 : tie.Need-same-length-11
-same-length-11 c = c .before .before .before .before .before .before .before .before .before .before .before .before .before .before .before .before .before .before .before .remove-pools .kept .1 .1 .1 .1 .1 .1 .1 .0
+same-length-11 c = c .before .before .before .before .before .before .before .before .before .before .before .before .before .before .before .before .before .before .before .before .before .before .before .before .before .remove-pools .kept .1 .1 .1 .1 .1 .1 .1 .0
 
 same-length-12 : tie.Need-same-length-12
-same-length-12 c = c .before .before .before .before .before .before .before .before .before .before .before .before .before .before .before .before .before .before .before .remove-pools .kept .1 .1 .1 .1 .1 .1 .1 .1 .0
+same-length-12 c = c .before .before .before .before .before .before .before .before .before .before .before .before .before .before .before .before .before .before .before .before .before .before .before .before .before .remove-pools .kept .1 .1 .1 .1 .1 .1 .1 .1 .0
 
-returns-2 : tie.Need-returns-2
-returns-2 c =
-    let z = c .before .before .before .before .before .before .before .before .before .before .before .before .before .before .before .before .before .before .before .before .before .before .before .before .before .before .before .before .before .before .before .before .before .before .before .before .before .before .before .before .before .before .before .before .before .before .before .before .before .before .before .before .before .before in
-    let st : State = stateFrom (z .args .parent .now) (z .args .depth .now) (z .args .len .now) (z .args .run .now) (z .args .words .now) (z .args .node .now) (z .args .start .now) (z .args .end .now) (z .args .id .now) (z .args .stamp .now) (z .args .touched .now) (z .args .write .now) (z .args .pin-node .now) (z .args .pin-start .now) (z .args .pin-end .now) (z .args .pin-count .now) (z .args .marks .now) (z .args .bytes .now) (z .args .x) in
-    let f = c .before .before .before .before .before .before .before .before .before .before .before .before .before .before .before .before .before .before .before .before .before .before .before .before .before .before .before .before .before .before .before .refusal .ensures .0 st (z .args .list .now) (record { sound = z .pre .0; lens = refl; count = refl; nodes = refl; starts = refl; ends = refl; books = refl }) (z .pre .1) in
-    let k = c .before .before .before .before .before .before .before .before .before .before .before .before .before .before .before .before .before .before .before .remove-pools in
-    let y = c .settle in
-    call-done st (z .args .list .now) (z .args .s) (z .args .sp) (z .pre .0) (z .pre .1) (c .before .before .before .before .before .before .before .before .before .before .before .before .before .before .before .before .before .before .before .before .before .before .before .before .before .before .before .before .before .before .before .refusal .result) f (c .before .before .before .before .before .before .before .before .before .before .before .before .before .before .before .before .before .before .before .before .before .before .before .before .before .before .before .before .before .before .if1 .left) (freed-in st (z .args .list .now) (z .args .s) (z .args .sp) (z .pre .0) (z .pre .1) (c .before .before .before .before .before .before .before .before .before .before .before .before .before .before .before .before .before .before .before .before .before .before .before .before .before .before .before .before .before .before .before .refusal .result) f (c .before .before .before .before .before .before .before .before .before .before .before .before .before .before .before .before .before .before .before .before .before .before .before .before .before .before .before .before .before .before .if1 .left) {c = rangesOf (k .last .0) (k .last .1 .0) (k .last .1 .1 .0) (k .last .1 .1 .1 .0) (k .last .1 .1 .1 .1 .0) (k .last .1 .1 .1 .1 .1 .0) (k .last .1 .1 .1 .1 .1 .1 .0)} {ms = k .last .1 .1 .1 .1 .1 .1 .1 .0} {ls = k .last .1 .1 .1 .1 .1 .1 .1 .1 .0} {r = k .result} (k .ensures)) _
-    (λ j. stateOf (treeOf (z .args .parent .now) (z .args .depth .now) (z .args .len .now) (z .args .run .now) (z .args .words .now) (y .ensures .nodes j) (y .ensures .used j)) (rangesOf (k .last .0) (k .last .1 .0) (k .last .1 .1 .0) (k .last .1 .1 .1 .0) (k .last .1 .1 .1 .1 .0) (k .last .1 .1 .1 .1 .1 .0) (k .last .1 .1 .1 .1 .1 .1 .0)) (pinsOf (z .args .pin-node .now) (z .args .pin-start .now) (z .args .pin-end .now) (z .args .pin-count .now)) (k .last .1 .1 .1 .1 .1 .1 .1 .0) (z .args .bytes .now) (y .result))
-    (y .ensures .books)
+returns-3 : tie.Need-returns-3
+returns-3 c =
+    let z = c .before .before .before .before .before .before .before .before .before .before .before .before .before .before .before .before .before .before .before .before .before .before .before .before .before .before .before .before .before .before .before .before .before .before .before .before .before .before .before .before .before .before .before .before .before .before .before .before .before .before .before .before .before .before .before .before .before .before .before .before .before .before .before .before .before .before .before in
+    let k = c .before .before .before .before .before .before .before .before .before .before .before .before .before .before .before .before .before .before .before .before .before .before .before .before .before .remove-pools in
+    call-done (T z) (records z) (entries z) (z .args .marks .now) (z .args .bytes .now) (z .args .t20 .books) (z .args .list .now) (z .args .s) (z .args .sp) (z .pre .0) (z .pre .1) (c .before .before .before .before .before .before .before .before .before .before .before .before .before .before .before .before .before .before .before .before .before .before .before .before .before .before .before .before .before .before .before .before .before .before .before .before .refusal .result) (c .before .before .before .before .before .before .before .before .before .before .before .before .before .before .before .before .before .before .before .before .before .before .before .before .before .before .before .before .before .before .before .before .before .before .before .before .refusal .ensures .0 (state z) (z .args .list .now) (seen (state z) (z .args .s) (z .pre .0) (c .before .before .before .before .before .before .before .before .before .before .before .before .before .before .before .before .before .before .before .before .before .before .before .before .before .before .before .before .before .before .before .before .before .before .before .before .before .before .before .before .before .before .before .before .before .before .if1 .left) (c .before .before .before .before .before .before .before .before .before .before .before .before .before .before .before .before .before .before .before .before .before .before .before .before .before .before .before .before .before .before .before .before .before .before .before .before .before .before .before .before .book-of .result) (c .before .before .before .before .before .before .before .before .before .before .before .before .before .before .before .before .before .before .before .before .before .before .before .before .before .before .before .before .before .before .before .before .before .before .before .before .before .before .before .before .book-of .ensures)) (z .pre .1)) (c .before .before .before .before .before .before .before .before .before .before .before .before .before .before .before .before .before .before .before .before .before .before .before .before .before .before .before .before .before .before .before .before .before .before .before .if2 .left) (c .before .before .before .before .before .before .before .before .before .before .before .before .before .before .before .before .before .before .before .before .before .before .before .before .before .before .before .before .before .before .before .before .before .before .before .before .before .before .before .before .book-of .result) (c .before .before .before .before .before .before .before .before .before .before .before .before .before .before .before .before .before .before .before .before .before .before .before .before .before .before .before .before .before .before .before .before .before .before .before .before .before .before .before .before .book-of .ensures)
+    (freed-in (state z) (z .args .list .now) (z .args .s) (z .args .sp) (z .pre .0) (z .pre .1) (c .before .before .before .before .before .before .before .before .before .before .before .before .before .before .before .before .before .before .before .before .before .before .before .before .before .before .before .before .before .before .before .before .before .before .before .before .refusal .result) (c .before .before .before .before .before .before .before .before .before .before .before .before .before .before .before .before .before .before .before .before .before .before .before .before .before .before .before .before .before .before .before .before .before .before .before .before .refusal .ensures .0 (state z) (z .args .list .now) (seen (state z) (z .args .s) (z .pre .0) (c .before .before .before .before .before .before .before .before .before .before .before .before .before .before .before .before .before .before .before .before .before .before .before .before .before .before .before .before .before .before .before .before .before .before .before .before .before .before .before .before .before .before .before .before .before .before .if1 .left) (c .before .before .before .before .before .before .before .before .before .before .before .before .before .before .before .before .before .before .before .before .before .before .before .before .before .before .before .before .before .before .before .before .before .before .before .before .before .before .before .before .book-of .result) (c .before .before .before .before .before .before .before .before .before .before .before .before .before .before .before .before .before .before .before .before .before .before .before .before .before .before .before .before .before .before .before .before .before .before .before .before .before .before .before .before .book-of .ensures)) (z .pre .1)) (c .before .before .before .before .before .before .before .before .before .before .before .before .before .before .before .before .before .before .before .before .before .before .before .before .before .before .before .before .before .before .before .before .before .before .before .if2 .left) (c .before .before .before .before .before .before .before .before .before .before .before .before .before .before .before .before .before .before .before .before .before .before .before .before .before .before .before .before .before .before .before .before .before .before .before .before .before .before .before .before .book-of .result) (c .before .before .before .before .before .before .before .before .before .before .before .before .before .before .before .before .before .before .before .before .before .before .before .before .before .before .before .before .before .before .before .before .before .before .before .before .before .before .before .before .book-of .ensures) {c = rangesOf (k .last .0) (k .last .1 .0) (k .last .1 .1 .0) (k .last .1 .1 .1 .0) (k .last .1 .1 .1 .1 .0) (k .last .1 .1 .1 .1 .1 .0) (k .last .1 .1 .1 .1 .1 .1 .0)} {ms = k .last .1 .1 .1 .1 .1 .1 .1 .0} {ls = k .last .1 .1 .1 .1 .1 .1 .1 .1 .0} {r = k .result} (k .ensures))
+    (c .before .before .before .before .version-past .result) (c .before .before .before .before .version-past .ensures) (c .before .before .put-book .last .0) (c .put-next .last .0) (c .before .before .put-book .ensures) (c .put-next .ensures)
 
 pub store-remove-spec : {M : Type 1} → statement M
 store-remove-spec =
     tie.close
     (tie.spec
+    element-copy-out-stores
+    returns
+    element-copy-out-nodes
+    element-copy-out-next
+    element-copy-out-stalls
+    book-of-requires
     refusal-requires
     same-length
     same-length-2
     same-length-3
-    returns
-    mul-remove-pools
-    array-read-remove-pools
+    returns-2
     remove-pools-requires
-    settle-requires
+    sub-b
+    version-past-requires
+    put-book-requires
+    add-put-next
+    put-next-requires
     same-length-4
     same-length-5
     same-length-6
@@ -119,4 +147,4 @@ store-remove-spec =
     same-length-10
     same-length-11
     same-length-12
-    returns-2)
+    returns-3)

@@ -48,7 +48,7 @@ use denote.Triple.Table.{entered, cited}
 use denote.Triple.Walked.{says, needs, Stays, stay-none, stay-none-slice, stay-slice, walkOf, goes-none, goes-none-slice, goes-slice, Walks, ends-at, walked, walk-meets}
 use denote.Exit.{yes}
 use Rattle.model.specs.Refusals.{spanIn, noSpan}
-use Rattle.model.specs.State.{Tree}
+use Rattle.model.specs.State.{Tree, nodesIn}
 use Rattle.usedspan.specs.Turn.{looked}
 use Rattle.storeused.specs.Looking.{Looks}
 use Rattle.model.specs.declared.Span.{Span}
@@ -143,10 +143,10 @@ module _ {M : Type 1} (𝓤 : URA M) (H : Heap 𝓤) (A : Atoms 𝓤) (W : Given
 
   -- what a look asks for, what it says, and what the looks so far made
   abbrev Asks : Span → Vars → Type 0
-  Asks sp s = s .y .small .nodes ≤ length ys₁
+  Asks sp s = nodesIn (s .y .small .books) ≤ length ys₁
 
   abbrev Said : Span → Vars → Vars → Type 0
-  Said sp s z = (t : Tree) → t .len ≡ ys₁ → t .nodes ≡ s .y .small .nodes → z .y ≡ looked (spanIn t sp) (s .y)
+  Said sp s z = (t : Tree) → t .len ≡ ys₁ → t .nodes ≡ nodesIn (s .y .small .books) → z .y ≡ looked (spanIn t sp) (s .y)
 
   abbrev s₀ : Vars
   s₀ = record { y = x }
@@ -155,7 +155,7 @@ module _ {M : Type 1} (𝓤 : URA M) (H : Heap 𝓤) (A : Atoms 𝓤) (W : Given
   Made i s = Looks ss ys₁ x i (s .y)
 
   abbrev First : Type 0
-  First = x .small .nodes ≤ length ys₁
+  First = nodesIn (x .small .books) ≤ length ys₁
 
   -- what the callee's triple binds outside: a lifetime and a name for each column
   abbrev Names : Type 0

@@ -4,57 +4,45 @@ use native.Mathlib.Omega.{arith}
 use lib.ListN.{take}
 use Rattle.lent.specs.Lent.{rangesOf}
 use Rattle.sure.proofs.Says.{says-yes}
-use Rattle.usedspan.proofs.Laws.{index-fits}
 use Rattle.storeused.proofs.Laws.{others}
-use Rattle.storeused.proofs.Running.{start-low, start-counts, start-refused, start-runs, room-array, roomy-none, went-done}
+use Rattle.storeused.proofs.Running.{stands-read, start-low, start-counts, start-refused, start-runs, room-array, roomy-none, went-done}
 use Rattle.storeused.proofs.store_used_array.Statement.{statement}
 use Rattle.storeused.proofs.store_used_array.Tie as tie
 
+element-copy-out-nodes : tie.Need-element-copy-out-nodes
+element-copy-out-nodes c = omega arith
+
+element-copy-out-stores : tie.Need-element-copy-out-stores
+element-copy-out-stores c = omega arith
+
 first-refusal-requires : tie.Need-first-refusal-requires
 first-refusal-requires c κs =
-    let h = c .before .before .before .before .before .before .before .before .before .before .before .before .before .before .before .before .before .before .pre .0 in
-    (omega (arith, h .counts .nodes, h .lent .tree .len), c .before .before .before .before .before .before .before .before .before .before .before .before .before .before .before .before .before .before .pre .1)
+    let h = c .before .before .before .before .before .before .before .before .before .before .before .before .before .before .before .before .before .before .before .before .pre .0 in
+    (omega (arith, h .counts .nodes, h .lent .tree .len), c .before .before .before .before .before .before .before .before .before .before .before .before .before .before .before .before .before .before .before .before .pre .1)
 
 returns : tie.Need-returns
 returns c =
-    let z = c .before .before .before .before .before .before .before .before .before .before .before .before .before .before .before .before .before .before .before .before in
+    let z = c .before .before .before .before .before .before .before .before .before .before .before .before .before .before .before .before .before .before .before .before .before .before in
     start-refused (others (z .args .parent .now) (z .args .len .now) (z .args .run .now) (z .args .words .now) (z .args .pin-node .now) (z .args .pin-start .now) (z .args .pin-end .now) (z .args .pin-count .now)) (z .args .t19) (take (z .args .count) (z .args .spans)) (z .args .depth .now) (z .args .bytes .now) (rangesOf (z .args .node .now) (z .args .start .now) (z .args .end .now) (z .args .id .now) (z .args .stamp .now) (z .args .touched .now) (z .args .write .now)) (z .args .marks .now) (z .args .s) (z .args .time) (z .args .counted) (c .before .first-refusal .result) (z .pre .0) (c .before .first-refusal .ensures) (c .if1 .taken)
 
-element-copy-out-refreshes : tie.Need-element-copy-out-refreshes
-element-copy-out-refreshes c =
-    let z = c .before .before .before .before .before .before .before .before .before .before .before .before .before .before .before .before .before .before .before .before in
-    (start-low (others (z .args .parent .now) (z .args .len .now) (z .args .run .now) (z .args .words .now) (z .args .pin-node .now) (z .args .pin-start .now) (z .args .pin-end .now) (z .args .pin-count .now)) (z .args .t19) (take (z .args .count) (z .args .spans)) (z .args .depth .now) (z .args .bytes .now) (rangesOf (z .args .node .now) (z .args .start .now) (z .args .end .now) (z .args .id .now) (z .args .stamp .now) (z .args .touched .now) (z .args .write .now)) (z .args .marks .now) (z .args .s) (z .args .time) (z .args .counted) (c .before .first-refusal .result) (z .pre .0) (c .before .first-refusal .ensures) (c .if1 .left))
-
-mul-t30 : tie.Need-mul-t30
-mul-t30 c =
-    let z = c .before .before .before .before .before .before .before .before .before .before .before .before .before .before .before .before .before .before .before .before .before in
-    index-fits (start-low (others (z .args .parent .now) (z .args .len .now) (z .args .run .now) (z .args .words .now) (z .args .pin-node .now) (z .args .pin-start .now) (z .args .pin-end .now) (z .args .pin-count .now)) (z .args .t19) (take (z .args .count) (z .args .spans)) (z .args .depth .now) (z .args .bytes .now) (rangesOf (z .args .node .now) (z .args .start .now) (z .args .end .now) (z .args .id .now) (z .args .stamp .now) (z .args .touched .now) (z .args .write .now)) (z .args .marks .now) (z .args .s) (z .args .time) (z .args .counted) (c .before .before .first-refusal .result) (z .pre .0) (c .before .before .first-refusal .ensures) (c .before .if1 .left))
-
-element-copy-out-t31 : tie.Need-element-copy-out-t31
-element-copy-out-t31 c =
-    let z = c .before .before .before .before .before .before .before .before .before .before .before .before .before .before .before .before .before .before .before .before .before in
-    (start-low (others (z .args .parent .now) (z .args .len .now) (z .args .run .now) (z .args .words .now) (z .args .pin-node .now) (z .args .pin-start .now) (z .args .pin-end .now) (z .args .pin-count .now)) (z .args .t19) (take (z .args .count) (z .args .spans)) (z .args .depth .now) (z .args .bytes .now) (rangesOf (z .args .node .now) (z .args .start .now) (z .args .end .now) (z .args .id .now) (z .args .stamp .now) (z .args .touched .now) (z .args .write .now)) (z .args .marks .now) (z .args .s) (z .args .time) (z .args .counted) (c .before .before .first-refusal .result) (z .pre .0) (c .before .before .first-refusal .ensures) (c .before .if1 .left))
-
-mul-t39 : tie.Need-mul-t39
-mul-t39 c =
-    let z = c .before .before .before .before .before .before .before .before .before .before .before .before .before .before .before .before .before .before .before .before .before .before in
-    index-fits (start-low (others (z .args .parent .now) (z .args .len .now) (z .args .run .now) (z .args .words .now) (z .args .pin-node .now) (z .args .pin-start .now) (z .args .pin-end .now) (z .args .pin-count .now)) (z .args .t19) (take (z .args .count) (z .args .spans)) (z .args .depth .now) (z .args .bytes .now) (rangesOf (z .args .node .now) (z .args .start .now) (z .args .end .now) (z .args .id .now) (z .args .stamp .now) (z .args .touched .now) (z .args .write .now)) (z .args .marks .now) (z .args .s) (z .args .time) (z .args .counted) (c .before .before .before .first-refusal .result) (z .pre .0) (c .before .before .before .first-refusal .ensures) (c .before .before .if1 .left))
-
-element-copy-out-t42 : tie.Need-element-copy-out-t42
-element-copy-out-t42 c =
-    let z = c .before .before .before .before .before .before .before .before .before .before .before .before .before .before .before .before .before .before .before .before .before .before in
+book-of-requires : tie.Need-book-of-requires
+book-of-requires c κs =
+    let z = c .before .before .before .before .before .before .before .before .before .before .before .before .before .before .before .before .before .before .before .before .before .before .before .before in
     (start-low (others (z .args .parent .now) (z .args .len .now) (z .args .run .now) (z .args .words .now) (z .args .pin-node .now) (z .args .pin-start .now) (z .args .pin-end .now) (z .args .pin-count .now)) (z .args .t19) (take (z .args .count) (z .args .spans)) (z .args .depth .now) (z .args .bytes .now) (rangesOf (z .args .node .now) (z .args .start .now) (z .args .end .now) (z .args .id .now) (z .args .stamp .now) (z .args .touched .now) (z .args .write .now)) (z .args .marks .now) (z .args .s) (z .args .time) (z .args .counted) (c .before .before .before .first-refusal .result) (z .pre .0) (c .before .before .before .first-refusal .ensures) (c .before .before .if1 .left))
+
+element-copy-out-t35 : tie.Need-element-copy-out-t35
+element-copy-out-t35 c = omega arith
 
 roomy-requires : tie.Need-roomy-requires
 roomy-requires c κs =
-    let z = c .before .before .before .before .before .before .before .before .before .before .before .before .before .before .before .before .before .before .before .before .before .before .before in
-    let k = start-counts (others (z .args .parent .now) (z .args .len .now) (z .args .run .now) (z .args .words .now) (z .args .pin-node .now) (z .args .pin-start .now) (z .args .pin-end .now) (z .args .pin-count .now)) (z .args .t19) (take (z .args .count) (z .args .spans)) (z .args .depth .now) (z .args .bytes .now) (rangesOf (z .args .node .now) (z .args .start .now) (z .args .end .now) (z .args .id .now) (z .args .stamp .now) (z .args .touched .now) (z .args .write .now)) (z .args .marks .now) (z .args .s) (z .args .time) (z .args .counted) (c .before .before .before .before .first-refusal .result) (z .pre .0) (c .before .before .before .before .first-refusal .ensures) (c .before .before .before .if1 .left) in
+    let z = c .before .before .before .before .before .before .before .before .before .before .before .before .before .before .before .before .before .before .before .before .before .before .before .before .before .before .before in
+    let k = start-counts (others (z .args .parent .now) (z .args .len .now) (z .args .run .now) (z .args .words .now) (z .args .pin-node .now) (z .args .pin-start .now) (z .args .pin-end .now) (z .args .pin-count .now)) (z .args .t19) (take (z .args .count) (z .args .spans)) (z .args .depth .now) (z .args .bytes .now) (rangesOf (z .args .node .now) (z .args .start .now) (z .args .end .now) (z .args .id .now) (z .args .stamp .now) (z .args .touched .now) (z .args .write .now)) (z .args .marks .now) (z .args .s) (z .args .time) (z .args .counted) (c .before .before .before .before .before .before .first-refusal .result) (z .pre .0) (c .before .before .before .before .before .before .first-refusal .ensures) (c .before .before .before .before .before .if1 .left) (c .before .before .book-of .result) (c .before .before .book-of .ensures) in
     (z .pre .1, k .0, k .1, k .2)
 
 touch-kept-requires : tie.Need-touch-kept-requires
 touch-kept-requires c κs =
-    let z = c .before .before .before .before .before .before .before .before .before .before .before .before .before .before .before .before .before .before .before .before .before .before .before .before .before .before .before .before .before .before .before .before .before in
-    (record { others = (others (z .args .parent .now) (z .args .len .now) (z .args .run .now) (z .args .words .now) (z .args .pin-node .now) (z .args .pin-start .now) (z .args .pin-end .now) (z .args .pin-count .now)); small = (z .args .t19); starts = (start-runs (others (z .args .parent .now) (z .args .len .now) (z .args .run .now) (z .args .words .now) (z .args .pin-node .now) (z .args .pin-start .now) (z .args .pin-end .now) (z .args .pin-count .now)) (z .args .t19) (take (z .args .count) (z .args .spans)) (z .args .depth .now) (z .args .bytes .now) (rangesOf (z .args .node .now) (z .args .start .now) (z .args .end .now) (z .args .id .now) (z .args .stamp .now) (z .args .touched .now) (z .args .write .now)) (z .args .marks .now) (z .args .s) (z .args .time) (z .args .counted) (c .before .before .before .before .before .before .before .before .before .before .before .before .before .before .first-refusal .result) (z .pre .0) (c .before .before .before .before .before .before .before .before .before .before .before .before .before .before .first-refusal .ensures) (c .before .before .before .before .before .before .before .before .before .before .before .before .before .if1 .left) _ _ (record { records = refl; on = refl; stamp = refl; next = refl }) refl refl) }, z .pre .1)
+    let z = c .before .before .before .before .before .before .before .before .before .before .before .before .before .before .before .before .before .before .before .before .before .before .before .before .before .before .before .before .before .before .before .before .before .before .before .before .before in
+    (record { others = (others (z .args .parent .now) (z .args .len .now) (z .args .run .now) (z .args .words .now) (z .args .pin-node .now) (z .args .pin-start .now) (z .args .pin-end .now) (z .args .pin-count .now)); small = (z .args .t19); starts = (start-runs (others (z .args .parent .now) (z .args .len .now) (z .args .run .now) (z .args .words .now) (z .args .pin-node .now) (z .args .pin-start .now) (z .args .pin-end .now) (z .args .pin-count .now)) (z .args .t19) (take (z .args .count) (z .args .spans)) (z .args .depth .now) (z .args .bytes .now) (rangesOf (z .args .node .now) (z .args .start .now) (z .args .end .now) (z .args .id .now) (z .args .stamp .now) (z .args .touched .now) (z .args .write .now)) (z .args .marks .now) (z .args .s) (z .args .time) (z .args .counted) (c .before .before .before .before .before .before .before .before .before .before .before .before .before .before .before .before .first-refusal .result) (z .pre .0) (c .before .before .before .before .before .before .before .before .before .before .before .before .before .before .before .before .first-refusal .ensures) (c .before .before .before .before .before .before .before .before .before .before .before .before .before .before .before .if1 .left) _ _ (stands-read (z .args .s) (z .args .t19) (c .before .before .before .before .before .before .before .before .before .before .before .before .book-of .result) (c .before .before .before .before .before .before .before .before .before .before .before .before .book-of .ensures)) refl refl) }, z .pre .1)
 
 same-length : tie.Need-same-length
 same-length c = c .before .before .before .before .before .before .before .before .before .before .before .before .before .before .before .before .touch-kept .kept .0
@@ -82,18 +70,18 @@ same-length-8 c = c .before .before .before .before .before .before .before .bef
 
 returns-2 : tie.Need-returns-2
 returns-2 c =
-    let z = c .before .before .before .before .before .before .before .before .before .before .before .before .before .before .before .before .before .before .before .before .before .before .before .before .before .before .before .before .before .before .before .before .before .before .before .before .before .before .before .before .before .before .before .before .before .before .before .before .before .before in
-    c .before .before .before .before .before .before .before .before .before .before .before .before .before .before .before .before .touch-kept .ensures (others (z .args .parent .now) (z .args .len .now) (z .args .run .now) (z .args .words .now) (z .args .pin-node .now) (z .args .pin-start .now) (z .args .pin-end .now) (z .args .pin-count .now)) (start-runs (others (z .args .parent .now) (z .args .len .now) (z .args .run .now) (z .args .words .now) (z .args .pin-node .now) (z .args .pin-start .now) (z .args .pin-end .now) (z .args .pin-count .now)) (z .args .t19) (take (z .args .count) (z .args .spans)) (z .args .depth .now) (z .args .bytes .now) (rangesOf (z .args .node .now) (z .args .start .now) (z .args .end .now) (z .args .id .now) (z .args .stamp .now) (z .args .touched .now) (z .args .write .now)) (z .args .marks .now) (z .args .s) (z .args .time) (z .args .counted) (c .before .before .before .before .before .before .before .before .before .before .before .before .before .before .before .before .before .before .before .before .before .before .before .before .before .before .before .before .before .before .before .first-refusal .result) (z .pre .0) (c .before .before .before .before .before .before .before .before .before .before .before .before .before .before .before .before .before .before .before .before .before .before .before .before .before .before .before .before .before .before .before .first-refusal .ensures) (c .before .before .before .before .before .before .before .before .before .before .before .before .before .before .before .before .before .before .before .before .before .before .before .before .before .before .before .before .before .before .if1 .left) _ _ (record { records = refl; on = refl; stamp = refl; next = refl }) refl refl)
+    let z = c .before .before .before .before .before .before .before .before .before .before .before .before .before .before .before .before .before .before .before .before .before .before .before .before .before .before .before .before .before .before .before .before .before .before .before .before .before .before .before .before .before .before .before .before .before .before .before .before .before .before .before .before .before .before in
+    c .before .before .before .before .before .before .before .before .before .before .before .before .before .before .before .before .touch-kept .ensures (others (z .args .parent .now) (z .args .len .now) (z .args .run .now) (z .args .words .now) (z .args .pin-node .now) (z .args .pin-start .now) (z .args .pin-end .now) (z .args .pin-count .now)) (start-runs (others (z .args .parent .now) (z .args .len .now) (z .args .run .now) (z .args .words .now) (z .args .pin-node .now) (z .args .pin-start .now) (z .args .pin-end .now) (z .args .pin-count .now)) (z .args .t19) (take (z .args .count) (z .args .spans)) (z .args .depth .now) (z .args .bytes .now) (rangesOf (z .args .node .now) (z .args .start .now) (z .args .end .now) (z .args .id .now) (z .args .stamp .now) (z .args .touched .now) (z .args .write .now)) (z .args .marks .now) (z .args .s) (z .args .time) (z .args .counted) (c .before .before .before .before .before .before .before .before .before .before .before .before .before .before .before .before .before .before .before .before .before .before .before .before .before .before .before .before .before .before .before .before .before .first-refusal .result) (z .pre .0) (c .before .before .before .before .before .before .before .before .before .before .before .before .before .before .before .before .before .before .before .before .before .before .before .before .before .before .before .before .before .before .before .before .before .first-refusal .ensures) (c .before .before .before .before .before .before .before .before .before .before .before .before .before .before .before .before .before .before .before .before .before .before .before .before .before .before .before .before .before .before .before .before .if1 .left) _ _ (stands-read (z .args .s) (z .args .t19) (c .before .before .before .before .before .before .before .before .before .before .before .before .before .before .before .before .before .before .before .before .before .before .before .before .before .before .before .before .before .book-of .result) (c .before .before .before .before .before .before .before .before .before .before .before .before .before .before .before .before .before .before .before .before .before .before .before .before .before .before .before .before .before .book-of .ensures)) refl refl)
 
 take-turns-requires : tie.Need-take-turns-requires
 take-turns-requires c κs =
-    let z = c .before .before .before .before .before .before .before .before .before .before .before .before .before .before .before .before .before .before .before .before .before .before .before .before .before .before .before .before .before .before .before .before .before in
-    (record { others = (others (z .args .parent .now) (z .args .len .now) (z .args .run .now) (z .args .words .now) (z .args .pin-node .now) (z .args .pin-start .now) (z .args .pin-end .now) (z .args .pin-count .now)); small = (z .args .t19); starts = (start-runs (others (z .args .parent .now) (z .args .len .now) (z .args .run .now) (z .args .words .now) (z .args .pin-node .now) (z .args .pin-start .now) (z .args .pin-end .now) (z .args .pin-count .now)) (z .args .t19) (take (z .args .count) (z .args .spans)) (z .args .depth .now) (z .args .bytes .now) (rangesOf (z .args .node .now) (z .args .start .now) (z .args .end .now) (z .args .id .now) (z .args .stamp .now) (z .args .touched .now) (z .args .write .now)) (z .args .marks .now) (z .args .s) (z .args .time) (z .args .counted) (c .before .before .before .before .before .before .before .before .before .before .before .before .before .before .first-refusal .result) (z .pre .0) (c .before .before .before .before .before .before .before .before .before .before .before .before .before .before .first-refusal .ensures) (c .before .before .before .before .before .before .before .before .before .before .before .before .before .if1 .left) _ _ (record { records = refl; on = refl; stamp = refl; next = refl }) refl refl) }, z .pre .1)
+    let z = c .before .before .before .before .before .before .before .before .before .before .before .before .before .before .before .before .before .before .before .before .before .before .before .before .before .before .before .before .before .before .before .before .before .before .before .before .before in
+    (record { others = (others (z .args .parent .now) (z .args .len .now) (z .args .run .now) (z .args .words .now) (z .args .pin-node .now) (z .args .pin-start .now) (z .args .pin-end .now) (z .args .pin-count .now)); small = (z .args .t19); starts = (start-runs (others (z .args .parent .now) (z .args .len .now) (z .args .run .now) (z .args .words .now) (z .args .pin-node .now) (z .args .pin-start .now) (z .args .pin-end .now) (z .args .pin-count .now)) (z .args .t19) (take (z .args .count) (z .args .spans)) (z .args .depth .now) (z .args .bytes .now) (rangesOf (z .args .node .now) (z .args .start .now) (z .args .end .now) (z .args .id .now) (z .args .stamp .now) (z .args .touched .now) (z .args .write .now)) (z .args .marks .now) (z .args .s) (z .args .time) (z .args .counted) (c .before .before .before .before .before .before .before .before .before .before .before .before .before .before .before .before .first-refusal .result) (z .pre .0) (c .before .before .before .before .before .before .before .before .before .before .before .before .before .before .before .before .first-refusal .ensures) (c .before .before .before .before .before .before .before .before .before .before .before .before .before .before .before .if1 .left) _ _ (stands-read (z .args .s) (z .args .t19) (c .before .before .before .before .before .before .before .before .before .before .before .before .book-of .result) (c .before .before .before .before .before .before .before .before .before .before .before .before .book-of .ensures)) refl refl) }, z .pre .1)
 
 run-done-requires : tie.Need-run-done-requires
 run-done-requires c κs =
-    let z = c .before .before .before .before .before .before .before .before .before .before .before .before .before .before .before .before .before .before .before .before .before .before .before .before .before .before .before .before .before .before .before .before .before .before .before .before .before .before .before .before .before .before .before .before .before .before .before .before .before .before in
-    (start-low (others (z .args .parent .now) (z .args .len .now) (z .args .run .now) (z .args .words .now) (z .args .pin-node .now) (z .args .pin-start .now) (z .args .pin-end .now) (z .args .pin-count .now)) (z .args .t19) (take (z .args .count) (z .args .spans)) (z .args .depth .now) (z .args .bytes .now) (rangesOf (z .args .node .now) (z .args .start .now) (z .args .end .now) (z .args .id .now) (z .args .stamp .now) (z .args .touched .now) (z .args .write .now)) (z .args .marks .now) (z .args .s) (z .args .time) (z .args .counted) (c .before .before .before .before .before .before .before .before .before .before .before .before .before .before .before .before .before .before .before .before .before .before .before .before .before .before .before .before .before .before .before .first-refusal .result) (z .pre .0) (c .before .before .before .before .before .before .before .before .before .before .before .before .before .before .before .before .before .before .before .before .before .before .before .before .before .before .before .before .before .before .before .first-refusal .ensures) (c .before .before .before .before .before .before .before .before .before .before .before .before .before .before .before .before .before .before .before .before .before .before .before .before .before .before .before .before .before .before .if1 .left))
+    let z = c .before .before .before .before .before .before .before .before .before .before .before .before .before .before .before .before .before .before .before .before .before .before .before .before .before .before .before .before .before .before .before .before .before .before .before .before .before .before .before .before .before .before .before .before .before .before .before .before .before .before .before .before .before .before in
+    (start-low (others (z .args .parent .now) (z .args .len .now) (z .args .run .now) (z .args .words .now) (z .args .pin-node .now) (z .args .pin-start .now) (z .args .pin-end .now) (z .args .pin-count .now)) (z .args .t19) (take (z .args .count) (z .args .spans)) (z .args .depth .now) (z .args .bytes .now) (rangesOf (z .args .node .now) (z .args .start .now) (z .args .end .now) (z .args .id .now) (z .args .stamp .now) (z .args .touched .now) (z .args .write .now)) (z .args .marks .now) (z .args .s) (z .args .time) (z .args .counted) (c .before .before .before .before .before .before .before .before .before .before .before .before .before .before .before .before .before .before .before .before .before .before .before .before .before .before .before .before .before .before .before .before .before .first-refusal .result) (z .pre .0) (c .before .before .before .before .before .before .before .before .before .before .before .before .before .before .before .before .before .before .before .before .before .before .before .before .before .before .before .before .before .before .before .before .before .first-refusal .ensures) (c .before .before .before .before .before .before .before .before .before .before .before .before .before .before .before .before .before .before .before .before .before .before .before .before .before .before .before .before .before .before .before .before .if1 .left))
 
 same-length-9 : tie.Need-same-length-9
 same-length-9 c = c .before .before .before .before .before .before .before .before .before .before .before .before .before .before .before .before .before .take-turns .kept .0
@@ -121,9 +109,9 @@ same-length-16 c = c .before .before .before .before .before .before .before .be
 
 returns-3 : tie.Need-returns-3
 returns-3 c =
-    let z = c .before .before .before .before .before .before .before .before .before .before .before .before .before .before .before .before .before .before .before .before .before .before .before .before .before .before .before .before .before .before .before .before .before .before .before .before .before .before .before .before .before .before .before .before .before .before .before .before .before .before .before in
+    let z = c .before .before .before .before .before .before .before .before .before .before .before .before .before .before .before .before .before .before .before .before .before .before .before .before .before .before .before .before .before .before .before .before .before .before .before .before .before .before .before .before .before .before .before .before .before .before .before .before .before .before .before .before .before .before .before in
     let k = c .before .before .before .before .before .before .before .before .before .before .before .before .before .before .before .before .before .take-turns in
-    let q = (start-runs (others (z .args .parent .now) (z .args .len .now) (z .args .run .now) (z .args .words .now) (z .args .pin-node .now) (z .args .pin-start .now) (z .args .pin-end .now) (z .args .pin-count .now)) (z .args .t19) (take (z .args .count) (z .args .spans)) (z .args .depth .now) (z .args .bytes .now) (rangesOf (z .args .node .now) (z .args .start .now) (z .args .end .now) (z .args .id .now) (z .args .stamp .now) (z .args .touched .now) (z .args .write .now)) (z .args .marks .now) (z .args .s) (z .args .time) (z .args .counted) (c .before .before .before .before .before .before .before .before .before .before .before .before .before .before .before .before .before .before .before .before .before .before .before .before .before .before .before .before .before .before .before .before .first-refusal .result) (z .pre .0) (c .before .before .before .before .before .before .before .before .before .before .before .before .before .before .before .before .before .before .before .before .before .before .before .before .before .before .before .before .before .before .before .before .first-refusal .ensures) (c .before .before .before .before .before .before .before .before .before .before .before .before .before .before .before .before .before .before .before .before .before .before .before .before .before .before .before .before .before .before .before .if1 .left) _ _ (record { records = refl; on = refl; stamp = refl; next = refl }) refl refl) in
+    let q = (start-runs (others (z .args .parent .now) (z .args .len .now) (z .args .run .now) (z .args .words .now) (z .args .pin-node .now) (z .args .pin-start .now) (z .args .pin-end .now) (z .args .pin-count .now)) (z .args .t19) (take (z .args .count) (z .args .spans)) (z .args .depth .now) (z .args .bytes .now) (rangesOf (z .args .node .now) (z .args .start .now) (z .args .end .now) (z .args .id .now) (z .args .stamp .now) (z .args .touched .now) (z .args .write .now)) (z .args .marks .now) (z .args .s) (z .args .time) (z .args .counted) (c .before .before .before .before .before .before .before .before .before .before .before .before .before .before .before .before .before .before .before .before .before .before .before .before .before .before .before .before .before .before .before .before .before .before .first-refusal .result) (z .pre .0) (c .before .before .before .before .before .before .before .before .before .before .before .before .before .before .before .before .before .before .before .before .before .before .before .before .before .before .before .before .before .before .before .before .before .before .first-refusal .ensures) (c .before .before .before .before .before .before .before .before .before .before .before .before .before .before .before .before .before .before .before .before .before .before .before .before .before .before .before .before .before .before .before .before .before .if1 .left) _ _ (stands-read (z .args .s) (z .args .t19) (c .before .before .before .before .before .before .before .before .before .before .before .before .before .before .before .before .before .before .before .before .before .before .before .before .before .before .before .before .before .before .book-of .result) (c .before .before .before .before .before .before .before .before .before .before .before .before .before .before .before .before .before .before .before .before .before .before .before .before .before .before .before .before .before .before .book-of .ensures)) refl refl) in
     let w = k .ensures (others (z .args .parent .now) (z .args .len .now) (z .args .run .now) (z .args .words .now) (z .args .pin-node .now) (z .args .pin-start .now) (z .args .pin-end .now) (z .args .pin-count .now)) (z .args .t19) q in
     let room = room-array (z .args .spans) (says-yes (c .before .before .before .before .before .before .before .before .before .before .before .before .before .before .before .before .before .before .before .before .before .before .before .before .before .before .before .roomy .result) (c .before .before .before .before .before .before .before .before .before .before .before .before .before .before .before .before .before .before .before .before .before .before .before .before .before .before .if2 .left) (c .before .before .before .before .before .before .before .before .before .before .before .before .before .before .before .before .before .before .before .before .before .before .before .before .before .before .before .roomy .ensures)) in
     went-done (others (z .args .parent .now) (z .args .len .now) (z .args .run .now) (z .args .words .now) (z .args .pin-node .now) (z .args .pin-start .now) (z .args .pin-end .now) (z .args .pin-count .now)) (z .args .t19) (take (z .args .count) (z .args .spans)) (z .args .depth .now) (z .args .bytes .now) (rangesOf (z .args .node .now) (z .args .start .now) (z .args .end .now) (z .args .id .now) (z .args .stamp .now) (z .args .touched .now) (z .args .write .now)) (z .args .marks .now) (z .args .s) _ (z .args .time) (z .args .counted) _ q (rangesOf (k .last .0) (k .last .1 .0) (k .last .1 .1 .0) (k .last .1 .1 .1 .0) (k .last .1 .1 .1 .1 .0) (k .last .1 .1 .1 .1 .1 .0) (k .last .1 .1 .1 .1 .1 .1 .0)) (k .last .1 .1 .1 .1 .1 .1 .1 .0) (k .result) w (c .run-done .result) (c .run-done .ensures)
@@ -133,13 +121,12 @@ pub store-used-array-spec : {M : Type 1} → statement M
 store-used-array-spec =
     tie.close
     (tie.spec
+    element-copy-out-nodes
+    element-copy-out-stores
     first-refusal-requires
     returns
-    element-copy-out-refreshes
-    mul-t30
-    element-copy-out-t31
-    mul-t39
-    element-copy-out-t42
+    book-of-requires
+    element-copy-out-t35
     roomy-requires
     touch-kept-requires
     same-length

@@ -4,6 +4,9 @@ use Rattle.usedspan.proofs.Laws.{looked-good, looked-bad}
 use Rattle.usedspan.proofs.check_one.Statement.{statement}
 use Rattle.usedspan.proofs.check_one.Tie as tie
 
+element-copy-out-span-in : tie.Need-element-copy-out-span-in
+element-copy-out-span-in c = search needs
+
 span-in-requires : tie.Need-span-in-requires
 span-in-requires c κs = search needs
 
@@ -21,6 +24,7 @@ pub check-one-spec : {M : Type 1} → statement M
 check-one-spec =
     tie.close
     (tie.spec
+    element-copy-out-span-in
     span-in-requires
     returns
     four-first-requires

@@ -4,7 +4,8 @@ use native.Mathlib.Nat.{le-add-right}
 use borrow.Rule.Slice.PartMut.{same-len-mid}
 use Rattle.lent.specs.Lent.{rangesOf}
 use Rattle.parts.specs.Parts.{midRanges, backRanges}
-use Rattle.usedspan.proofs.Laws.{width, rec-fits, rec-end-fits, rec-fits8, rec-fits4, rec-ends, mark-fits, mark-end-fits, mark-fits8, mark-ends, pool-one, pool-two, pool-three, pool-touched}
+use Rattle.undo.proofs.Laws.{rec-fits, rec-ends, mark-fits, mark-ends}
+use Rattle.usedspan.proofs.Laws.{width, rec-end-fits, rec-fits8, rec-fits4, mark-end-fits, mark-fits8, pool-one, pool-two, pool-three, pool-touched}
 use Rattle.usedspan.proofs.touch_pools.Statement.{statement}
 use Rattle.usedspan.proofs.touch_pools.Tie as tie
 

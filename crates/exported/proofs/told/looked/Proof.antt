@@ -3,8 +3,7 @@ use mathlib.Core.Path.{_≡_, sym, ap, _∙_}
 use borrow.Author.Needs.{needs}
 use lib.ListN.{length}
 use lib.Seq.{sets}
-use Rattle.exported.specs.Books.{eight}
-use Rattle.exported.specs.Told.{readingNumber, readingIn}
+use Rattle.exported.specs.Told.{eight, readingNumber, readingIn}
 use Rattle.exported.proofs.told.looked.Statement.{statement}
 use Rattle.exported.proofs.told.looked.Tie as tie
 

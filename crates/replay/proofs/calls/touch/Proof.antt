@@ -5,6 +5,9 @@ use borrow.Author.Needs.{needs}
 use Rattle.replay.proofs.calls.touch.Statement.{statement}
 use Rattle.replay.proofs.calls.touch.Tie as tie
 
+element-copy-out-stores : tie.Need-element-copy-out-stores
+element-copy-out-stores c = search needs
+
 too-many-requires : tie.Need-too-many-requires
 too-many-requires c κs = search needs
 
@@ -18,7 +21,7 @@ spans-of-requires : tie.Need-spans-of-requires
 spans-of-requires c κs = search needs
 
 store-used-array-requires : tie.Need-store-used-array-requires
-store-used-array-requires c κs = search needs
+store-used-array-requires c κs = (c .before .before .before .before .before .before .before .before .before .before .before .before .before .before .before .before .before .before .before .before .pre .0, c .before .before .before .before .before .before .before .before .before .before .before .before .before .before .before .before .before .before .before .if1 .left)
 
 put-bytes-read-requires : tie.Need-put-bytes-read-requires
 put-bytes-read-requires c κs = omega (arith, c .before .before .before .before .before .before .before .before .before .before .before .before .before .before .before .before .before .before .before .before .before .before .before .pre .1)
@@ -30,6 +33,7 @@ pub touch-spec : {M : Type 1} → statement M
 touch-spec =
     tie.close
     (tie.spec
+    element-copy-out-stores
     too-many-requires
     put-refused-requires
     returns

@@ -1,0 +1,32 @@
+// The calls of a caller whose state is known to be sound, under the source's names: each makes every test that document 01 has for it but those for 1 and
+// 14. A state that was set up here and changed by these calls alone is sound. `sound_state` is the test for 1.
+pub use answers::Count;
+pub use answers::Counted;
+pub use answers::Cut;
+pub use answers::Inserted;
+pub use answers::Insertion;
+pub use answers::Looked;
+pub use answers::Path;
+pub use answers::Plain;
+pub use answers::Plainly;
+pub use answers::Reading;
+pub use answers::Resolved;
+pub use counters::pin_stalls;
+pub use counters::source_version;
+pub use counters::store_available_for_stage;
+pub use counters::store_capacity_blocks;
+pub use counters::store_held_blocks;
+pub use counters::store_pinned_blocks;
+pub use inserting::insert;
+pub use lent::Small;
+pub use looking::lookup;
+pub use model::Span;
+pub use pinning::pin_source;
+pub use pinning::unpin_source;
+pub use resolving::resolve;
+pub use setup::set_up;
+pub use sound::sound_state;
+pub use storeexpire::store_expire;
+pub use storeinsert::store_insert;
+pub use storeremove::store_remove;
+pub use storeused::store_used_array;
