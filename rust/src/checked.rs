@@ -106,3 +106,35 @@ impl Radix {
         Ok(self.lists.looked_up(tiers))
     }
 }
+
+#[cfg(test)]
+mod tests {
+    use super::*;
+
+    /// Whatever stands in the books, at a place that counts or at one that
+    /// doesn't, a refused call leaves it: no store has the number 9.
+    #[test]
+    fn a_refusal_changes_no_number_of_the_books() {
+        let stores = [(4, EvictionPolicy::Refresh), (2, EvictionPolicy::Fifo)];
+        let span = Span {
+            node: 1,
+            start: 0,
+            end: 2,
+        };
+        let mut tried = 0;
+        for place in 0..crate::pools::BOOKS {
+            for number in [0, 1, 2, 3, 1 << 48, u64::MAX] {
+                let mut radix = Radix::new(|k| k as u64, &stores).unwrap();
+                radix.insert(&[1, 2, 3]).unwrap();
+                radix.books[place] = number;
+                let before = radix.books;
+                assert!(radix.checked_pin_source(TierSource::Store(9), span).is_err());
+                assert!(radix.checked_store_insert(9, span, None, 0.0).is_err());
+                assert!(radix.checked_store_remove(9, span).is_err());
+                assert_eq!(radix.books, before, "place {place}, number {number}");
+                tried += 1;
+            }
+        }
+        assert_eq!(tried, 414);
+    }
+}
