@@ -126,12 +126,12 @@ mod tests {
             for number in [0, 1, 2, 3, 1 << 48, u64::MAX] {
                 let mut radix = Radix::new(|k| k as u64, &stores).unwrap();
                 radix.insert(&[1, 2, 3]).unwrap();
-                radix.books[place] = number;
-                let before = radix.books;
+                radix.pools.books[place] = number;
+                let before = radix.pools.books;
                 assert!(radix.checked_pin_source(TierSource::Store(9), span).is_err());
                 assert!(radix.checked_store_insert(9, span, None, 0.0).is_err());
                 assert!(radix.checked_store_remove(9, span).is_err());
-                assert_eq!(radix.books, before, "place {place}, number {number}");
+                assert_eq!(radix.pools.books, before, "place {place}, number {number}");
                 tried += 1;
             }
         }

@@ -21,10 +21,17 @@ enum Counter {
 impl Radix {
     fn counter(&self, which: Counter, s: StoreId) -> Answer<u64> {
         let mut answer = [0; ANSWER];
-        // SAFETY: the books are those of a sound state, and the answer is this
-        // function's own.
+        let books = &self.pools.books;
+        // SAFETY: the books are those of a sound state, as long as their array,
+        // and the answer is this function's own.
         let number = unsafe {
-            raw::scorebeetle_counter(self.books.as_ptr(), answer.as_mut_ptr(), which as u8, s)
+            raw::scorebeetle_counter(
+                books.as_ptr(),
+                books.len(),
+                answer.as_mut_ptr(),
+                which as u8,
+                s,
+            )
         };
         accepted(number)?;
         Ok(answer[0])

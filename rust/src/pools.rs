@@ -8,8 +8,9 @@ pub const RECORDS: usize = 1024;
 pub const PINS: usize = 256;
 pub const MARKS: usize = 2048;
 pub const TABLE: usize = 1025;
-/// The small numbers: five of the whole, then eight of each store.
-pub const BOOKS: usize = 69;
+/// The small numbers: five of the whole, then those of each store; 69 are used
+/// today, and any pool may be longer.
+pub const BOOKS: usize = 256;
 
 #[derive(Clone)]
 pub struct Pools {
@@ -31,6 +32,8 @@ pub struct Pools {
     pub pin_count: [u64; PINS],
     pub marks: [usize; MARKS],
     pub bytes: [u64; TABLE],
+    /// Only the library reads them.
+    pub books: [u64; BOOKS],
 }
 
 /// A value of zeros, without a copy of it on the stack first.

@@ -1,7 +1,7 @@
 //! The calls with soundness known.
 
 use crate::lists::{Lists, Spans};
-use crate::pools::{Pools, BOOKS, TABLE};
+use crate::pools::{Pools, TABLE};
 use crate::raw::call;
 use crate::refusal::{accepted, Answer};
 use crate::types::*;
@@ -9,8 +9,6 @@ use crate::types::*;
 pub struct Radix {
     pub(crate) pools: Box<Pools>,
     pub(crate) lists: Box<Lists>,
-    /// The small numbers, which only the library reads.
-    pub(crate) books: [u64; BOOKS],
     spans: Spans,
 }
 
@@ -21,7 +19,6 @@ impl Radix {
         let mut radix = Self {
             pools: Pools::empty(),
             lists: Lists::empty(),
-            books: [0; BOOKS],
             spans: Spans::default(),
         };
         radix.set_up(bytes, stores)?;

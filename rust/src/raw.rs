@@ -1,5 +1,5 @@
 //! The exported functions as they are. A slice is a pointer and a length; the
-//! eighteen columns always come first, in the order of `Pools`.
+//! nineteen columns always come first, in the order of `Pools`.
 
 /// Declares functions whose parameters begin with the columns.
 macro_rules! exported {
@@ -24,6 +24,7 @@ macro_rules! exported {
                 pin_count: *mut u64, pin_counts: usize,
                 marks: *mut usize, mark_count: usize,
                 bytes: *mut u64, byte_count: usize,
+                books: *mut u64, book_count: usize,
                 $($arg: $type),*
             ) -> $result;)*
         }
@@ -31,8 +32,7 @@ macro_rules! exported {
 }
 
 /// Calls one of them on a `Radix`: the columns, the answer lists named in
-/// brackets, the books, the answer's values where there are some, then the
-/// arguments.
+/// brackets, the answer's values where there are some, then the arguments.
 macro_rules! call {
     ($radix:ident.$name:ident, $($arg:expr),* $(,)?) => {
         crate::raw::call!(@ $radix $name [] [] $($arg),*)
@@ -45,11 +45,11 @@ macro_rules! call {
     };
     (@ $radix:ident $name:ident [$($list:ident)*] [$($answer:ident)?] $($arg:expr),*) => {{
         #[allow(unused_variables)]
-        let crate::radix::Radix { pools: p, lists, books, .. } = $radix;
-        // SAFETY: the pools, lists and books are this `Radix`'s own, as long as
-        // their arrays, and lent to this call alone; the state in them was set
-        // up by the library and changed by its functions only, so it is as
-        // their contracts ask.
+        let crate::radix::Radix { pools: p, lists, .. } = $radix;
+        // SAFETY: the pools and lists are this `Radix`'s own, as long as their
+        // arrays, and lent to this call alone; the state in them was set up by
+        // the library and changed by its functions only, so it is as their
+        // contracts ask.
         unsafe {
             crate::raw::$name(
                 p.parent.as_mut_ptr(), p.parent.len(),
@@ -70,8 +70,8 @@ macro_rules! call {
                 p.pin_count.as_mut_ptr(), p.pin_count.len(),
                 p.marks.as_mut_ptr(), p.marks.len(),
                 p.bytes.as_mut_ptr(), p.bytes.len(),
+                p.books.as_mut_ptr(), p.books.len(),
                 $(lists.$list.as_mut_ptr(), lists.$list.len(),)*
-                books.as_mut_ptr(),
                 $(lists.$answer.as_mut_ptr(),)?
                 $($arg),*
             )
@@ -82,7 +82,6 @@ pub(crate) use call;
 
 exported! {
     scorebeetle_set_up(
-        books: *mut u64,
         table: *const u64, tables: usize,
         capacity: *const u64, capacities: usize,
         refreshes: *const bool, policies: usize,
@@ -90,13 +89,13 @@ exported! {
     scorebeetle_resolve(
         path_node: *mut usize, path_nodes: usize,
         path_len: *mut usize, path_lens: usize,
-        books: *const u64, answer: *mut u64,
+        answer: *mut u64,
         hashes: *const u64, count: usize,
     ) -> u8;
     scorebeetle_insert(
         path_node: *mut usize, path_nodes: usize,
         path_len: *mut usize, path_lens: usize,
-        books: *mut u64, answer: *mut u64,
+        answer: *mut u64,
         hashes: *const u64, count: usize,
     ) -> u8;
     scorebeetle_store_insert(
@@ -106,11 +105,11 @@ exported! {
         out_write: *mut u32, out_writes: usize,
         out_bytes: *mut u64, out_byte_count: usize,
         out_dead: *mut u64, out_dead_count: usize,
-        books: *mut u64, answer: *mut u64,
+        answer: *mut u64,
         s: usize, on: usize, from: usize, upto: usize, time: f64, w: u32,
     ) -> u8;
     scorebeetle_store_used(
-        books: *mut u64, answer: *mut u64,
+        answer: *mut u64,
         s: usize,
         on: *const usize, ons: usize,
         from: *const usize, froms: usize,
@@ -119,7 +118,7 @@ exported! {
     ) -> u8;
     scorebeetle_store_remove(
         list: *mut u32, places: usize,
-        books: *mut u64, answer: *mut u64,
+        answer: *mut u64,
         s: usize, on: usize, from: usize, upto: usize,
     ) -> u8;
     scorebeetle_store_expire(
@@ -129,15 +128,13 @@ exported! {
         out_write: *mut u32, out_writes: usize,
         out_bytes: *mut u64, out_byte_count: usize,
         out_dead: *mut u64, out_dead_count: usize,
-        books: *mut u64, answer: *mut u64,
+        answer: *mut u64,
         s: usize, now: f64, seconds: f64,
     ) -> u8;
     scorebeetle_pin_source(
-        books: *mut u64,
         s: usize, on: usize, from: usize, upto: usize,
     ) -> u8;
     scorebeetle_unpin_source(
-        books: *mut u64,
         s: usize, on: usize, from: usize, upto: usize,
     ) -> u8;
     scorebeetle_lookup(
@@ -147,21 +144,21 @@ exported! {
         span_node: *mut usize, span_nodes: usize,
         span_start: *mut usize, span_starts: usize,
         span_end: *mut usize, span_ends: usize,
-        books: *const u64, answer: *mut u64,
+        answer: *mut u64,
         tiers: *const usize, tier_count: usize,
         hashes: *const u64, count: usize,
     ) -> u8;
-    scorebeetle_sound_state(books: *const u64) -> bool;
+    scorebeetle_sound_state() -> bool;
     scorebeetle_checked_resolve(
         path_node: *mut usize, path_nodes: usize,
         path_len: *mut usize, path_lens: usize,
-        books: *const u64, answer: *mut u64,
+        answer: *mut u64,
         hashes: *const u64, count: usize,
     ) -> u8;
     scorebeetle_checked_insert(
         path_node: *mut usize, path_nodes: usize,
         path_len: *mut usize, path_lens: usize,
-        books: *mut u64, answer: *mut u64,
+        answer: *mut u64,
         hashes: *const u64, count: usize,
     ) -> u8;
     scorebeetle_checked_store_insert(
@@ -171,12 +168,12 @@ exported! {
         out_write: *mut u32, out_writes: usize,
         out_bytes: *mut u64, out_byte_count: usize,
         out_dead: *mut u64, out_dead_count: usize,
-        books: *mut u64, answer: *mut u64,
+        answer: *mut u64,
         s: usize, on: usize, from: usize, upto: usize, time: f64, w: u32,
     ) -> u8;
     scorebeetle_checked_store_remove(
         list: *mut u32, places: usize,
-        books: *mut u64, answer: *mut u64,
+        answer: *mut u64,
         s: usize, on: usize, from: usize, upto: usize,
     ) -> u8;
     scorebeetle_checked_store_expire(
@@ -186,15 +183,13 @@ exported! {
         out_write: *mut u32, out_writes: usize,
         out_bytes: *mut u64, out_byte_count: usize,
         out_dead: *mut u64, out_dead_count: usize,
-        books: *mut u64, answer: *mut u64,
+        answer: *mut u64,
         s: usize, now: f64, seconds: f64,
     ) -> u8;
     scorebeetle_checked_pin_source(
-        books: *mut u64,
         s: usize, on: usize, from: usize, upto: usize,
     ) -> u8;
     scorebeetle_checked_unpin_source(
-        books: *mut u64,
         s: usize, on: usize, from: usize, upto: usize,
     ) -> u8;
     scorebeetle_checked_lookup(
@@ -204,12 +199,18 @@ exported! {
         span_node: *mut usize, span_nodes: usize,
         span_start: *mut usize, span_starts: usize,
         span_end: *mut usize, span_ends: usize,
-        books: *const u64, answer: *mut u64,
+        answer: *mut u64,
         tiers: *const usize, tier_count: usize,
         hashes: *const u64, count: usize,
     ) -> u8;
 }
 
 extern "C" {
-    pub fn scorebeetle_counter(books: *const u64, answer: *mut u64, which: u8, s: usize) -> u8;
+    pub fn scorebeetle_counter(
+        books: *const u64,
+        book_count: usize,
+        answer: *mut u64,
+        which: u8,
+        s: usize,
+    ) -> u8;
 }

@@ -1,36 +1,47 @@
--- The number and the values of 01 for each case of an answer. Assumes nothing.
+-- The number and the values of 01 for each case of an answer, and the state that all lent columns make. Assumes nothing.
 use Prim.Native.Nat.{ℕ}
 use mathlib.Core.List.{List, [], _∷_}
-use lib.ListN.{take}
 use lib.Ieee.{Float}
+use Rattle.model.specs.declared.ResolveAnswer.{ResolveAnswer}
+use Rattle.model.specs.declared.InsertAnswer.{InsertAnswer}
+use Rattle.model.specs.declared.BringAnswer.{BringAnswer}
+use Rattle.model.specs.declared.TouchAnswer.{TouchAnswer}
+use Rattle.model.specs.declared.RemoveAnswer.{RemoveAnswer}
+use Rattle.model.specs.declared.ExpireAnswer.{ExpireAnswer}
+use Rattle.model.specs.declared.LookupAnswer.{LookupAnswer}
 use Rattle.model.specs.State.{State, nodesIn, usedIn}
-use Rattle.model.specs.Insert.{Cut as CutAt}
-use Rattle.model.specs.Calls.{Outcome, Answer, refused, done, NoValue, Path as PathAt, InsertAnswer, LookupAnswer}
-use Rattle.lent.specs.declared.Small.{Small}
+use Rattle.model.specs.Calls.{Outcome, Answer, refused, done, NoValue}
 use Rattle.lent.specs.Lent.{treeOf, rangesOf, pinsOf, stateOf}
 use Rattle.answers.specs.declared.Plain.{Plain}
-use Rattle.answers.specs.declared.Plain.the-variants as P
+use Rattle.answers.specs.declared.Plain.the-variants as PlainIs
 use Rattle.answers.specs.declared.Count.{Count}
-use Rattle.answers.specs.declared.Count.the-variants as C
-use Rattle.answers.specs.declared.Path.{Path}
+use Rattle.answers.specs.declared.Count.the-variants as CountIs
 use Rattle.answers.specs.declared.Resolved.{Resolved}
-use Rattle.answers.specs.declared.Resolved.the-variants as R
-use Rattle.answers.specs.declared.Cut.{Cut}
+use Rattle.answers.specs.declared.Resolved.the-variants as ResolvedIs
 use Rattle.answers.specs.declared.Inserted.{Inserted}
-use Rattle.answers.specs.declared.Inserted.the-variants as I
+use Rattle.answers.specs.declared.Inserted.the-variants as InsertedIs
+use Rattle.answers.specs.declared.StoreInserted.{StoreInserted}
+use Rattle.answers.specs.declared.StoreInserted.the-variants as StoreInsertedIs
+use Rattle.answers.specs.declared.StoreUsed.{StoreUsed}
+use Rattle.answers.specs.declared.StoreUsed.the-variants as StoreUsedIs
+use Rattle.answers.specs.declared.StoreRemoved.{StoreRemoved}
+use Rattle.answers.specs.declared.StoreRemoved.the-variants as StoreRemovedIs
+use Rattle.answers.specs.declared.StoreExpired.{StoreExpired}
+use Rattle.answers.specs.declared.StoreExpired.the-variants as StoreExpiredIs
+use Rattle.answers.specs.declared.EachTier.{EachTier}
 use Rattle.answers.specs.declared.Reading.{Reading}
-use Rattle.answers.specs.declared.Reading.the-variants as L
 use Rattle.answers.specs.declared.Looked.{Looked}
+use Rattle.answers.specs.declared.Looked.the-variants as LookedIs
 
--- the state that all lent columns and the small numbers make; every call names the columns in this order
+-- the state that all lent columns make; every call names the columns in this order
 abbrev pub stateFrom :
     List ℕ → List ℕ → List ℕ → List ℕ → List ℕ
     → List ℕ → List ℕ → List ℕ → List ℕ → List ℕ → List Float → List ℕ
     → List ℕ → List ℕ → List ℕ → List ℕ
-    → List ℕ → List ℕ → Small → State
-stateFrom parent depth len run words node start end id stamp touched write pinNode pinStart pinEnd pinCount marks bytes x =
-    stateOf (treeOf parent depth len run words (nodesIn (x .books)) (usedIn (x .books))) (rangesOf node start end id stamp touched write)
-    (pinsOf pinNode pinStart pinEnd pinCount) marks bytes (x .books)
+    → List ℕ → List ℕ → List ℕ → State
+stateFrom parent depth len run words node start end id stamp touched write pinNode pinStart pinEnd pinCount marks bytes books =
+    stateOf (treeOf parent depth len run words (nodesIn books) (usedIn books)) (rangesOf node start end id stamp touched write)
+    (pinsOf pinNode pinStart pinEnd pinCount) marks bytes books
 
 abbrev pub outcome : {L A : Type 0} → State → L → Answer A → Outcome L A
 outcome st l a = record { state = st; lists = l; answer = a }
@@ -38,33 +49,44 @@ outcome st l a = record { state = st; lists = l; answer = a }
 -- ---- each case of an answer
 
 abbrev pub plainOf : Plain → Answer NoValue
-plainOf (P.Refused n) = refused n
-plainOf P.Done = done tt
+plainOf (PlainIs.Refused n) = refused n
+plainOf PlainIs.Done = done tt
 
 abbrev pub countOf : Count → Answer ℕ
-countOf (C.Refused n) = refused n
-countOf (C.Done k) = done k
+countOf (CountIs.Refused n) = refused n
+countOf (CountIs.Done k) = done k
 
-abbrev pub pathFrom : Path → PathAt
-pathFrom p = record { segs = p .segs; blocks = p .blocks }
-
-abbrev pub resolvedOf : Resolved → Answer PathAt
-resolvedOf (R.Refused n) = refused n
-resolvedOf (R.Done p) = done (pathFrom p)
-
-abbrev pub cutFrom : Cut → CutAt
-cutFrom c = record { node = c .node; at = c .at; new = c .new }
+abbrev pub resolvedOf : Resolved → Answer ResolveAnswer
+resolvedOf (ResolvedIs.Refused n) = refused n
+resolvedOf (ResolvedIs.Done a) = done a
 
 abbrev pub insertedOf : Inserted → Answer InsertAnswer
-insertedOf (I.Refused n) = refused n
-insertedOf (I.Whole p) = done (record { path = pathFrom p; cuts = [] })
-insertedOf (I.Split p c) = done (record { path = pathFrom p; cuts = cutFrom c ∷ [] })
+insertedOf (InsertedIs.Refused n) = refused n
+insertedOf (InsertedIs.Done a) = done a
 
--- a reading through n tiers
-abbrev pub readingOf : ℕ → List ℕ → List ℕ → Reading → Answer LookupAnswer
-readingOf n blocks bytes (L.Refused k) = refused k
-readingOf n blocks bytes (L.Done p spans) =
-    done (record { path = pathFrom p; spans = spans; blocks = take n blocks; bytes = take n bytes })
+abbrev pub storeInsertedOf : StoreInserted → Answer BringAnswer
+storeInsertedOf (StoreInsertedIs.Refused n) = refused n
+storeInsertedOf (StoreInsertedIs.Done a) = done a
 
-abbrev pub lookedOf : ℕ → Looked → Answer LookupAnswer
-lookedOf n r = readingOf n (r .blocks) (r .bytes) (r .answer)
+abbrev pub storeUsedOf : StoreUsed → Answer TouchAnswer
+storeUsedOf (StoreUsedIs.Refused n) = refused n
+storeUsedOf (StoreUsedIs.Done a) = done a
+
+abbrev pub storeRemovedOf : StoreRemoved → Answer RemoveAnswer
+storeRemovedOf (StoreRemovedIs.Refused n) = refused n
+storeRemovedOf (StoreRemovedIs.Done a) = done a
+
+abbrev pub storeExpiredOf : StoreExpired → Answer ExpireAnswer
+storeExpiredOf (StoreExpiredIs.Refused n) = refused n
+storeExpiredOf (StoreExpiredIs.Done a) = done a
+
+-- one number of each tier, as a list
+abbrev pub eachTier : EachTier → List ℕ
+eachTier t = t .first ∷ t .second ∷ t .third ∷ t .fourth ∷ t .fifth ∷ t .sixth ∷ t .seventh ∷ t .eighth ∷ []
+
+abbrev pub readingOf : Reading → LookupAnswer
+readingOf a = record { path = a .path; spans = a .spans; blocks = eachTier (a .blocks); bytes = eachTier (a .bytes) }
+
+abbrev pub lookedOf : Looked → Answer LookupAnswer
+lookedOf (LookedIs.Refused n) = refused n
+lookedOf (LookedIs.Done a) = done (readingOf a)

@@ -1,66 +1,75 @@
-use lent::Small;
+// What each call answers: a refusal's number, or that it was done, with what `model` says of it.
+use model::BringAnswer;
+use model::ExpireAnswer;
+use model::InsertAnswer;
+use model::Path;
+use model::RemoveAnswer;
+use model::ResolveAnswer;
+use model::TouchAnswer;
 
-// What a call answers: a refusal's number, or that it was done.
+// Set-up, pin and unpin.
 pub enum Plain {
     Refused(u8),
     Done,
 }
 
-// The same with a number: spans given out, bytes read, writes listed, or a counter.
+// A counter.
 pub enum Count {
     Refused(u8),
     Done(u64),
 }
 
-// How many segments of a path stand in the answer list, and how many blocks they cover.
-pub struct Path {
-    pub segs: usize,
-    pub blocks: usize,
-}
-
 pub enum Resolved {
     Refused(u8),
-    Done(Path),
-}
-
-// The cut node, how many blocks it keeps, and the new node.
-pub struct Cut {
-    pub node: usize,
-    pub at: usize,
-    pub new: usize,
+    Done(ResolveAnswer),
 }
 
 pub enum Inserted {
     Refused(u8),
-    Whole(Path),
-    Split(Path, Cut),
+    Done(InsertAnswer),
 }
 
-// A path, and how many tier spans stand in the answer list.
-pub enum Reading {
+pub enum StoreInserted {
     Refused(u8),
-    Done(Path, usize),
+    Done(BringAnswer),
 }
 
-// The small numbers afterwards, and the answer.
-pub struct Plainly {
-    pub small: Small,
-    pub answer: Plain,
+pub enum StoreUsed {
+    Refused(u8),
+    Done(TouchAnswer),
 }
 
-pub struct Counted {
-    pub small: Small,
-    pub answer: Count,
+pub enum StoreRemoved {
+    Refused(u8),
+    Done(RemoveAnswer),
 }
 
-pub struct Insertion {
-    pub small: Small,
-    pub answer: Inserted,
+pub enum StoreExpired {
+    Refused(u8),
+    Done(ExpireAnswer),
 }
 
-// A lookup's answer, and for each tier the sum of blocks and of bytes.
-pub struct Looked {
-    pub answer: Reading,
-    pub blocks: [u64; 8],
-    pub bytes: [u64; 8],
+// A number of each tier: a struct, since an enum that holds an array has no rules.
+pub struct EachTier {
+    pub first: u64,
+    pub second: u64,
+    pub third: u64,
+    pub fourth: u64,
+    pub fifth: u64,
+    pub sixth: u64,
+    pub seventh: u64,
+    pub eighth: u64,
+}
+
+// `model::LookupAnswer` with its sums in two such structs.
+pub struct Reading {
+    pub path: Path,
+    pub spans: usize,
+    pub blocks: EachTier,
+    pub bytes: EachTier,
+}
+
+pub enum Looked {
+    Refused(u8),
+    Done(Reading),
 }

@@ -1,47 +1,131 @@
-// A store's own numbers, read from its part of the small numbers and written back; the next id and the stalls.
+// A store's own numbers, read from its part of the small numbers and written back; the tree's counts, the next id and the stalls. All but the
+// test take a list that is long enough.
 use model::Book;
 ghost use mathlib.Core.Path.{_≡_};
-ghost use Prim.Native.Nat.{_<_, _≤_};
-ghost use lib.ListN.{length};
-ghost use Rattle.model.specs.State.{bookIn};
+ghost use mathlib.Core.List.{[], _∷_};
+ghost use Prim.Native.Nat.{_+_, _*_, _<_, _≤_};
+ghost use lib.ListN.{length, take, drop};
+ghost use lib.Seq.{paste};
+ghost use Rattle.model.specs.Words.{Says};
+ghost use Rattle.model.specs.Sizes.{maxStores, storeNumbers, maxNumbers};
+ghost use Rattle.model.specs.State.{numbers, bookFrom, bookIn};
 ghost use Rattle.model.specs.Store.{layBook, layNext, layCounts};
+ghost use Rattle.books.specs.Books.{recordsIn, entriesIn};
 
-pub fn book_of(books: &[u64; 69], s: usize) -> Book
-    requires { ⌜ s < 8 ⌝ }
-    ensures { λ r. ⌜ r ≡ bookIn (now (books .entry)) s ⌝ }
+// How many numbers there are in all.
+pub fn books_size() -> usize
+    ensures { λ r. ⌜ r ≡ maxNumbers ⌝ }
 {
-    let a = 5 + 8 * s;
+    69
+}
+
+// Is the list long enough?
+pub fn long_enough(books: &[u64]) -> bool
+    ensures { λ r. ⌜ Says r (maxNumbers ≤ length (now (books .entry))) ⌝ }
+{
+    if books.len() < books_size() {
+        return false;
+    }
+    true
+}
+
+// ---- a store's own numbers in their order, and the place of its part
+
+fn row_of(b: Book) -> [u64; 8]
+    ensures { λ r. ⌜ r ≡ numbers b ⌝ }
+{
+    [
+        b.capacity,
+        b.policy,
+        b.records as u64,
+        b.held,
+        b.stamp,
+        b.version,
+        b.entries as u64,
+        b.pinned,
+    ]
+}
+
+fn book_from(row: [u64; 8]) -> Book
+    ensures { λ r. ⌜ r ≡ bookFrom row ⌝ }
+{
     Book {
-        capacity: books[a],
-        policy: books[a + 1],
-        records: books[a + 2] as usize,
-        held: books[a + 3],
-        stamp: books[a + 4],
-        version: books[a + 5],
-        entries: books[a + 6] as usize,
-        pinned: books[a + 7],
+        capacity: row[0],
+        policy: row[1],
+        records: row[2] as usize,
+        held: row[3],
+        stamp: row[4],
+        version: row[5],
+        entries: row[6] as usize,
+        pinned: row[7],
     }
 }
 
-// b for store s, in a list that is long enough.
-pub fn set_book(books: &mut [u64], s: usize, b: Book)
-    requires { ⌜ (s < 8) × (69 ≤ length (now books)) ⌝ }
+// As set-up has it: a capacity, a policy, and 0 for the rest.
+pub fn new_book(capacity: u64, policy: u64) -> Book
+    ensures { λ r. ⌜ r ≡ bookFrom (capacity ∷ policy ∷ []) ⌝ }
+{
+    let mut row = [0u64; 8];
+    row[0] = capacity;
+    row[1] = policy;
+    book_from(row)
+}
+
+fn first_of(s: usize) -> usize
+    requires { ⌜ s < maxStores ⌝ }
+    ensures { λ r. ⌜ r ≡ 5 + storeNumbers * s ⌝ }
+{
+    5 + 8 * s
+}
+
+// ---- read and written
+
+fn row_at(books: &[u64], a: usize) -> [u64; 8]
+    requires { ⌜ a + storeNumbers ≤ length (now books) ⌝ }
+    ensures { λ r. ⌜ r ≡ take storeNumbers (drop a (now (books .entry))) ⌝ }
+{
+    let mut row = [0u64; 8];
+    let mut i = 0;
+    while i < row.len() {
+        row[i] = books[a + i];
+        i += 1;
+    }
+    row
+}
+
+fn put_row(books: &mut [u64], a: usize, row: [u64; 8])
+    requires { ⌜ a + storeNumbers ≤ length (now books) ⌝ }
+    ensures { λ _. ⌜ now (books .exit) ≡ paste (now (books .entry)) a row storeNumbers ⌝ }
+{
+    let mut i = 0;
+    while i < row.len() {
+        books[a + i] = row[i];
+        i += 1;
+    }
+}
+
+pub fn book_of(books: &[u64], s: usize) -> Book
+    requires { ⌜ (s < maxStores) × (maxNumbers ≤ length (now books)) ⌝ }
+    ensures { λ r. ⌜ r ≡ bookIn (now (books .entry)) s ⌝ }
+{
+    let a = first_of(s);
+    let row = row_at(books, a);
+    book_from(row)
+}
+
+// b for store s.
+pub fn put_book(books: &mut [u64], s: usize, b: Book)
+    requires { ⌜ (s < maxStores) × (maxNumbers ≤ length (now books)) ⌝ }
     ensures { λ _. ⌜ now (books .exit) ≡ layBook s b (now (books .entry)) ⌝ }
 {
-    let a = 5 + 8 * s;
-    books[a] = b.capacity;
-    books[a + 1] = b.policy;
-    books[a + 2] = b.records as u64;
-    books[a + 3] = b.held;
-    books[a + 4] = b.stamp;
-    books[a + 5] = b.version;
-    books[a + 6] = b.entries as u64;
-    books[a + 7] = b.pinned;
+    let a = first_of(s);
+    let row = row_of(b);
+    put_row(books, a, row);
 }
 
 // The next id and the stalls.
-pub fn set_next(books: &mut [u64], next: u64, stalls: u64)
-    requires { ⌜ 69 ≤ length (now books) ⌝ }
+pub fn put_next(books: &mut [u64], next: u64, stalls: u64)
+    requires { ⌜ maxNumbers ≤ length (now books) ⌝ }
     ensures { λ _. ⌜ now (books .exit) ≡ layNext next stalls (now (books .entry)) ⌝ }
 {
     books[3] = next;
@@ -49,30 +133,60 @@ pub fn set_next(books: &mut [u64], next: u64, stalls: u64)
 }
 
 // How many nodes and hash words are in use.
-pub fn set_counts(books: &mut [u64], nodes: usize, used: usize)
-    requires { ⌜ 69 ≤ length (now books) ⌝ }
+pub fn put_counts(books: &mut [u64], nodes: usize, used: usize)
+    requires { ⌜ maxNumbers ≤ length (now books) ⌝ }
     ensures { λ _. ⌜ now (books .exit) ≡ layCounts nodes used (now (books .entry)) ⌝ }
 {
     books[0] = nodes as u64;
     books[1] = used as u64;
 }
 
-// The same of the whole array.
-pub fn put_book(books: &mut [u64; 69], s: usize, b: Book)
-    requires { ⌜ s < 8 ⌝ }
-    ensures { λ _. ⌜ now (books .exit) ≡ layBook s b (now (books .entry)) ⌝ }
+// Each store's used records.
+pub fn records_of(books: &[u64]) -> [usize; 8]
+    requires { ⌜ maxNumbers ≤ length (now books) ⌝ }
+    ensures { λ r. ⌜ r ≡ recordsIn (now (books .entry)) ⌝ }
 {
-    set_book(books, s, b);
+    let a = book_of(books, 0);
+    let b = book_of(books, 1);
+    let c = book_of(books, 2);
+    let d = book_of(books, 3);
+    let e = book_of(books, 4);
+    let f = book_of(books, 5);
+    let g = book_of(books, 6);
+    let h = book_of(books, 7);
+    [
+        a.records,
+        b.records,
+        c.records,
+        d.records,
+        e.records,
+        f.records,
+        g.records,
+        h.records,
+    ]
 }
 
-pub fn put_next(books: &mut [u64; 69], next: u64, stalls: u64)
-    ensures { λ _. ⌜ now (books .exit) ≡ layNext next stalls (now (books .entry)) ⌝ }
+// Each store's used pin entries.
+pub fn entries_of(books: &[u64]) -> [usize; 8]
+    requires { ⌜ maxNumbers ≤ length (now books) ⌝ }
+    ensures { λ r. ⌜ r ≡ entriesIn (now (books .entry)) ⌝ }
 {
-    set_next(books, next, stalls);
-}
-
-pub fn put_counts(books: &mut [u64; 69], nodes: usize, used: usize)
-    ensures { λ _. ⌜ now (books .exit) ≡ layCounts nodes used (now (books .entry)) ⌝ }
-{
-    set_counts(books, nodes, used);
+    let a = book_of(books, 0);
+    let b = book_of(books, 1);
+    let c = book_of(books, 2);
+    let d = book_of(books, 3);
+    let e = book_of(books, 4);
+    let f = book_of(books, 5);
+    let g = book_of(books, 6);
+    let h = book_of(books, 7);
+    [
+        a.entries,
+        b.entries,
+        c.entries,
+        d.entries,
+        e.entries,
+        f.entries,
+        g.entries,
+        h.entries,
+    ]
 }

@@ -8,7 +8,7 @@ use lib.ListN.{length}
 use lib.Ieee.{Float}
 use Rattle.model.specs.declared.Span.{Span}
 use Rattle.model.specs.declared.Book.{Book}
-use Rattle.model.specs.Sizes.{versions}
+use Rattle.model.specs.Sizes.{maxStores, maxNumbers, versions}
 use Rattle.model.specs.State.{Ranges, Range, State, nodesIn, usedIn, nextIdIn, stallsIn, nextIdOf, stallsOf, bookOf, capacityOf, recordsOf, heldOf, stampOf, entriesOf}
 use Rattle.model.specs.Store.{ranges, pins, storeOf, total, ranged, layBook, layNext, withRanges, withNext}
 use Rattle.model.specs.Trim.{Out, Trimmed, trim, stallsAfter}
@@ -80,8 +80,12 @@ module _ {st : State} {l : OutList} {s : ℕ} {sp : Span} {g : Gaps} {time : Flo
   tree : TreeSound (st .tree)
   tree = sound-parts st (p .sound) .tree
 
-  pub in-stores : s < 8
+  in-stores : s < 8
   in-stores = omega (arith, p .store, p .sound .counts .stores)
+
+  -- store s is one of eight, and the list is long enough
+  pub book-in : (s < maxStores) × (maxNumbers ≤ length (st .books))
+  book-in = (in-stores, p .sound .lent .books)
 
   few : recordsOf st s ≤ 128
   few = omega (arith, p .records)
@@ -151,8 +155,8 @@ module _ {st : State} {l : OutList} {s : ℕ} {sp : Span} {g : Gaps} {time : Flo
         → PoolReady (st .tree .depth) (st .bytes) s (b .records) (b .entries) (b .held) (st .ranges) (st .marks) l (st .pins .node) (st .pins .start) (st .pins .end) (sp .node) g (b .stamp) (nextIdOf st) time w
     pool-in w = rw is (pool-own w)
 
-    pub settle-in : (s < 8) × (g .n ≤ 128) × (b .stamp ≤ 281474976710656) × (nextIdOf st ≤ 281474976710656)
-    settle-in = (in-stores, omega (arith, p .records), rw is (omega (arith, p .stamps)), omega (arith, p .ids))
+    pub settle-in : (s < maxStores) × (maxNumbers ≤ length (st .books)) × (g .n ≤ 128) × (b .stamp ≤ 281474976710656) × (nextIdOf st ≤ 281474976710656)
+    settle-in = (in-stores, p .sound .lent .books, omega (arith, p .records), rw is (omega (arith, p .stamps)), omega (arith, p .ids))
 
   -- ---- what is left
 

@@ -1,12 +1,13 @@
 use evicted::Evicted;
 use gaps::Gaps;
-use lent::Small;
 use model::Book;
 use model::Span;
 use trim::Trimming;
 ghost use mathlib.Core.Path.{_≡_};
 ghost use mathlib.Core.List.{[], _∷_};
 ghost use Prim.Native.Nat.{_+_, _≤_, _<_};
+ghost use lib.ListN.{length};
+ghost use Rattle.model.specs.Sizes.{maxStores, maxNumbers};
 ghost use Rattle.model.specs.State.{nodesIn, usedIn, nextIdIn};
 ghost use Rattle.model.specs.Trim.{stallsAfter};
 ghost use Rattle.model.specs.Refusals.{OutFits};
@@ -31,8 +32,8 @@ fn stalls_after(stalled: bool, stalls: u64) -> u64
 }
 
 // The small numbers after store s, whose own were b, was trimmed; `need` is how many stamps and ids were given.
-fn settle(books: &mut [u64; 69], s: usize, b: Book, need: usize, t: Trimming)
-    requires { ⌜ (s < 8) × (need ≤ 128) × (b .stamp ≤ 281474976710656) × (nextIdIn (now books) ≤ 281474976710656) ⌝ }
+fn settle(books: &mut [u64], s: usize, b: Book, need: usize, t: Trimming)
+    requires { ⌜ (s < maxStores) × (maxNumbers ≤ length (now books)) × (need ≤ 128) × (b .stamp ≤ 281474976710656) × (nextIdIn (now books) ≤ 281474976710656) ⌝ }
     ensures { λ _. ⌜ now (books .exit) ≡ settled s b need (t .n) (t .held) (t .outs) (t .stalled) (now (books .entry)) ⌝ }
 {
     let given = need as u64;
@@ -47,13 +48,7 @@ fn settle(books: &mut [u64; 69], s: usize, b: Book, need: usize, t: Trimming)
     books::put_next(books, next, stalls);
 }
 
-// The small numbers afterwards, and how many spans were given out.
-pub struct Brought {
-    pub small: Small,
-    pub outs: usize,
-}
-
-// A span brought into store s, which has a capacity, once the gaps are known.
+// A span brought into store s, which has a capacity, once the gaps are known: how many spans were given out.
 pub fn bring_in(
     node: &mut [usize],
     start: &mut [usize],
@@ -79,17 +74,17 @@ pub fn bring_in(
     pin_end: &[usize],
     pin_count: &[u64],
     bytes: &[u64],
-    x: Small,
+    books: &mut [u64],
     s: usize,
     sp: Span,
     g: Gaps,
     time: f64,
     w: u32,
-) -> Brought
-    requires { ⌜ InsertReady (stateOf (treeOf (now parent) (now depth) (now len) (now run) (now words) (nodesIn (x .books)) (usedIn (x .books))) (rangesOf (now node) (now start) (now end) (now id) (now stamp) (now touched) (now write)) (pinsOf (now «pin_node») (now «pin_start») (now «pin_end») (now «pin_count»)) (now marks) (now bytes) (x .books)) (outList (now «out_node») (now «out_start») (now «out_end») (now «out_write») (now «out_bytes») (now «out_dead»)) s sp g time ⌝ }
-    ensures { λ r. ⌜ BroughtIn (stateOf (treeOf (now (parent .entry)) (now (depth .entry)) (now (len .entry)) (now (run .entry)) (now (words .entry)) (nodesIn (x .books)) (usedIn (x .books))) (rangesOf (now (node .entry)) (now (start .entry)) (now (end .entry)) (now (id .entry)) (now (stamp .entry)) (now (touched .entry)) (now (write .entry))) (pinsOf (now («pin_node» .entry)) (now («pin_start» .entry)) (now («pin_end» .entry)) (now («pin_count» .entry))) (now (marks .entry)) (now (bytes .entry)) (x .books)) (outList (now («out_node» .entry)) (now («out_start» .entry)) (now («out_end» .entry)) (now («out_write» .entry)) (now («out_bytes» .entry)) (now («out_dead» .entry))) s sp time w (stateOf (treeOf (now (parent .entry)) (now (depth .entry)) (now (len .entry)) (now (run .entry)) (now (words .entry)) (nodesIn (r .small .books)) (usedIn (r .small .books))) (rangesOf (now (node .exit)) (now (start .exit)) (now (end .exit)) (now (id .exit)) (now (stamp .exit)) (now (touched .exit)) (now (write .exit))) (pinsOf (now («pin_node» .entry)) (now («pin_start» .entry)) (now («pin_end» .entry)) (now («pin_count» .entry))) (now (marks .exit)) (now (bytes .entry)) (r .small .books)) (outList (now («out_node» .exit)) (now («out_start» .exit)) (now («out_end» .exit)) (now («out_write» .exit)) (now («out_bytes» .exit)) (now («out_dead» .exit))) (r .outs) ⌝ }
+) -> usize
+    requires { ⌜ InsertReady (stateOf (treeOf (now parent) (now depth) (now len) (now run) (now words) (nodesIn (now books)) (usedIn (now books))) (rangesOf (now node) (now start) (now end) (now id) (now stamp) (now touched) (now write)) (pinsOf (now «pin_node») (now «pin_start») (now «pin_end») (now «pin_count»)) (now marks) (now bytes) (now books)) (outList (now «out_node») (now «out_start») (now «out_end») (now «out_write») (now «out_bytes») (now «out_dead»)) s sp g time ⌝ }
+    ensures { λ r. ⌜ BroughtIn (stateOf (treeOf (now (parent .entry)) (now (depth .entry)) (now (len .entry)) (now (run .entry)) (now (words .entry)) (nodesIn (now (books .entry))) (usedIn (now (books .entry)))) (rangesOf (now (node .entry)) (now (start .entry)) (now (end .entry)) (now (id .entry)) (now (stamp .entry)) (now (touched .entry)) (now (write .entry))) (pinsOf (now («pin_node» .entry)) (now («pin_start» .entry)) (now («pin_end» .entry)) (now («pin_count» .entry))) (now (marks .entry)) (now (bytes .entry)) (now (books .entry))) (outList (now («out_node» .entry)) (now («out_start» .entry)) (now («out_end» .entry)) (now («out_write» .entry)) (now («out_bytes» .entry)) (now («out_dead» .entry))) s sp time w (stateOf (treeOf (now (parent .entry)) (now (depth .entry)) (now (len .entry)) (now (run .entry)) (now (words .entry)) (nodesIn (now (books .exit))) (usedIn (now (books .exit)))) (rangesOf (now (node .exit)) (now (start .exit)) (now (end .exit)) (now (id .exit)) (now (stamp .exit)) (now (touched .exit)) (now (write .exit))) (pinsOf (now («pin_node» .entry)) (now («pin_start» .entry)) (now («pin_end» .entry)) (now («pin_count» .entry))) (now (marks .exit)) (now (bytes .entry)) (now (books .exit))) (outList (now («out_node» .exit)) (now («out_start» .exit)) (now («out_end» .exit)) (now («out_write» .exit)) (now («out_bytes» .exit)) (now («out_dead» .exit))) r ⌝ }
 {
-    let b = books::book_of(&x.books, s);
+    let b = books::book_of(books, s);
     let t = bringpart::bring_pools(
         node,
         start,
@@ -118,16 +113,12 @@ pub fn bring_in(
         sp.node,
         g,
         b.stamp,
-        x.books[3],
+        books[3],
         time,
         w,
     );
-    let mut y = x;
-    settle(&mut y.books, s, b, g.n, t);
-    Brought {
-        small: y,
-        outs: t.outs,
-    }
+    settle(books, s, b, g.n, t);
+    t.outs
 }
 
 // With capacity 0 the whole span is given out at once.

@@ -3,14 +3,10 @@
 use model::Span;
 ghost use mathlib.Core.Path.{_≡_};
 ghost use lib.ListN.{length};
-ghost use Rattle.model.specs.Calls.{resolveCall, insert as insertCall, storeInsert, storeRemove, storeExpire, pinSource, unpinSource};
-ghost use Rattle.tree.specs.Walk.{pathListOf};
-ghost use Rattle.evicted.specs.Evicted.{outList};
-ghost use Rattle.tiers.specs.Tiers.{tierListOf};
-ghost use Rattle.looking.specs.Looking.{listsOf, LookedUp};
+ghost use Rattle.model.specs.Calls.{resolveCall, insert as insertCall, storeInsert, storeRemove, storeExpire, pinSource, unpinSource, lookup};
+ghost use Rattle.radix.specs.Radix.{pathListOf, outList, tierListOf, listsOf};
 ghost use Rattle.answers.specs.Answers.{stateFrom, outcome};
-ghost use Rattle.exported.specs.Books.{smallFrom};
-ghost use Rattle.exported.specs.Told.{toldPlain, toldCount, toldPath, toldInserted, toldLooked};
+ghost use Rattle.exported.specs.Told.{toldPlain, toldPath, toldInserted, toldStoreInserted, toldStoreRemoved, toldStoreExpired, toldLooked};
 
 // How far the tree has a list, on any state.
 #[no_mangle]
@@ -33,17 +29,16 @@ pub extern "C" fn scorebeetle_checked_resolve(
     pin_count: &[u64],
     marks: &[usize],
     bytes: &[u64],
+    books: &[u64],
     path_node: &mut [usize],
     path_len: &mut [usize],
-    books: &[u64; 69],
     answer: &mut [u64; 19],
     hashes: &[u64],
 ) -> u8
-    requires { ⌜ (length (now answer) ≡ 19) ⌝ }
-    ensures { λ r. ⌜ outcome (stateFrom (now (parent .entry)) (now (depth .entry)) (now (len .entry)) (now (run .entry)) (now (words .entry)) (now (node .entry)) (now (start .entry)) (now (end .entry)) (now (id .entry)) (now (stamp .entry)) (now (touched .entry)) (now (write .entry)) (now («pin_node» .entry)) (now («pin_start» .entry)) (now («pin_end» .entry)) (now («pin_count» .entry)) (now (marks .entry)) (now (bytes .entry)) (smallFrom (now (books .entry)))) (pathListOf (now («path_node» .exit)) (now («path_len» .exit))) (toldPath r (now (answer .exit))) ≡ resolveCall (stateFrom (now (parent .entry)) (now (depth .entry)) (now (len .entry)) (now (run .entry)) (now (words .entry)) (now (node .entry)) (now (start .entry)) (now (end .entry)) (now (id .entry)) (now (stamp .entry)) (now (touched .entry)) (now (write .entry)) (now («pin_node» .entry)) (now («pin_start» .entry)) (now («pin_end» .entry)) (now («pin_count» .entry)) (now (marks .entry)) (now (bytes .entry)) (smallFrom (now (books .entry)))) (pathListOf (now («path_node» .entry)) (now («path_len» .entry))) (now (hashes .entry)) ⌝ }
+    requires { ⌜ length (now answer) ≡ 19 ⌝ }
+    ensures { λ r. ⌜ outcome (stateFrom (now (parent .entry)) (now (depth .entry)) (now (len .entry)) (now (run .entry)) (now (words .entry)) (now (node .entry)) (now (start .entry)) (now (end .entry)) (now (id .entry)) (now (stamp .entry)) (now (touched .entry)) (now (write .entry)) (now («pin_node» .entry)) (now («pin_start» .entry)) (now («pin_end» .entry)) (now («pin_count» .entry)) (now (marks .entry)) (now (bytes .entry)) (now (books .entry))) (pathListOf (now («path_node» .exit)) (now («path_len» .exit))) (toldPath r (now (answer .exit))) ≡ resolveCall (stateFrom (now (parent .entry)) (now (depth .entry)) (now (len .entry)) (now (run .entry)) (now (words .entry)) (now (node .entry)) (now (start .entry)) (now (end .entry)) (now (id .entry)) (now (stamp .entry)) (now (touched .entry)) (now (write .entry)) (now («pin_node» .entry)) (now («pin_start» .entry)) (now («pin_end» .entry)) (now («pin_count» .entry)) (now (marks .entry)) (now (bytes .entry)) (now (books .entry))) (pathListOf (now («path_node» .entry)) (now («path_len» .entry))) (now (hashes .entry)) ⌝ }
 {
-    let x = exported::books::small_from(books);
-    let r = publictree::resolve(
+    let r = radix::resolve(
         parent,
         depth,
         len,
@@ -62,9 +57,9 @@ pub extern "C" fn scorebeetle_checked_resolve(
         pin_count,
         marks,
         bytes,
+        books,
         path_node,
         path_len,
-        x,
         hashes,
     );
     exported::told::path(answer, r)
@@ -91,17 +86,16 @@ pub extern "C" fn scorebeetle_checked_insert(
     pin_count: &mut [u64],
     marks: &mut [usize],
     bytes: &[u64],
+    books: &mut [u64],
     path_node: &mut [usize],
     path_len: &mut [usize],
-    books: &mut [u64; 69],
     answer: &mut [u64; 19],
     hashes: &[u64],
 ) -> u8
-    requires { ⌜ (length (now books) ≡ 69) × (length (now answer) ≡ 19) ⌝ }
-    ensures { λ r. ⌜ outcome (stateFrom (now (parent .exit)) (now (depth .exit)) (now (len .exit)) (now (run .exit)) (now (words .exit)) (now (node .exit)) (now (start .exit)) (now (end .exit)) (now (id .exit)) (now (stamp .exit)) (now (touched .exit)) (now (write .exit)) (now («pin_node» .exit)) (now («pin_start» .exit)) (now («pin_end» .exit)) (now («pin_count» .exit)) (now (marks .exit)) (now (bytes .entry)) (smallFrom (now (books .exit)))) (pathListOf (now («path_node» .exit)) (now («path_len» .exit))) (toldInserted r (now (answer .exit))) ≡ insertCall (stateFrom (now (parent .entry)) (now (depth .entry)) (now (len .entry)) (now (run .entry)) (now (words .entry)) (now (node .entry)) (now (start .entry)) (now (end .entry)) (now (id .entry)) (now (stamp .entry)) (now (touched .entry)) (now (write .entry)) (now («pin_node» .entry)) (now («pin_start» .entry)) (now («pin_end» .entry)) (now («pin_count» .entry)) (now (marks .entry)) (now (bytes .entry)) (smallFrom (now (books .entry)))) (pathListOf (now («path_node» .entry)) (now («path_len» .entry))) (now (hashes .entry)) ⌝ }
+    requires { ⌜ length (now answer) ≡ 19 ⌝ }
+    ensures { λ r. ⌜ outcome (stateFrom (now (parent .exit)) (now (depth .exit)) (now (len .exit)) (now (run .exit)) (now (words .exit)) (now (node .exit)) (now (start .exit)) (now (end .exit)) (now (id .exit)) (now (stamp .exit)) (now (touched .exit)) (now (write .exit)) (now («pin_node» .exit)) (now («pin_start» .exit)) (now («pin_end» .exit)) (now («pin_count» .exit)) (now (marks .exit)) (now (bytes .entry)) (now (books .exit))) (pathListOf (now («path_node» .exit)) (now («path_len» .exit))) (toldInserted r (now (answer .exit))) ≡ insertCall (stateFrom (now (parent .entry)) (now (depth .entry)) (now (len .entry)) (now (run .entry)) (now (words .entry)) (now (node .entry)) (now (start .entry)) (now (end .entry)) (now (id .entry)) (now (stamp .entry)) (now (touched .entry)) (now (write .entry)) (now («pin_node» .entry)) (now («pin_start» .entry)) (now («pin_end» .entry)) (now («pin_count» .entry)) (now (marks .entry)) (now (bytes .entry)) (now (books .entry))) (pathListOf (now («path_node» .entry)) (now («path_len» .entry))) (now (hashes .entry)) ⌝ }
 {
-    let x = exported::books::small_from(books);
-    let r = publicinsert::insert(
+    let r = radix::insert(
         parent,
         depth,
         len,
@@ -120,15 +114,12 @@ pub extern "C" fn scorebeetle_checked_insert(
         pin_count,
         marks,
         bytes,
+        books,
         path_node,
         path_len,
-        x,
         hashes,
     );
-    let small = r.small;
-    let a = r.answer;
-    exported::books::keep_small(books, small);
-    exported::told::inserted(answer, a)
+    exported::told::inserted(answer, r)
 }
 
 // A span into store s, on any state.
@@ -152,13 +143,13 @@ pub extern "C" fn scorebeetle_checked_store_insert(
     pin_count: &[u64],
     marks: &mut [usize],
     bytes: &[u64],
+    books: &mut [u64],
     out_node: &mut [usize],
     out_start: &mut [usize],
     out_end: &mut [usize],
     out_write: &mut [u32],
     out_bytes: &mut [u64],
     out_dead: &mut [u64],
-    books: &mut [u64; 69],
     answer: &mut [u64; 19],
     s: usize,
     on: usize,
@@ -167,16 +158,15 @@ pub extern "C" fn scorebeetle_checked_store_insert(
     time: f64,
     w: u32,
 ) -> u8
-    requires { ⌜ (length (now books) ≡ 69) × (length (now answer) ≡ 19) ⌝ }
-    ensures { λ r. ⌜ outcome (stateFrom (now (parent .entry)) (now (depth .entry)) (now (len .entry)) (now (run .entry)) (now (words .entry)) (now (node .exit)) (now (start .exit)) (now (end .exit)) (now (id .exit)) (now (stamp .exit)) (now (touched .exit)) (now (write .exit)) (now («pin_node» .entry)) (now («pin_start» .entry)) (now («pin_end» .entry)) (now («pin_count» .entry)) (now (marks .exit)) (now (bytes .entry)) (smallFrom (now (books .exit)))) (outList (now («out_node» .exit)) (now («out_start» .exit)) (now («out_end» .exit)) (now («out_write» .exit)) (now («out_bytes» .exit)) (now («out_dead» .exit))) (toldCount r (now (answer .exit))) ≡ storeInsert (stateFrom (now (parent .entry)) (now (depth .entry)) (now (len .entry)) (now (run .entry)) (now (words .entry)) (now (node .entry)) (now (start .entry)) (now (end .entry)) (now (id .entry)) (now (stamp .entry)) (now (touched .entry)) (now (write .entry)) (now («pin_node» .entry)) (now («pin_start» .entry)) (now («pin_end» .entry)) (now («pin_count» .entry)) (now (marks .entry)) (now (bytes .entry)) (smallFrom (now (books .entry)))) (outList (now («out_node» .entry)) (now («out_start» .entry)) (now («out_end» .entry)) (now («out_write» .entry)) (now («out_bytes» .entry)) (now («out_dead» .entry))) s (record { node = on; start = from; end = upto }) time w ⌝ }
+    requires { ⌜ length (now answer) ≡ 19 ⌝ }
+    ensures { λ r. ⌜ outcome (stateFrom (now (parent .entry)) (now (depth .entry)) (now (len .entry)) (now (run .entry)) (now (words .entry)) (now (node .exit)) (now (start .exit)) (now (end .exit)) (now (id .exit)) (now (stamp .exit)) (now (touched .exit)) (now (write .exit)) (now («pin_node» .entry)) (now («pin_start» .entry)) (now («pin_end» .entry)) (now («pin_count» .entry)) (now (marks .exit)) (now (bytes .entry)) (now (books .exit))) (outList (now («out_node» .exit)) (now («out_start» .exit)) (now («out_end» .exit)) (now («out_write» .exit)) (now («out_bytes» .exit)) (now («out_dead» .exit))) (toldStoreInserted r (now (answer .exit))) ≡ storeInsert (stateFrom (now (parent .entry)) (now (depth .entry)) (now (len .entry)) (now (run .entry)) (now (words .entry)) (now (node .entry)) (now (start .entry)) (now (end .entry)) (now (id .entry)) (now (stamp .entry)) (now (touched .entry)) (now (write .entry)) (now («pin_node» .entry)) (now («pin_start» .entry)) (now («pin_end» .entry)) (now («pin_count» .entry)) (now (marks .entry)) (now (bytes .entry)) (now (books .entry))) (outList (now («out_node» .entry)) (now («out_start» .entry)) (now («out_end» .entry)) (now («out_write» .entry)) (now («out_bytes» .entry)) (now («out_dead» .entry))) s (record { node = on; start = from; end = upto }) time w ⌝ }
 {
-    let x = exported::books::small_from(books);
     let sp = Span {
         node: on,
         start: from,
         end: upto,
     };
-    let r = publicstore::store_insert(
+    let r = radix::store_insert(
         parent,
         depth,
         len,
@@ -195,22 +185,19 @@ pub extern "C" fn scorebeetle_checked_store_insert(
         pin_count,
         marks,
         bytes,
+        books,
         out_node,
         out_start,
         out_end,
         out_write,
         out_bytes,
         out_dead,
-        x,
         s,
         sp,
         time,
         w,
     );
-    let small = r.small;
-    let a = r.answer;
-    exported::books::keep_small(books, small);
-    exported::told::count(answer, a)
+    exported::told::store_inserted(answer, r)
 }
 
 // A span out of store s, on any state.
@@ -234,24 +221,23 @@ pub extern "C" fn scorebeetle_checked_store_remove(
     pin_count: &[u64],
     marks: &mut [usize],
     bytes: &[u64],
+    books: &mut [u64],
     list: &mut [u32],
-    books: &mut [u64; 69],
     answer: &mut [u64; 19],
     s: usize,
     on: usize,
     from: usize,
     upto: usize,
 ) -> u8
-    requires { ⌜ (length (now books) ≡ 69) × (length (now answer) ≡ 19) ⌝ }
-    ensures { λ r. ⌜ outcome (stateFrom (now (parent .entry)) (now (depth .entry)) (now (len .entry)) (now (run .entry)) (now (words .entry)) (now (node .exit)) (now (start .exit)) (now (end .exit)) (now (id .exit)) (now (stamp .exit)) (now (touched .exit)) (now (write .exit)) (now («pin_node» .entry)) (now («pin_start» .entry)) (now («pin_end» .entry)) (now («pin_count» .entry)) (now (marks .exit)) (now (bytes .entry)) (smallFrom (now (books .exit)))) (now (list .exit)) (toldCount r (now (answer .exit))) ≡ storeRemove (stateFrom (now (parent .entry)) (now (depth .entry)) (now (len .entry)) (now (run .entry)) (now (words .entry)) (now (node .entry)) (now (start .entry)) (now (end .entry)) (now (id .entry)) (now (stamp .entry)) (now (touched .entry)) (now (write .entry)) (now («pin_node» .entry)) (now («pin_start» .entry)) (now («pin_end» .entry)) (now («pin_count» .entry)) (now (marks .entry)) (now (bytes .entry)) (smallFrom (now (books .entry)))) (now (list .entry)) s (record { node = on; start = from; end = upto }) ⌝ }
+    requires { ⌜ length (now answer) ≡ 19 ⌝ }
+    ensures { λ r. ⌜ outcome (stateFrom (now (parent .entry)) (now (depth .entry)) (now (len .entry)) (now (run .entry)) (now (words .entry)) (now (node .exit)) (now (start .exit)) (now (end .exit)) (now (id .exit)) (now (stamp .exit)) (now (touched .exit)) (now (write .exit)) (now («pin_node» .entry)) (now («pin_start» .entry)) (now («pin_end» .entry)) (now («pin_count» .entry)) (now (marks .exit)) (now (bytes .entry)) (now (books .exit))) (now (list .exit)) (toldStoreRemoved r (now (answer .exit))) ≡ storeRemove (stateFrom (now (parent .entry)) (now (depth .entry)) (now (len .entry)) (now (run .entry)) (now (words .entry)) (now (node .entry)) (now (start .entry)) (now (end .entry)) (now (id .entry)) (now (stamp .entry)) (now (touched .entry)) (now (write .entry)) (now («pin_node» .entry)) (now («pin_start» .entry)) (now («pin_end» .entry)) (now («pin_count» .entry)) (now (marks .entry)) (now (bytes .entry)) (now (books .entry))) (now (list .entry)) s (record { node = on; start = from; end = upto }) ⌝ }
 {
-    let x = exported::books::small_from(books);
     let sp = Span {
         node: on,
         start: from,
         end: upto,
     };
-    let r = publicstore::store_remove(
+    let r = radix::store_remove(
         parent,
         depth,
         len,
@@ -270,15 +256,12 @@ pub extern "C" fn scorebeetle_checked_store_remove(
         pin_count,
         marks,
         bytes,
+        books,
         list,
-        x,
         s,
         sp,
     );
-    let small = r.small;
-    let a = r.answer;
-    exported::books::keep_small(books, small);
-    exported::told::count(answer, a)
+    exported::told::store_removed(answer, r)
 }
 
 // What is older than the seconds leaves store s, on any state.
@@ -302,23 +285,22 @@ pub extern "C" fn scorebeetle_checked_store_expire(
     pin_count: &[u64],
     marks: &mut [usize],
     bytes: &[u64],
+    books: &mut [u64],
     out_node: &mut [usize],
     out_start: &mut [usize],
     out_end: &mut [usize],
     out_write: &mut [u32],
     out_bytes: &mut [u64],
     out_dead: &mut [u64],
-    books: &mut [u64; 69],
     answer: &mut [u64; 19],
     s: usize,
     time: f64,
     seconds: f64,
 ) -> u8
-    requires { ⌜ (length (now books) ≡ 69) × (length (now answer) ≡ 19) ⌝ }
-    ensures { λ r. ⌜ outcome (stateFrom (now (parent .entry)) (now (depth .entry)) (now (len .entry)) (now (run .entry)) (now (words .entry)) (now (node .exit)) (now (start .exit)) (now (end .exit)) (now (id .exit)) (now (stamp .exit)) (now (touched .exit)) (now (write .exit)) (now («pin_node» .entry)) (now («pin_start» .entry)) (now («pin_end» .entry)) (now («pin_count» .entry)) (now (marks .exit)) (now (bytes .entry)) (smallFrom (now (books .exit)))) (outList (now («out_node» .exit)) (now («out_start» .exit)) (now («out_end» .exit)) (now («out_write» .exit)) (now («out_bytes» .exit)) (now («out_dead» .exit))) (toldCount r (now (answer .exit))) ≡ storeExpire (stateFrom (now (parent .entry)) (now (depth .entry)) (now (len .entry)) (now (run .entry)) (now (words .entry)) (now (node .entry)) (now (start .entry)) (now (end .entry)) (now (id .entry)) (now (stamp .entry)) (now (touched .entry)) (now (write .entry)) (now («pin_node» .entry)) (now («pin_start» .entry)) (now («pin_end» .entry)) (now («pin_count» .entry)) (now (marks .entry)) (now (bytes .entry)) (smallFrom (now (books .entry)))) (outList (now («out_node» .entry)) (now («out_start» .entry)) (now («out_end» .entry)) (now («out_write» .entry)) (now («out_bytes» .entry)) (now («out_dead» .entry))) s time seconds ⌝ }
+    requires { ⌜ length (now answer) ≡ 19 ⌝ }
+    ensures { λ r. ⌜ outcome (stateFrom (now (parent .entry)) (now (depth .entry)) (now (len .entry)) (now (run .entry)) (now (words .entry)) (now (node .exit)) (now (start .exit)) (now (end .exit)) (now (id .exit)) (now (stamp .exit)) (now (touched .exit)) (now (write .exit)) (now («pin_node» .entry)) (now («pin_start» .entry)) (now («pin_end» .entry)) (now («pin_count» .entry)) (now (marks .exit)) (now (bytes .entry)) (now (books .exit))) (outList (now («out_node» .exit)) (now («out_start» .exit)) (now («out_end» .exit)) (now («out_write» .exit)) (now («out_bytes» .exit)) (now («out_dead» .exit))) (toldStoreExpired r (now (answer .exit))) ≡ storeExpire (stateFrom (now (parent .entry)) (now (depth .entry)) (now (len .entry)) (now (run .entry)) (now (words .entry)) (now (node .entry)) (now (start .entry)) (now (end .entry)) (now (id .entry)) (now (stamp .entry)) (now (touched .entry)) (now (write .entry)) (now («pin_node» .entry)) (now («pin_start» .entry)) (now («pin_end» .entry)) (now («pin_count» .entry)) (now (marks .entry)) (now (bytes .entry)) (now (books .entry))) (outList (now («out_node» .entry)) (now («out_start» .entry)) (now («out_end» .entry)) (now («out_write» .entry)) (now («out_bytes» .entry)) (now («out_dead» .entry))) s time seconds ⌝ }
 {
-    let x = exported::books::small_from(books);
-    let r = publicstore::store_expire(
+    let r = radix::store_expire(
         parent,
         depth,
         len,
@@ -337,21 +319,18 @@ pub extern "C" fn scorebeetle_checked_store_expire(
         pin_count,
         marks,
         bytes,
+        books,
         out_node,
         out_start,
         out_end,
         out_write,
         out_bytes,
         out_dead,
-        x,
         s,
         time,
         seconds,
     );
-    let small = r.small;
-    let a = r.answer;
-    exported::books::keep_small(books, small);
-    exported::told::count(answer, a)
+    exported::told::store_expired(answer, r)
 }
 
 // A pin on a span of store s, on any state.
@@ -375,22 +354,20 @@ pub extern "C" fn scorebeetle_checked_pin_source(
     pin_count: &mut [u64],
     marks: &[usize],
     bytes: &[u64],
-    books: &mut [u64; 69],
+    books: &mut [u64],
     s: usize,
     on: usize,
     from: usize,
     upto: usize,
 ) -> u8
-    requires { ⌜ (length (now books) ≡ 69) ⌝ }
-    ensures { λ r. ⌜ outcome (stateFrom (now (parent .entry)) (now (depth .entry)) (now (len .entry)) (now (run .entry)) (now (words .entry)) (now (node .entry)) (now (start .entry)) (now (end .entry)) (now (id .entry)) (now (stamp .entry)) (now (touched .entry)) (now (write .entry)) (now («pin_node» .exit)) (now («pin_start» .exit)) (now («pin_end» .exit)) (now («pin_count» .exit)) (now (marks .entry)) (now (bytes .entry)) (smallFrom (now (books .exit)))) tt (toldPlain r) ≡ pinSource (stateFrom (now (parent .entry)) (now (depth .entry)) (now (len .entry)) (now (run .entry)) (now (words .entry)) (now (node .entry)) (now (start .entry)) (now (end .entry)) (now (id .entry)) (now (stamp .entry)) (now (touched .entry)) (now (write .entry)) (now («pin_node» .entry)) (now («pin_start» .entry)) (now («pin_end» .entry)) (now («pin_count» .entry)) (now (marks .entry)) (now (bytes .entry)) (smallFrom (now (books .entry)))) s (record { node = on; start = from; end = upto }) ⌝ }
+    ensures { λ r. ⌜ outcome (stateFrom (now (parent .entry)) (now (depth .entry)) (now (len .entry)) (now (run .entry)) (now (words .entry)) (now (node .entry)) (now (start .entry)) (now (end .entry)) (now (id .entry)) (now (stamp .entry)) (now (touched .entry)) (now (write .entry)) (now («pin_node» .exit)) (now («pin_start» .exit)) (now («pin_end» .exit)) (now («pin_count» .exit)) (now (marks .entry)) (now (bytes .entry)) (now (books .exit))) tt (toldPlain r) ≡ pinSource (stateFrom (now (parent .entry)) (now (depth .entry)) (now (len .entry)) (now (run .entry)) (now (words .entry)) (now (node .entry)) (now (start .entry)) (now (end .entry)) (now (id .entry)) (now (stamp .entry)) (now (touched .entry)) (now (write .entry)) (now («pin_node» .entry)) (now («pin_start» .entry)) (now («pin_end» .entry)) (now («pin_count» .entry)) (now (marks .entry)) (now (bytes .entry)) (now (books .entry))) s (record { node = on; start = from; end = upto }) ⌝ }
 {
-    let x = exported::books::small_from(books);
     let sp = Span {
         node: on,
         start: from,
         end: upto,
     };
-    let r = publicpins::pin_source(
+    let r = radix::pin_source(
         parent,
         depth,
         len,
@@ -409,14 +386,11 @@ pub extern "C" fn scorebeetle_checked_pin_source(
         pin_count,
         marks,
         bytes,
-        x,
+        books,
         s,
         sp,
     );
-    let small = r.small;
-    let a = r.answer;
-    exported::books::keep_small(books, small);
-    exported::told::plain(a)
+    exported::told::plain(r)
 }
 
 // A pin off a span of store s, on any state.
@@ -440,22 +414,20 @@ pub extern "C" fn scorebeetle_checked_unpin_source(
     pin_count: &mut [u64],
     marks: &[usize],
     bytes: &[u64],
-    books: &mut [u64; 69],
+    books: &mut [u64],
     s: usize,
     on: usize,
     from: usize,
     upto: usize,
 ) -> u8
-    requires { ⌜ (length (now books) ≡ 69) ⌝ }
-    ensures { λ r. ⌜ outcome (stateFrom (now (parent .entry)) (now (depth .entry)) (now (len .entry)) (now (run .entry)) (now (words .entry)) (now (node .entry)) (now (start .entry)) (now (end .entry)) (now (id .entry)) (now (stamp .entry)) (now (touched .entry)) (now (write .entry)) (now («pin_node» .exit)) (now («pin_start» .exit)) (now («pin_end» .exit)) (now («pin_count» .exit)) (now (marks .entry)) (now (bytes .entry)) (smallFrom (now (books .exit)))) tt (toldPlain r) ≡ unpinSource (stateFrom (now (parent .entry)) (now (depth .entry)) (now (len .entry)) (now (run .entry)) (now (words .entry)) (now (node .entry)) (now (start .entry)) (now (end .entry)) (now (id .entry)) (now (stamp .entry)) (now (touched .entry)) (now (write .entry)) (now («pin_node» .entry)) (now («pin_start» .entry)) (now («pin_end» .entry)) (now («pin_count» .entry)) (now (marks .entry)) (now (bytes .entry)) (smallFrom (now (books .entry)))) s (record { node = on; start = from; end = upto }) ⌝ }
+    ensures { λ r. ⌜ outcome (stateFrom (now (parent .entry)) (now (depth .entry)) (now (len .entry)) (now (run .entry)) (now (words .entry)) (now (node .entry)) (now (start .entry)) (now (end .entry)) (now (id .entry)) (now (stamp .entry)) (now (touched .entry)) (now (write .entry)) (now («pin_node» .exit)) (now («pin_start» .exit)) (now («pin_end» .exit)) (now («pin_count» .exit)) (now (marks .entry)) (now (bytes .entry)) (now (books .exit))) tt (toldPlain r) ≡ unpinSource (stateFrom (now (parent .entry)) (now (depth .entry)) (now (len .entry)) (now (run .entry)) (now (words .entry)) (now (node .entry)) (now (start .entry)) (now (end .entry)) (now (id .entry)) (now (stamp .entry)) (now (touched .entry)) (now (write .entry)) (now («pin_node» .entry)) (now («pin_start» .entry)) (now («pin_end» .entry)) (now («pin_count» .entry)) (now (marks .entry)) (now (bytes .entry)) (now (books .entry))) s (record { node = on; start = from; end = upto }) ⌝ }
 {
-    let x = exported::books::small_from(books);
     let sp = Span {
         node: on,
         start: from,
         end: upto,
     };
-    let r = publicpins::unpin_source(
+    let r = radix::unpin_source(
         parent,
         depth,
         len,
@@ -474,14 +446,11 @@ pub extern "C" fn scorebeetle_checked_unpin_source(
         pin_count,
         marks,
         bytes,
-        x,
+        books,
         s,
         sp,
     );
-    let small = r.small;
-    let a = r.answer;
-    exported::books::keep_small(books, small);
-    exported::told::plain(a)
+    exported::told::plain(r)
 }
 
 // What the tiers hold of a list, along its path from block 0, on any state.
@@ -505,22 +474,21 @@ pub extern "C" fn scorebeetle_checked_lookup(
     pin_count: &[u64],
     marks: &[usize],
     bytes: &[u64],
+    books: &[u64],
     path_node: &mut [usize],
     path_len: &mut [usize],
     span_tier: &mut [usize],
     span_node: &mut [usize],
     span_start: &mut [usize],
     span_end: &mut [usize],
-    books: &[u64; 69],
     answer: &mut [u64; 19],
     tiers: &[usize],
     hashes: &[u64],
 ) -> u8
-    requires { ⌜ (length (now answer) ≡ 19) ⌝ }
-    ensures { λ r. ⌜ LookedUp (stateFrom (now (parent .entry)) (now (depth .entry)) (now (len .entry)) (now (run .entry)) (now (words .entry)) (now (node .entry)) (now (start .entry)) (now (end .entry)) (now (id .entry)) (now (stamp .entry)) (now (touched .entry)) (now (write .entry)) (now («pin_node» .entry)) (now («pin_start» .entry)) (now («pin_end» .entry)) (now («pin_count» .entry)) (now (marks .entry)) (now (bytes .entry)) (smallFrom (now (books .entry)))) (listsOf (pathListOf (now («path_node» .entry)) (now («path_len» .entry))) (tierListOf (now («span_tier» .entry)) (now («span_node» .entry)) (now («span_start» .entry)) (now («span_end» .entry)))) (now (tiers .entry)) (now (hashes .entry)) (listsOf (pathListOf (now («path_node» .exit)) (now («path_len» .exit))) (tierListOf (now («span_tier» .exit)) (now («span_node» .exit)) (now («span_start» .exit)) (now («span_end» .exit)))) (toldLooked r (now (answer .exit))) ⌝ }
+    requires { ⌜ length (now answer) ≡ 19 ⌝ }
+    ensures { λ r. ⌜ outcome (stateFrom (now (parent .entry)) (now (depth .entry)) (now (len .entry)) (now (run .entry)) (now (words .entry)) (now (node .entry)) (now (start .entry)) (now (end .entry)) (now (id .entry)) (now (stamp .entry)) (now (touched .entry)) (now (write .entry)) (now («pin_node» .entry)) (now («pin_start» .entry)) (now («pin_end» .entry)) (now («pin_count» .entry)) (now (marks .entry)) (now (bytes .entry)) (now (books .entry))) (listsOf (pathListOf (now («path_node» .exit)) (now («path_len» .exit))) (tierListOf (now («span_tier» .exit)) (now («span_node» .exit)) (now («span_start» .exit)) (now («span_end» .exit)))) (toldLooked r (now (answer .exit))) ≡ lookup (stateFrom (now (parent .entry)) (now (depth .entry)) (now (len .entry)) (now (run .entry)) (now (words .entry)) (now (node .entry)) (now (start .entry)) (now (end .entry)) (now (id .entry)) (now (stamp .entry)) (now (touched .entry)) (now (write .entry)) (now («pin_node» .entry)) (now («pin_start» .entry)) (now («pin_end» .entry)) (now («pin_count» .entry)) (now (marks .entry)) (now (bytes .entry)) (now (books .entry))) (listsOf (pathListOf (now («path_node» .entry)) (now («path_len» .entry))) (tierListOf (now («span_tier» .entry)) (now («span_node» .entry)) (now («span_start» .entry)) (now («span_end» .entry)))) (now (tiers .entry)) (now (hashes .entry)) ⌝ }
 {
-    let x = exported::books::small_from(books);
-    let r = publicread::lookup(
+    let r = radix::lookup(
         parent,
         depth,
         len,
@@ -539,13 +507,13 @@ pub extern "C" fn scorebeetle_checked_lookup(
         pin_count,
         marks,
         bytes,
+        books,
         path_node,
         path_len,
         span_tier,
         span_node,
         span_start,
         span_end,
-        x,
         tiers,
         hashes,
     );

@@ -13,7 +13,6 @@ use Rattle.model.specs.SoundTest.{sound}
 use Rattle.model.specs.Calls.{Answer, refused, done, unless, NoList, storeCounter, stallsCall}
 use Rattle.sure.proofs.Says.{true-says}
 use Rattle.sure.proofs.Sound.{sound-says}
-use Rattle.lent.specs.declared.Small.{Small}
 use Rattle.counters.specs.Counted.{Of}
 
 -- the number by the tests of 1 and 2
@@ -31,17 +30,17 @@ is-sound : (st : State) → Sound st → not (sound st) ≡ false
 is-sound st h = ap not (true-says (sound st) (sound-says st) h)
 
 -- g is what is counted of a store's numbers
-module _ (g : Book → ℕ) (x : Small) (s : ℕ) where
-  pub missing : storesIn (x .books) ≤ s → (st : State) → Of x st → refused 2 ≡ storeCounter (λ y k. g (bookOf y k)) st s .answer
-  missing l st o =
-      let b : leb (storesOf st) s ≡ true = ap (λ (y : List ℕ). leb (storesIn y) s) (o .books) ∙ le-leb (storesIn (x .books)) s l in
+module _ (g : Book → ℕ) (l : List ℕ) (s : ℕ) where
+  pub missing : storesIn l ≤ s → (st : State) → Of l st → refused 2 ≡ storeCounter (λ y k. g (bookOf y k)) st s .answer
+  missing h st o =
+      let b : leb (storesOf st) s ≡ true = ap (λ (y : List ℕ). leb (storesIn y) s) (o .books) ∙ le-leb (storesIn l) s h in
       let a = is-sound st (o .sound) in
       sym (λ i. answered st (g (bookOf st s)) (chosen (a i) (b i)))
 
-  pub counted : s < storesIn (x .books) → {k : Book} → k ≡ bookIn (x .books) s → {v : ℕ} → v ≡ g k → (st : State) → Of x st
+  pub counted : s < storesIn l → {k : Book} → k ≡ bookIn l s → {v : ℕ} → v ≡ g k → (st : State) → Of l st
       → done v ≡ storeCounter (λ y j. g (bookOf y j)) st s .answer
-  counted l {k} e {v} f st o =
-      let b : leb (storesOf st) s ≡ false = ap (λ (y : List ℕ). leb (storesIn y) s) (o .books) ∙ lt-leb (storesIn (x .books)) s l in
+  counted h {k} e {v} f st o =
+      let b : leb (storesOf st) s ≡ false = ap (λ (y : List ℕ). leb (storesIn y) s) (o .books) ∙ lt-leb (storesIn l) s h in
       let a = is-sound st (o .sound) in
       let n : g (bookOf st s) ≡ v = ap (λ (y : List ℕ). g (bookIn y s)) (o .books) ∙ ap g (sym e) ∙ sym f in
       sym ((λ i. answered st (g (bookOf st s)) (chosen (a i) (b i))) ∙ ap (λ (j : ℕ). value j) n)
@@ -50,9 +49,9 @@ module _ (g : Book → ℕ) (x : Small) (s : ℕ) where
 pub none-left : {a b : ℕ} → a ≤ b → 0 ≡ a - b
 none-left h = omega arith
 
-pub stalls-is : (x : Small) (st : State) → Of x st → done (stallsIn (x .books)) ≡ stallsCall st .answer
+pub stalls-is : (l : List ℕ) (st : State) → Of l st → done (stallsIn l) ≡ stallsCall st .answer
 unfolding stallsCall
-stalls-is x st o =
+stalls-is l st o =
     let a = is-sound st (o .sound) in
     sym
     ((λ i. answered st (stallsOf st) (elim (a i) as (λ z. ℕ) [ true ↦ 1 | false ↦ 0 ]))

@@ -6,13 +6,15 @@ use native.Mathlib.Numerals.{add-one}
 use native.Mathlib.Omega.{arith}
 use native.Mathlib.Nat.{le-refl, le-of-eq, mul-le-mul-right, sub-zero}
 use lib.ListN.{length}
-use Rattle.model.specs.Sizes.{maxNodes, maxStores, maxStamp}
+use Rattle.model.specs.Sizes.{maxNodes, maxStores, maxNumbers, maxStamp}
 use Rattle.model.specs.State.{Tree, Ranges, Pins, Pin, Range, State, at, nodesIn, usedIn, storesIn, nextIdIn, bookIn, storesOf, nextIdOf}
 use Rattle.model.specs.Sound.{EndsWithin, RunsBelow, PinInside}
 use Rattle.model.specs.Store.{Store, ranges, storeOf, layBook, layNext, layCounts, withRanges, withPins, withNext}
 use Rattle.model.specs.Pins.{pinnedIn}
 use Rattle.model.specs.Insert.{nextNode, rangesAcross, cutTree, cutStoreIn, cutStores, withTree, cut}
 use Rattle.lent.specs.Lent.{treeOf, stateOf}
+use Rattle.books.specs.Books.{recordsIn}
+use Rattle.laid.proofs.Books.{counts-length}
 use Rattle.laid.proofs.Store.{records-length, entries-length}
 use Rattle.kept.specs.Facts.{All}
 use Rattle.kept.specs.StoreSound.{TreeSound, StoreSound, Parts}
@@ -22,9 +24,8 @@ use Rattle.keptstate.proofs.Parts.{sound-parts}
 use Rattle.keptstate.proofs.Cut.{Cutting, Room, StoreCut, needs, sumTo, first-turn, cutIn-is, fits, next-turn}
 use Rattle.cutpins.specs.Entries.{counts}
 use Rattle.cutstore.specs.Needs.{idsBelow}
-use Rattle.insert.specs.Refusal.{recordsIn}
 use Rattle.insert.specs.Halves.{RangesRoom, StoreRoom}
-use Rattle.insert.proofs.Laws.{records-at}
+use Rattle.books.proofs.Laws.{records-at}
 use Rattle.cutstate.specs.Room.{Cuttable, StoresCuttable}
 
 -- ---- a pin of a block or more is at least its count
@@ -126,7 +127,7 @@ module _ (j k m : ℕ) (st : State) (h : Cuttable j k st) (new : st .tree .nodes
 -- ---- the loop
 
 -- the columns of the one are as long as those of the other
-pub record AsLong (c₀ : Ranges) (p₀ : Pins) (ms₀ : List ℕ) (c : Ranges) (p : Pins) (ms : List ℕ) : Type 0 where
+pub record AsLong (c₀ : Ranges) (p₀ : Pins) (ms₀ l₀ : List ℕ) (c : Ranges) (p : Pins) (ms l : List ℕ) : Type 0 where
   pub node : length (c .node) ≡ length (c₀ .node)
   pub start : length (c .start) ≡ length (c₀ .start)
   pub end : length (c .end) ≡ length (c₀ .end)
@@ -139,8 +140,10 @@ pub record AsLong (c₀ : Ranges) (p₀ : Pins) (ms₀ : List ℕ) (c : Ranges) 
   pub pinEnd : length (p .end) ≡ length (p₀ .end)
   pub pinCount : length (p .count) ≡ length (p₀ .count)
   pub marks : length ms ≡ length ms₀
+  pub books : length l ≡ length l₀
 
-long-then : {c₀ c c′ : Ranges} {p₀ p p′ : Pins} {ms₀ ms ms′ : List ℕ} → AsLong c₀ p₀ ms₀ c p ms → AsLong c p ms c′ p′ ms′ → AsLong c₀ p₀ ms₀ c′ p′ ms′
+long-then : {c₀ c c′ : Ranges} {p₀ p p′ : Pins} {ms₀ ms ms′ l₀ l l′ : List ℕ} → AsLong c₀ p₀ ms₀ l₀ c p ms l → AsLong c p ms l c′ p′ ms′ l′
+    → AsLong c₀ p₀ ms₀ l₀ c′ p′ ms′ l′
 long-then a b =
     record {
       node = b .node ∙ a .node;
@@ -155,12 +158,19 @@ long-then a b =
       pinEnd = b .pinEnd ∙ a .pinEnd;
       pinCount = b .pinCount ∙ a .pinCount;
       marks = b .marks ∙ a .marks;
+      books = b .books ∙ a .books;
     }
 
 -- the tree's counts are none of the stores'
 stores-same : (j k m : ℕ) (c : Ranges) (p : Pins) (ms l : List ℕ) (h : StoresCuttable j k m c p ms l) → storesIn l ≡ storesIn (h .old)
 unfolding layCounts
 stores-same j k m c p ms l h = ap storesIn (h .counted)
+
+-- the list is as long as the old one
+pub stores-long : (j k m : ℕ) (c : Ranges) (p : Pins) (ms l : List ℕ) → StoresCuttable j k m c p ms l → maxNumbers ≤ length l
+stores-long j k m c p ms l h =
+    let long = h .whole .sound .lent .books in
+    rw (h .counted, counts-length (h .old) long (cutTree j k (h .tree) .nodes) (cutTree j k (h .tree) .used)) long
 
 -- the invariant: what is left to cut gives what was to be cut, and the state is on its way
 pub record Turning (j k m : ℕ) (c₀ : Ranges) (p₀ : Pins) (ms₀ l₀ : List ℕ) (s : ℕ) (c : Ranges) (p : Pins) (ms l : List ℕ) : Type 0 where
@@ -169,7 +179,7 @@ pub record Turning (j k m : ℕ) (c₀ : Ranges) (p₀ : Pins) (ms₀ l₀ : Lis
       → cutStores j k m s (storesIn l₀ - s) (stateOf t c p ms bytes l) ≡ cutStores j k m 0 (storesIn l₀) (stateOf t c₀ p₀ ms₀ bytes l₀)
   pub way : (h : StoresCuttable j k m c₀ p₀ ms₀ l₀)
       → Cutting j k (stateOf (h .tree) c₀ p₀ ms₀ (h .bytes) (h .old)) (cutTree j k (h .tree)) s (stateOf (cutTree j k (h .tree)) c p ms (h .bytes) l)
-  pub long : AsLong c₀ p₀ ms₀ c p ms
+  pub long : AsLong c₀ p₀ ms₀ l₀ c p ms l
 
 module _ (j k m : ℕ) (c₀ : Ranges) (p₀ : Pins) (ms₀ l₀ : List ℕ) where
   at-first : (h : StoresCuttable j k m c₀ p₀ ms₀ l₀)
@@ -199,6 +209,7 @@ module _ (j k m : ℕ) (c₀ : Ranges) (p₀ : Pins) (ms₀ l₀ : List ℕ) whe
           pinEnd = refl;
           pinCount = refl;
           marks = refl;
+          books = refl;
         };
       }
 
@@ -218,7 +229,7 @@ module _ (j k m : ℕ) (c₀ : Ranges) (p₀ : Pins) (ms₀ l₀ : List ℕ) whe
 
     pub turning-turn : (c′ : Ranges) (p′ : Pins) (ms′ l′ : List ℕ) → s < storesIn l₀
         → ((t : Tree) (bytes : List ℕ) → stateOf t c′ p′ ms′ bytes l′ ≡ cutStoreIn j k m s (stateOf t c p ms bytes l))
-        → AsLong c p ms c′ p′ ms′ → Turning j k m c₀ p₀ ms₀ l₀ (s + 1) c′ p′ ms′ l′
+        → AsLong c p ms l c′ p′ ms′ l′ → Turning j k m c₀ p₀ ms₀ l₀ (s + 1) c′ p′ ms′ l′
     turning-turn c′ p′ ms′ l′ less e g =
         rw (add-one s)
         (record {

@@ -9,8 +9,8 @@ use Rattle.model.specs.Sound.{Sound}
 use Rattle.model.specs.Store.{storeOf, layCounts}
 use Rattle.model.specs.Insert.{rangesAcross, pinsAcross, cutTree}
 use Rattle.lent.specs.Lent.{stateOf}
+use Rattle.books.specs.Books.{recordsIn}
 use Rattle.cutstore.specs.Needs.{idsBelow}
-use Rattle.insert.specs.Refusal.{recordsIn}
 
 -- k lies inside node j, and there is a node, and there are records, pin entries and ids for a cut
 pub record Cuttable (j k : ℕ) (st : State) : Type 0 where

@@ -1,7 +1,6 @@
 use books::put_counts;
 use grow::cut_tree;
 use insert::cut_store;
-use lent::Small;
 ghost use mathlib.Core.Path.{_≡_};
 ghost use mathlib.Core.List.{List};
 ghost use Prim.Native.Nat.{ℕ};
@@ -25,19 +24,18 @@ fn cut_stores(
     pin_end: &mut [usize],
     pin_count: &mut [u64],
     marks: &mut [usize],
-    x: Small,
+    books: &mut [u64],
     j: usize,
     k: usize,
     m: usize,
-) -> Small
-    requires { ⌜ StoresCuttable j k m (rangesOf (now node) (now start) (now end) (now id) (now stamp) (now touched) (now write)) (pinsOf (now «pin_node») (now «pin_start») (now «pin_end») (now «pin_count»)) (now marks) (x .books) ⌝ }
-    ensures { λ r. ⌜ ((t : Tree) (bytes : List ℕ) → stateOf t (rangesOf (now (node .exit)) (now (start .exit)) (now (end .exit)) (now (id .exit)) (now (stamp .exit)) (now (touched .exit)) (now (write .exit))) (pinsOf (now («pin_node» .exit)) (now («pin_start» .exit)) (now («pin_end» .exit)) (now («pin_count» .exit))) (now (marks .exit)) bytes (r .books) ≡ cutStores j k m 0 (storesIn (x .books)) (stateOf t (rangesOf (now (node .entry)) (now (start .entry)) (now (end .entry)) (now (id .entry)) (now (stamp .entry)) (now (touched .entry)) (now (write .entry))) (pinsOf (now («pin_node» .entry)) (now («pin_start» .entry)) (now («pin_end» .entry)) (now («pin_count» .entry))) (now (marks .entry)) bytes (x .books))) ⌝ }
+)
+    requires { ⌜ StoresCuttable j k m (rangesOf (now node) (now start) (now end) (now id) (now stamp) (now touched) (now write)) (pinsOf (now «pin_node») (now «pin_start») (now «pin_end») (now «pin_count»)) (now marks) (now books) ⌝ }
+    ensures { λ _. ⌜ ((t : Tree) (bytes : List ℕ) → stateOf t (rangesOf (now (node .exit)) (now (start .exit)) (now (end .exit)) (now (id .exit)) (now (stamp .exit)) (now (touched .exit)) (now (write .exit))) (pinsOf (now («pin_node» .exit)) (now («pin_start» .exit)) (now («pin_end» .exit)) (now («pin_count» .exit))) (now (marks .exit)) bytes (now (books .exit)) ≡ cutStores j k m 0 (storesIn (now (books .entry))) (stateOf t (rangesOf (now (node .entry)) (now (start .entry)) (now (end .entry)) (now (id .entry)) (now (stamp .entry)) (now (touched .entry)) (now (write .entry))) (pinsOf (now («pin_node» .entry)) (now («pin_start» .entry)) (now («pin_end» .entry)) (now («pin_count» .entry))) (now (marks .entry)) bytes (now (books .entry)))) ⌝ }
 {
-    let stores = x.books[2] as usize;
-    let mut y = x;
+    let stores = books[2] as usize;
     let mut s: usize = 0;
     while s < stores {
-        y = cut_store(
+        cut_store(
             &mut *node,
             &mut *start,
             &mut *end,
@@ -50,7 +48,7 @@ fn cut_stores(
             &mut *pin_end,
             &mut *pin_count,
             &mut *marks,
-            y,
+            &mut *books,
             s,
             j,
             k,
@@ -58,7 +56,6 @@ fn cut_stores(
         );
         s += 1;
     }
-    y
 }
 
 // Node j, cut at k: first in the tree, then in every store. Words and byte table stay.
@@ -81,18 +78,17 @@ pub fn cut_all(
     pin_count: &mut [u64],
     marks: &mut [usize],
     bytes: &[u64],
-    x: Small,
+    books: &mut [u64],
     j: usize,
     k: usize,
-) -> Small
-    requires { ⌜ Cuttable j k (stateFrom (now parent) (now depth) (now len) (now run) (now words) (now node) (now start) (now end) (now id) (now stamp) (now touched) (now write) (now «pin_node») (now «pin_start») (now «pin_end») (now «pin_count») (now marks) (now bytes) x) ⌝ }
-    ensures { λ r. ⌜ stateFrom (now (parent .exit)) (now (depth .exit)) (now (len .exit)) (now (run .exit)) (now (words .entry)) (now (node .exit)) (now (start .exit)) (now (end .exit)) (now (id .exit)) (now (stamp .exit)) (now (touched .exit)) (now (write .exit)) (now («pin_node» .exit)) (now («pin_start» .exit)) (now («pin_end» .exit)) (now («pin_count» .exit)) (now (marks .exit)) (now (bytes .entry)) r ≡ cut j k (stateFrom (now (parent .entry)) (now (depth .entry)) (now (len .entry)) (now (run .entry)) (now (words .entry)) (now (node .entry)) (now (start .entry)) (now (end .entry)) (now (id .entry)) (now (stamp .entry)) (now (touched .entry)) (now (write .entry)) (now («pin_node» .entry)) (now («pin_start» .entry)) (now («pin_end» .entry)) (now («pin_count» .entry)) (now (marks .entry)) (now (bytes .entry)) x) ⌝ }
+)
+    requires { ⌜ Cuttable j k (stateFrom (now parent) (now depth) (now len) (now run) (now words) (now node) (now start) (now end) (now id) (now stamp) (now touched) (now write) (now «pin_node») (now «pin_start») (now «pin_end») (now «pin_count») (now marks) (now bytes) (now books)) ⌝ }
+    ensures { λ _. ⌜ stateFrom (now (parent .exit)) (now (depth .exit)) (now (len .exit)) (now (run .exit)) (now (words .entry)) (now (node .exit)) (now (start .exit)) (now (end .exit)) (now (id .exit)) (now (stamp .exit)) (now (touched .exit)) (now (write .exit)) (now («pin_node» .exit)) (now («pin_start» .exit)) (now («pin_end» .exit)) (now («pin_count» .exit)) (now (marks .exit)) (now (bytes .entry)) (now (books .exit)) ≡ cut j k (stateFrom (now (parent .entry)) (now (depth .entry)) (now (len .entry)) (now (run .entry)) (now (words .entry)) (now (node .entry)) (now (start .entry)) (now (end .entry)) (now (id .entry)) (now (stamp .entry)) (now (touched .entry)) (now (write .entry)) (now («pin_node» .entry)) (now («pin_start» .entry)) (now («pin_end» .entry)) (now («pin_count» .entry)) (now (marks .entry)) (now (bytes .entry)) (now (books .entry))) ⌝ }
 {
-    let nodes = x.books[0] as usize;
-    let used = x.books[1] as usize;
+    let nodes = books[0] as usize;
+    let used = books[1] as usize;
     cut_tree(parent, depth, len, run, nodes, j, k);
-    let mut y = x;
-    put_counts(&mut y.books, nodes + 1, used);
+    put_counts(books, nodes + 1, used);
     cut_stores(
         node,
         start,
@@ -106,9 +102,9 @@ pub fn cut_all(
         pin_end,
         pin_count,
         marks,
-        y,
+        books,
         j,
         k,
         nodes,
-    )
+    );
 }

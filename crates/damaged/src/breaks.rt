@@ -42,7 +42,7 @@ fn short_pool(w: World, k: usize) {
 
 fn short_pools(w: World) {
     let mut k = 1;
-    while k < 19 {
+    while k < 20 {
         short_pool(w, k);
         k += 1;
     }

@@ -165,13 +165,11 @@ pub fn with_bytes(w: World, i: usize, n: u64) -> World {
 
 // The small number at place i: five of the whole, then eight of each store.
 fn with_number(w: World, i: usize, n: u64) -> World {
-    if 69 <= i {
+    if 256 <= i {
         return w;
     }
-    let mut x = w.small;
-    x.books[i] = n;
     let mut v = w;
-    v.small = x;
+    v.books[i] = n;
     v
 }
 

@@ -380,7 +380,7 @@ fn set_up_pool(w: World, k: usize) {
 
 fn set_up_pools(w: World) {
     let mut k = 1;
-    while k < 19 {
+    while k < 20 {
         set_up_pool(w, k);
         k += 1;
     }

@@ -4,9 +4,10 @@ use Prim.Native.Nat.{ℕ, _≤_, _<_}
 use mathlib.Core.Bool.{Bool}
 use mathlib.Core.Path.{_≡_, refl, sym, ap, subst, _∙_}
 use mathlib.Core.List.{List, [], _∷_}
-use lib.ListN.{length}
 use lib.Ieee.{Float}
 use Rattle.model.specs.declared.Span.{Span}
+use Rattle.model.specs.declared.ResolveAnswer.{ResolveAnswer}
+use Rattle.model.specs.declared.BringAnswer.{BringAnswer}
 use Rattle.model.specs.State.{State, at, storesOf}
 use Rattle.model.specs.Sound.{Sound}
 use Rattle.model.specs.Tree.{blocks}
@@ -15,17 +16,16 @@ use Rattle.model.specs.Chained.{Chained, LongestStored}
 use Rattle.model.specs.Store.{storeOf}
 use Rattle.model.specs.Refusals.{firstOf, PathList, OutList, resolveRefusals}
 use Rattle.model.specs.Calls as Calls
-use Rattle.model.specs.Calls.{Outcome, Answer, refused, done, unless, NoList, Path, LookupLists}
+use Rattle.model.specs.Calls.{Outcome, Answer, refused, done, unless, NoList, LookupLists}
 use Rattle.sure.proofs.Refused.{resolve-kept}
 use Rattle.prefix.proofs.Prefix.{resolve-longest}
 use Rattle.keptcalls.proofs.Accepted.{unless-done, is-sound}
 use Rattle.kepttouch.proofs.Holds.{Holds}
-use Rattle.lent.specs.declared.Small.{Small}
 use Rattle.answers.specs.declared.Plain.{Plain}
-use Rattle.answers.specs.declared.Count.{Count}
 use Rattle.answers.specs.declared.Resolved.{Resolved}
+use Rattle.answers.specs.declared.StoreInserted.{StoreInserted}
 use Rattle.answers.specs.declared.Looked.{Looked}
-use Rattle.answers.specs.Answers.{outcome, plainOf, countOf, resolvedOf, lookedOf}
+use Rattle.answers.specs.Answers.{outcome, plainOf, resolvedOf, storeInsertedOf, lookedOf}
 use Rattle.outcomes.specs.Settled.{World, Left, stateIn, Allows}
 use Rattle.history.specs.History.{Call, setUp, resolve, insert, storeInsert, storeUsed, storeRemove, storeExpire, pinSource, unpinSource, lookup, storeHeld, storeCapacity, storePinned, storeAvailable, sourceVersion, pinStalls, after, run, Steps, runAll, sinceAll, nothing, Exactly}
 use Rattle.history.proofs.History.{history}
@@ -85,41 +85,44 @@ history-of-calls pools table capacity refreshes x k e cs st h =
 
 -- ---- the longest prefix (demand 2)
 
-pub resolved-longest : (st after : State) (l k : PathList) (hs : List ℕ) (a : Answer Path) → outcome after k a ≡ Calls.resolveCall st l hs → (p : Path)
-    → a ≡ done p → Chained (st .tree) hs → LongestStored (st .tree) hs (covered p)
+pub resolved-longest : (st after : State) (l k : PathList) (hs : List ℕ) (r : Answer ResolveAnswer) → outcome after k r ≡ Calls.resolveCall st l hs
+    → (a : ResolveAnswer)
+    → r ≡ done a
+    → Chained (st .tree) hs
+    → LongestStored (st .tree) hs (covered (a .path))
 unfolding Calls.resolveCall
-resolved-longest st after l k hs a o p e c =
-    let u = unless-done _ _ _ (resolve-kept st l hs) p (sym (ap (λ z. z .answer) o) ∙ e) in
-    subst (λ (z : Path). LongestStored (st .tree) hs (z .blocks)) (u .answer) (resolve-longest st (is-sound st (u .none .0)) hs c)
+resolved-longest st after l k hs r o a e c =
+    let u = unless-done _ _ _ (resolve-kept st l hs) a (sym (ap (λ z. z .answer) o) ∙ e) in
+    subst (λ (z : ResolveAnswer). LongestStored (st .tree) hs (z .path .blocks)) (u .answer) (resolve-longest st (is-sound st (u .none .0)) hs c)
 
 -- "For a list chained with the tree, resolve's answer is the longest prefix that any stored path has"
 pub longest-prefix : (w : World PathList) (hs : List ℕ) (x : Left PathList Resolved) → Allows resolvedOf (Calls.resolveCall (stateIn w) (w .lists) hs) x
-    → (p : Path)
-    → resolvedOf (x .answer) ≡ done p
+    → (a : ResolveAnswer)
+    → resolvedOf (x .answer) ≡ done a
     → Chained (stateIn w .tree) hs
-    → LongestStored (stateIn w .tree) hs (covered p)
-longest-prefix w hs x k p e c = resolved-longest (stateIn w) (stateIn (x .world)) (w .lists) (x .world .lists) hs (resolvedOf (x .answer)) k p e c
+    → LongestStored (stateIn w .tree) hs (covered (a .path))
+longest-prefix w hs x k a e c = resolved-longest (stateIn w) (stateIn (x .world)) (w .lists) (x .world .lists) hs (resolvedOf (x .answer)) k a e c
 
 -- ---- more room (demand 3)
 
 -- "Take two equal sound states but for one store's capacity, C in one and D in the other, 0 < C <= D, and make the same insertion into that store"
 pub more-room-of-calls : (a b : State) (s C D : ℕ) → Sound a → Sound b → ButCapacity s C D a b → s < storesOf a → 0 < C → C ≤ D
-    → (l : OutList) (sp : Span) (time : Float) (write : ℕ) (x y : Left OutList Count)
-    → Allows countOf (Calls.storeInsert a l s sp time write) x
-    → Allows countOf (Calls.storeInsert b l s sp time write) y
+    → (l : OutList) (sp : Span) (time : Float) (write : ℕ) (x y : Left OutList StoreInserted)
+    → Allows storeInsertedOf (Calls.storeInsert a l s sp time write) x
+    → Allows storeInsertedOf (Calls.storeInsert b l s sp time write) y
     → RoomForReading s x y
 more-room-of-calls a b s C D ha hb but less some le l sp time write x y p q =
     let m = more-room a b s C D ha hb but less some le l sp time write in
     let xs : stateIn (x .world) ≡ Calls.storeInsert a l s sp time write .state = ap (λ z. z .state) p in
     let ys : stateIn (y .world) ≡ Calls.storeInsert b l s sp time write .state = ap (λ z. z .state) q in
-    let xa : countOf (x .answer) ≡ Calls.storeInsert a l s sp time write .answer = ap (λ z. z .answer) p in
-    let ya : countOf (y .answer) ≡ Calls.storeInsert b l s sp time write .answer = ap (λ z. z .answer) q in
+    let xa : storeInsertedOf (x .answer) ≡ Calls.storeInsert a l s sp time write .answer = ap (λ z. z .answer) p in
+    let ya : storeInsertedOf (y .answer) ≡ Calls.storeInsert b l s sp time write .answer = ap (λ z. z .answer) q in
     record {
       alike = rw (xa, ya) (m .alike);
       kept = λ v e. rw (xs, ys) (m .kept v (sym xa ∙ e));
       reads =
-          λ n e k ts hs u v f g.
-          let ua : lookedOf (length ts) (u .answer) ≡ Calls.lookup (stateIn (x .world)) k ts hs .answer = ap (λ z. z .answer) f in
-          let va : lookedOf (length ts) (v .answer) ≡ Calls.lookup (stateIn (y .world)) k ts hs .answer = ap (λ z. z .answer) g in
-          rw (ua, va, xs, ys) (m .readsAlike n (sym xa ∙ e) k ts hs, m .reads n (sym xa ∙ e) k ts hs);
+          λ w e k ts hs u v f g.
+          let ua : lookedOf (u .answer) ≡ Calls.lookup (stateIn (x .world)) k ts hs .answer = ap (λ z. z .answer) f in
+          let va : lookedOf (v .answer) ≡ Calls.lookup (stateIn (y .world)) k ts hs .answer = ap (λ z. z .answer) g in
+          rw (ua, va, xs, ys) (m .readsAlike w (sym xa ∙ e) k ts hs, m .reads w (sym xa ∙ e) k ts hs);
     }

@@ -2,17 +2,18 @@
 use Prim.Native.Nat.{ℕ, _≤_}
 use mathlib.Core.Path.{_≡_}
 use mathlib.Core.List.{List, [], _∷_}
-use lib.ListN.{length}
+use Rattle.model.specs.declared.Path.{Path}
+use Rattle.model.specs.declared.BringAnswer.{BringAnswer}
 use Rattle.model.specs.State.{State}
 use Rattle.model.specs.Calls as Calls
 use Rattle.model.specs.Store.{storeOf}
 use Rattle.model.specs.Refusals.{OutList}
-use Rattle.model.specs.Calls.{Outcome, Answer, done, Path, LookupLists}
+use Rattle.model.specs.Calls.{Outcome, Answer, done, LookupLists}
 use Rattle.kepttouch.proofs.Holds.{Holds}
 use Rattle.room.specs.Room.{Alike, blocksIn}
-use Rattle.answers.specs.declared.Count.{Count}
+use Rattle.answers.specs.declared.StoreInserted.{StoreInserted}
 use Rattle.answers.specs.declared.Looked.{Looked}
-use Rattle.answers.specs.Answers.{plainOf, countOf, resolvedOf, insertedOf, lookedOf}
+use Rattle.answers.specs.Answers.{plainOf, countOf, resolvedOf, insertedOf, storeInsertedOf, storeUsedOf, storeRemovedOf, storeExpiredOf, lookedOf}
 use Rattle.outcomes.specs.Settled.{Left, stateIn, Allows}
 use Rattle.history.specs.History.{Call, setUp, resolve, insert, storeInsert, storeUsed, storeRemove, storeExpire, pinSource, unpinSource, lookup, storeHeld, storeCapacity, storePinned, storeAvailable, sourceVersion, pinStalls, Steps}
 
@@ -27,13 +28,13 @@ abbrev pub May : Call → State → State → Type 0
 May (setUp table capacity refreshes) st = Leaves plainOf (Calls.setUp st table capacity refreshes)
 May (resolve l hs) st = Leaves resolvedOf (Calls.resolveCall st l hs)
 May (insert l hs) st = Leaves insertedOf (Calls.insert st l hs)
-May (storeInsert l s sp time write) st = Leaves countOf (Calls.storeInsert st l s sp time write)
-May (storeUsed s sps time counted) st = Leaves countOf (Calls.storeUsed st s sps time counted)
-May (storeRemove l s sp) st = Leaves countOf (Calls.storeRemove st l s sp)
-May (storeExpire l s now seconds) st = Leaves countOf (Calls.storeExpire st l s now seconds)
+May (storeInsert l s sp time write) st = Leaves storeInsertedOf (Calls.storeInsert st l s sp time write)
+May (storeUsed s sps time counted) st = Leaves storeUsedOf (Calls.storeUsed st s sps time counted)
+May (storeRemove l s sp) st = Leaves storeRemovedOf (Calls.storeRemove st l s sp)
+May (storeExpire l s now seconds) st = Leaves storeExpiredOf (Calls.storeExpire st l s now seconds)
 May (pinSource s sp) st = Leaves plainOf (Calls.pinSource st s sp)
 May (unpinSource s sp) st = Leaves plainOf (Calls.unpinSource st s sp)
-May (lookup l ts hs) st = Leaves (lookedOf (length ts)) (Calls.lookup st l ts hs)
+May (lookup l ts hs) st = Leaves lookedOf (Calls.lookup st l ts hs)
 May (storeHeld s) st = Leaves countOf (Calls.heldCall st s)
 May (storeCapacity s) st = Leaves countOf (Calls.capacityCall st s)
 May (storePinned s) st = Leaves countOf (Calls.pinnedCall st s)
@@ -53,19 +54,19 @@ pub data Made : State → List Steps → State → Type 0 where
 
 -- "More room never shortens a reading", of what the calls may leave: x under C and y under D after the same insertion into store s; u and v are what any
 -- lookup may leave then
-pub record RoomForReading (s : ℕ) (x y : Left OutList Count) : Type 0 where
-  pub alike : Alike (countOf (x .answer)) (countOf (y .answer))
+pub record RoomForReading (s : ℕ) (x y : Left OutList StoreInserted) : Type 0 where
+  pub alike : Alike (storeInsertedOf (x .answer)) (storeInsertedOf (y .answer))
   pub kept :
-      (v : ℕ) → countOf (x .answer) ≡ done v
+      (v : BringAnswer) → storeInsertedOf (x .answer) ≡ done v
       → (n o : ℕ) → Holds (storeOf (stateIn (x .world)) s .ranges) n o
       → Holds (storeOf (stateIn (y .world)) s .ranges) n o
   pub reads :
-      (n : ℕ) → countOf (x .answer) ≡ done n
+      (w : BringAnswer) → storeInsertedOf (x .answer) ≡ done w
       → (l : LookupLists) (ts hs : List ℕ) (u v : Left LookupLists Looked)
-      → Allows (lookedOf (length ts)) (Calls.lookup (stateIn (x .world)) l ts hs) u
-      → Allows (lookedOf (length ts)) (Calls.lookup (stateIn (y .world)) l ts hs) v
-      → Alike (lookedOf (length ts) (u .answer)) (lookedOf (length ts) (v .answer))
-      × (blocksIn (lookedOf (length ts) (u .answer)) ≤ blocksIn (lookedOf (length ts) (v .answer)))
+      → Allows lookedOf (Calls.lookup (stateIn (x .world)) l ts hs) u
+      → Allows lookedOf (Calls.lookup (stateIn (y .world)) l ts hs) v
+      → Alike (lookedOf (u .answer)) (lookedOf (v .answer))
+      × (blocksIn (lookedOf (u .answer)) ≤ blocksIn (lookedOf (v .answer)))
 
 -- how many blocks of the list a path covers
 abbrev pub covered : Path → ℕ

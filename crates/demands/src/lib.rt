@@ -1,9 +1,9 @@
 // The demands of the public calls by their contracts: see proofs/Demands.antt. The one that is of a single call stands as a contract here.
 use answers::Resolved;
-use lent::Small;
+use model::ResolveAnswer;
 ghost use mathlib.Core.Path.{_≡_};
 ghost use Rattle.model.specs.State.{nodesIn, usedIn};
-ghost use Rattle.model.specs.Calls.{done, Path};
+ghost use Rattle.model.specs.Calls.{done};
 ghost use Rattle.model.specs.Chained.{Chained, LongestStored};
 ghost use Rattle.lent.specs.Lent.{treeOf};
 ghost use Rattle.answers.specs.Answers.{resolvedOf};
@@ -29,12 +29,12 @@ pub fn resolve_longest(
     pin_count: &[u64],
     marks: &[usize],
     bytes: &[u64],
+    books: &[u64],
     path_node: &mut [usize],
     path_len: &mut [usize],
-    x: Small,
     hashes: &[u64],
 ) -> Resolved
-    ensures { λ r. ⌜ ((p : Path) → resolvedOf r ≡ done p → Chained (treeOf (now (parent .entry)) (now (depth .entry)) (now (len .entry)) (now (run .entry)) (now (words .entry)) (nodesIn (x .books)) (usedIn (x .books))) (now (hashes .entry)) → LongestStored (treeOf (now (parent .entry)) (now (depth .entry)) (now (len .entry)) (now (run .entry)) (now (words .entry)) (nodesIn (x .books)) (usedIn (x .books))) (now (hashes .entry)) (covered p)) ⌝ }
+    ensures { λ r. ⌜ ((a : ResolveAnswer) → resolvedOf r ≡ done a → Chained (treeOf (now (parent .entry)) (now (depth .entry)) (now (len .entry)) (now (run .entry)) (now (words .entry)) (nodesIn (now (books .entry))) (usedIn (now (books .entry)))) (now (hashes .entry)) → LongestStored (treeOf (now (parent .entry)) (now (depth .entry)) (now (len .entry)) (now (run .entry)) (now (words .entry)) (nodesIn (now (books .entry))) (usedIn (now (books .entry)))) (now (hashes .entry)) (covered (a .path))) ⌝ }
 {
     radix::resolve(
         parent,
@@ -55,9 +55,9 @@ pub fn resolve_longest(
         pin_count,
         marks,
         bytes,
+        books,
         path_node,
         path_len,
-        x,
         hashes,
     )
 }

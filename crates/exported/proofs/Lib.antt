@@ -1,3 +1,2 @@
--- What the proofs of several functions use; the crates that export cite Telling.
-mod ReadBack
+-- The crates that export cite Telling.
 pub mod Telling

@@ -1,33 +1,29 @@
 -- An answer told as a number and a list is the answer, as no call refuses with 0. Assumes nothing.
-use Prim.Native.Nat.{ℕ, zero, suc, _≤_, _<_}
-use mathlib.Core.Path.{_≡_, refl, sym, ap, subst, _∙_}
+use Prim.Native.Nat.{ℕ, zero, suc, _≤_}
+use mathlib.Core.Path.{_≡_, refl, ap, _∙_}
 use mathlib.Core.Bool.{Bool}
-use mathlib.Core.List.{List, [], _∷_, _++_}
+use mathlib.Core.List.{List}
 use native.Mathlib.Omega.{arith}
 use lib.ListN.{length}
-use lib.Seq.{sets-eq, getD-set-same}
+use lib.Seq.{sets, sets-eq}
 use lib.Ieee.{Float}
 use Rattle.model.specs.declared.Span.{Span}
+use Rattle.model.specs.declared.Path.{Path}
+use Rattle.model.specs.declared.Split.{Split}
+use Rattle.model.specs.declared.Split.the-variants as SplitIs
+use Rattle.model.specs.declared.ResolveAnswer.{ResolveAnswer}
+use Rattle.model.specs.declared.InsertAnswer.{InsertAnswer}
+use Rattle.model.specs.declared.BringAnswer.{BringAnswer}
+use Rattle.model.specs.declared.TouchAnswer.{TouchAnswer}
+use Rattle.model.specs.declared.RemoveAnswer.{RemoveAnswer}
+use Rattle.model.specs.declared.ExpireAnswer.{ExpireAnswer}
 use Rattle.model.specs.State.{State}
-use Rattle.model.specs.Sound.{Sound}
 use Rattle.model.specs.Refusals.{PathList, OutList, firstOf, setUpRefusals, resolveRefusals, insertRefusals, storeInsertRefusals, storeUsedRefusals, storeRemoveRefusals, storeExpireRefusals, pinRefusals, unpinRefusals, lookupRefusals, countRefusals, storeCountRefusals}
-use Rattle.model.specs.Calls.{Outcome, Answer, refused, done, unless, NoValue, Path, InsertAnswer, LookupLists, LookupAnswer, blockSums, byteSums, setUp, resolveCall, insert, storeInsert, storeUsed, storeRemove, storeExpire, pinSource, unpinSource, lookup, heldCall, capacityCall, pinnedCall, availableCall, versionCall, stallsCall}
-use Rattle.lent.specs.declared.Small.{Small}
-use Rattle.answers.specs.declared.Plain.{Plain}
-use Rattle.answers.specs.declared.Plain.the-variants as P
-use Rattle.answers.specs.declared.Count.{Count}
-use Rattle.answers.specs.declared.Count.the-variants as C
-use Rattle.answers.specs.declared.Resolved.{Resolved}
-use Rattle.answers.specs.declared.Resolved.the-variants as R
-use Rattle.answers.specs.declared.Inserted.{Inserted}
-use Rattle.answers.specs.declared.Inserted.the-variants as I
-use Rattle.answers.specs.declared.Reading.{Reading}
-use Rattle.answers.specs.declared.Reading.the-variants as L
+use Rattle.model.specs.Calls.{Outcome, Answer, refused, done, unless, NoValue, LookupLists, setUp, resolveCall, insert, storeInsert, storeUsed, storeRemove, storeExpire, pinSource, unpinSource, lookup, heldCall, capacityCall, pinnedCall, availableCall, versionCall, stallsCall}
 use Rattle.answers.specs.declared.Looked.{Looked}
-use Rattle.answers.specs.Answers.{outcome, plainOf, countOf, resolvedOf, insertedOf, readingOf, lookedOf}
-use Rattle.looking.specs.Looking.{LookedUp}
-use Rattle.exported.specs.Told.{eight, toldPlain, toldCount, toldPath, plainNumber, countNumber, countIn, toldInserted, pathNumber, pathIn, insertedNumber, insertedIn, toldLooked, readingNumber, readingIn, lookedNumber, lookedIn}
-use Rattle.exported.proofs.ReadBack.{eight-same}
+use Rattle.answers.specs.declared.Looked.the-variants as LookedIs
+use Rattle.answers.specs.Answers.{outcome, readingOf, lookedOf}
+use Rattle.exported.specs.Told.{told, numberOf, laid, toldPlain, countAt, countValues, resolveAt, resolveValues, insertAt, insertValues, bringAt, bringValues, touchAt, touchValues, removeAt, removeValues, expireAt, expireValues, lookupAt, lookupValues}
 
 -- ---- no call refuses with 0
 
@@ -40,88 +36,97 @@ unless-numbered : {L A : Type 0} (n : ℕ) (st st′ : State) (l l′ : L) (v : 
 unless-numbered zero st st′ l l′ v e = let z : _≡_ {A = ℕ} 0 1 = cc in absurd (omega arith)
 unless-numbered (suc n) st st′ l l′ v e = let z : 0 ≡ suc n = cc in absurd (omega arith)
 
--- ---- told
+-- ---- what is told of an answer, in a list of 19, is the answer
 
-plain-told : (a : Plain) → Numbered (plainOf a) → toldPlain (plainNumber a) ≡ plainOf a
-plain-told (P.Refused zero) h = absurd (h refl)
-plain-told (P.Refused (suc n)) h = refl
-plain-told P.Done h = refl
+abbrev pub Told : {A : Type 0} → (List ℕ → A) → (A → List ℕ) → Answer A → Type 0
+Told read values a = (l : List ℕ) → length l ≡ 19 → Numbered a → told read (numberOf a) (laid values a l) ≡ a
 
-count-told : (a : Count) (l : List ℕ) → 0 < length l → Numbered (countOf a) → toldCount (countNumber a) (countIn a l) ≡ countOf a
-count-told (C.Refused zero) l long h = absurd (h refl)
-count-told (C.Refused (suc n)) l long h = refl
-count-told (C.Done k) l long h = ap done (getD-set-same l 0 k 0 long)
+-- where what is read of a list with a value's numbers in front is the value
+by-value : {A : Type 0} (read : List ℕ → A) (values : A → List ℕ) → ((l : List ℕ) → length l ≡ 19 → (v : A) → read (sets l 0 (values v)) ≡ v)
+    → (a : Answer A) → Told read values a
+by-value read values back (refused zero) l long h = absurd (h refl)
+by-value read values back (refused (suc n)) l long h = refl
+by-value read values back (done v) l long h = ap done (back l long v)
 
-path-told : (a : Resolved) (l : List ℕ) → 2 ≤ length l → Numbered (resolvedOf a) → toldPath (pathNumber a) (pathIn a l) ≡ resolvedOf a
-path-told (R.Refused zero) l long h = absurd (h refl)
-path-told (R.Refused (suc n)) l long h = refl
-path-told (R.Done p) l long h = ap (toldPath 0) (sets-eq (p .segs ∷ p .blocks ∷ []) l 0 long)
+pub count-told : (a : Answer ℕ) → Told countAt countValues a
+count-told = by-value countAt countValues back
+  where
+    back : (l : List ℕ) → length l ≡ 19 → (v : ℕ) → countAt (sets l 0 (countValues v)) ≡ v
+    back l long v = ap countAt (sets-eq (countValues v) l 0 (omega arith))
 
-inserted-told : (a : Inserted) (l : List ℕ) → 6 ≤ length l → Numbered (insertedOf a) → toldInserted (insertedNumber a) (insertedIn a l) ≡ insertedOf a
-inserted-told (I.Refused zero) l long h = absurd (h refl)
-inserted-told (I.Refused (suc n)) l long h = refl
-inserted-told (I.Whole p) l long h = ap (toldInserted 0) (sets-eq (p .segs ∷ p .blocks ∷ 0 ∷ []) l 0 (omega arith))
-inserted-told (I.Split p c) l long h = ap (toldInserted 0) (sets-eq (p .segs ∷ p .blocks ∷ 1 ∷ c .node ∷ c .at ∷ c .new ∷ []) l 0 long)
+pub resolve-told : (a : Answer ResolveAnswer) → Told resolveAt resolveValues a
+resolve-told = by-value resolveAt resolveValues back
+  where
+    back : (l : List ℕ) → length l ≡ 19 → (v : ResolveAnswer) → resolveAt (sets l 0 (resolveValues v)) ≡ v
+    back l long v = ap resolveAt (sets-eq (resolveValues v) l 0 (omega arith))
 
-abbrev lookedFrom : Reading → List ℕ → List ℕ → Looked
-lookedFrom a blocks bytes = record { answer = a; blocks = blocks; bytes = bytes }
+pub insert-told : (a : Answer InsertAnswer) → Told insertAt insertValues a
+insert-told = by-value insertAt insertValues back
+  where
+    cut : (l : List ℕ) → length l ≡ 19 → (p : Path) (s : Split)
+        → insertAt (sets l 0 (insertValues (record { path = p; split = s }))) ≡ record { path = p; split = s }
+    cut l long p SplitIs.No = ap insertAt (sets-eq (insertValues (record { path = p; split = SplitIs.No })) l 0 (omega arith))
+    cut l long p (SplitIs.At c) = ap insertAt (sets-eq (insertValues (record { path = p; split = SplitIs.At c })) l 0 (omega arith))
 
--- the sums of a refused reading are 0; those of another one are eight
-reading-told : (n : ℕ) (a : Reading) (blocks bytes l : List ℕ) → 19 ≤ length l → Numbered (readingOf n blocks bytes a)
-    → blocks ≡ blockSums (readingOf n blocks bytes a) → bytes ≡ byteSums (readingOf n blocks bytes a) → length blocks ≡ 8 → length bytes ≡ 8
-    → toldLooked (readingNumber a) (readingIn a blocks bytes l) ≡ lookedFrom a blocks bytes
-reading-told n (L.Refused zero) blocks bytes l long h p q lb ls = absurd (h refl)
-reading-told n (L.Refused (suc k)) blocks bytes l long h p q lb ls = λ i. lookedFrom (L.Refused (suc k)) (sym p i) (sym q i)
-reading-told n (L.Done a k) blocks bytes l long h p q lb ls =
-    let front = sets-eq (a .segs ∷ a .blocks ∷ k ∷ (eight blocks ++ eight bytes)) l 0 long in
-    let e = eight-same 0 blocks lb in
-    let f = eight-same 0 bytes ls in
-    ap (toldLooked 0) front ∙ (λ i. lookedFrom (L.Done a k) (e i) (f i))
+    back : (l : List ℕ) → length l ≡ 19 → (v : InsertAnswer) → insertAt (sets l 0 (insertValues v)) ≡ v
+    back l long v = cut l long (v .path) (v .split)
 
--- ---- an exported call, from the equation of the inner one. f is the state that the pools and the small numbers make
+pub bring-told : (a : Answer BringAnswer) → Told bringAt bringValues a
+bring-told = by-value bringAt bringValues back
+  where
+    back : (l : List ℕ) → length l ≡ 19 → (v : BringAnswer) → bringAt (sets l 0 (bringValues v)) ≡ v
+    back l long v = ap bringAt (sets-eq (bringValues v) l 0 (omega arith))
 
-pub same-sound : (f : Small → State) {x y : Small} → x ≡ y → Sound (f y) → Sound (f x)
-same-sound f e h = subst (λ t. Sound (f t)) (sym e) h
+pub touch-told : (a : Answer TouchAnswer) → Told touchAt touchValues a
+touch-told = by-value touchAt touchValues back
+  where
+    back : (l : List ℕ) → length l ≡ 19 → (v : TouchAnswer) → touchAt (sets l 0 (touchValues v)) ≡ v
+    back l long v = ap touchAt (sets-eq (touchValues v) l 0 (omega arith))
 
-pub count-is : {o : Answer ℕ} (a : Count) {r : ℕ} (k : List ℕ) {k′ : List ℕ} → countOf a ≡ o → Numbered o → length k ≡ 19 → r ≡ countNumber a → k′ ≡ countIn a k
-    → toldCount r k′ ≡ o
-count-is {o} a {r} k {k′} e n long q t =
-    ap (λ s. toldCount s k′) q ∙ ap (toldCount (countNumber a)) t ∙ count-told a k (omega arith) (λ z. n (z ∙ e)) ∙ e
+pub remove-told : (a : Answer RemoveAnswer) → Told removeAt removeValues a
+remove-told = by-value removeAt removeValues back
+  where
+    back : (l : List ℕ) → length l ≡ 19 → (v : RemoveAnswer) → removeAt (sets l 0 (removeValues v)) ≡ v
+    back l long v = ap removeAt (sets-eq (removeValues v) l 0 (omega arith))
 
-module _ {L : Type 0} (l : L) where
-  pub plainly : {o : Outcome L NoValue} (f : Small → State) {x y : Small} (a : Plain) {r : ℕ}
-      → outcome (f x) l (plainOf a) ≡ o → Numbered (o .answer) → y ≡ x → r ≡ plainNumber a → outcome (f y) l (toldPlain r) ≡ o
-  plainly {o} f {x} {y} a {r} e n p q =
-      ap (λ t. outcome (f t) l (toldPlain r)) p
-      ∙ ap (λ k. outcome (f x) l (toldPlain k)) q
-      ∙ ap (λ t. outcome (f x) l t) (plain-told a (λ z. n (z ∙ ap (λ w. w .answer) e)))
-      ∙ e
+pub expire-told : (a : Answer ExpireAnswer) → Told expireAt expireValues a
+expire-told = by-value expireAt expireValues back
+  where
+    back : (l : List ℕ) → length l ≡ 19 → (v : ExpireAnswer) → expireAt (sets l 0 (expireValues v)) ≡ v
+    back l long v = ap expireAt (sets-eq (expireValues v) l 0 (omega arith))
 
-  pub counted : {o : Outcome L ℕ} (f : Small → State) {x y : Small} (a : Count) {r : ℕ} (k : List ℕ) {k′ : List ℕ}
-      → outcome (f x) l (countOf a) ≡ o → Numbered (o .answer) → y ≡ x → length k ≡ 19 → r ≡ countNumber a → k′ ≡ countIn a k
-      → outcome (f y) l (toldCount r k′) ≡ o
-  counted {o} f {x} {y} a {r} k {k′} e n p long q t =
-      let numbers : Numbered (countOf a) = λ z. n (z ∙ ap (λ w. w .answer) e) in
-      ap (λ s. outcome (f s) l (toldCount r k′)) p ∙ ap (λ s. outcome (f x) l s) (count-is a k refl numbers long q t) ∙ e
+-- a lookup's sums are eight of each
+pub lookup-told : (a : Looked) → Told lookupAt lookupValues (lookedOf a)
+lookup-told (LookedIs.Refused zero) l long h = absurd (h refl)
+lookup-told (LookedIs.Refused (suc n)) l long h = refl
+lookup-told (LookedIs.Done v) l long h =
+    let room : 19 ≤ length l = omega arith in
+    ap (λ m. done (lookupAt m)) (sets-eq (lookupValues (readingOf v)) l 0 room)
 
-  pub resolved : {o : Outcome L Path} (st : State) (a : Resolved) {r : ℕ} (k : List ℕ) {k′ : List ℕ}
-      → outcome st l (resolvedOf a) ≡ o → Numbered (o .answer) → length k ≡ 19 → r ≡ pathNumber a → k′ ≡ pathIn a k
-      → outcome st l (toldPath r k′) ≡ o
-  resolved {o} st a {r} k {k′} e n long q t =
-      ap (λ s. outcome st l (toldPath s k′)) q
-      ∙ ap (λ s. outcome st l (toldPath (pathNumber a) s)) t
-      ∙ ap (λ s. outcome st l s) (path-told a k (omega arith) (λ z. n (z ∙ ap (λ w. w .answer) e)))
-      ∙ e
+-- ---- an exported call, from the equation of the inner one
 
-  pub inserting : {o : Outcome L InsertAnswer} (f : Small → State) {x y : Small} (a : Inserted) {r : ℕ} (k : List ℕ) {k′ : List ℕ}
-      → outcome (f x) l (insertedOf a) ≡ o → Numbered (o .answer) → y ≡ x → length k ≡ 19 → r ≡ insertedNumber a → k′ ≡ insertedIn a k
-      → outcome (f y) l (toldInserted r k′) ≡ o
-  inserting {o} f {x} {y} a {r} k {k′} e n p long q t =
-      ap (λ s. outcome (f s) l (toldInserted r k′)) p
-      ∙ ap (λ s. outcome (f x) l (toldInserted s k′)) q
-      ∙ ap (λ s. outcome (f x) l (toldInserted (insertedNumber a) s)) t
-      ∙ ap (λ s. outcome (f x) l s) (inserted-told a k (omega arith) (λ z. n (z ∙ ap (λ w. w .answer) e)))
-      ∙ e
+plain-told : (a : Answer NoValue) → Numbered a → toldPlain (numberOf a) ≡ a
+plain-told (refused zero) h = absurd (h refl)
+plain-told (refused (suc n)) h = refl
+plain-told (done v) h = refl
+
+pub plainly : {L : Type 0} {st : State} {l : L} {o : Outcome L NoValue} (a : Answer NoValue) {r : ℕ}
+    → outcome st l a ≡ o → Numbered (o .answer) → r ≡ numberOf a → outcome st l (toldPlain r) ≡ o
+plainly {L} {st} {l} {o} a {r} e n q =
+    ap (λ k. outcome st l (toldPlain k)) q ∙ ap (outcome st l) (plain-told a (λ z. n (z ∙ ap (λ w. w .answer) e))) ∙ e
+
+module _ {A : Type 0} (read : List ℕ → A) (values : A → List ℕ) (a : Answer A) (whole : Told read values a) where
+  pub answered : {o : Answer A} {r : ℕ} (k : List ℕ) {k′ : List ℕ}
+      → a ≡ o → Numbered o → length k ≡ 19 → r ≡ numberOf a → k′ ≡ laid values a k → told read r k′ ≡ o
+  answered {o} {r} k {k′} e n long q t =
+      ap (λ s. told read s k′) q ∙ ap (told read (numberOf a)) t ∙ whole k long (λ z. n (z ∙ e)) ∙ e
+
+  pub telling : {L : Type 0} {st : State} {l : L} {o : Outcome L A} {r : ℕ} (k : List ℕ) {k′ : List ℕ}
+      → outcome st l a ≡ o → Numbered (o .answer) → length k ≡ 19 → r ≡ numberOf a → k′ ≡ laid values a k
+      → outcome st l (told read r k′) ≡ o
+  telling {L} {st} {l} {o} {r} k {k′} e n long q t =
+      let numbers : Numbered a = λ z. n (z ∙ ap (λ w. w .answer) e) in
+      ap (outcome st l) (answered k refl numbers long q t) ∙ e
 
 -- ---- each call's refusals have numbers from 1
 
@@ -161,7 +166,7 @@ pub setUp-numbered : (st : State) (table capacity : List ℕ) (refreshes : List 
 unfolding setUp
 setUp-numbered st table capacity refreshes = unless-numbered (firstOf (setUpRefusals st table capacity refreshes)) _ _ _ _ _
 
-lookup-numbered : (st : State) (l : LookupLists) (ts hs : List ℕ) → Numbered (lookup st l ts hs .answer)
+pub lookup-numbered : (st : State) (l : LookupLists) (ts hs : List ℕ) → Numbered (lookup st l ts hs .answer)
 unfolding lookup
 lookup-numbered st l ts hs = unless-numbered (firstOf (lookupRefusals st (l .path) (l .spans) ts hs)) _ _ _ _ _
 
@@ -188,16 +193,3 @@ version-numbered st s = unless-numbered (firstOf (storeCountRefusals st s)) _ _ 
 pub stalls-numbered : (st : State) → Numbered (stallsCall st .answer)
 unfolding stallsCall
 stalls-numbered st = unless-numbered (firstOf (countRefusals st)) _ _ _ _ _
-
--- ---- a lookup told is a lookup
-
-pub looked-told : {st : State} {before after : LookupLists} {ts hs : List ℕ} (r : Looked) {n : ℕ} (l : List ℕ) {l′ : List ℕ}
-    → LookedUp st before ts hs after r → length l ≡ 19 → n ≡ lookedNumber r → l′ ≡ lookedIn r l → length (r .blocks) ≡ 8 → length (r .bytes) ≡ 8
-    → LookedUp st before ts hs after (toldLooked n l′)
-looked-told {st} {before} {after} {ts} {hs} r {n} l {l′} u long p q lb ls =
-    let same : lookedOf (length ts) r ≡ lookup st before ts hs .answer = ap (λ w. w .answer) (u .call) in
-    let numbers : Numbered (lookedOf (length ts) r) = λ z. lookup-numbered st before ts hs (z ∙ same) in
-    let blocks : r .blocks ≡ blockSums (lookedOf (length ts) r) = u .blocks ∙ ap blockSums (sym same) in
-    let bytes : r .bytes ≡ byteSums (lookedOf (length ts) r) = u .bytes ∙ ap byteSums (sym same) in
-    let told = reading-told (length ts) (r .answer) (r .blocks) (r .bytes) l (omega arith) numbers blocks bytes lb ls in
-    subst (LookedUp st before ts hs after) (sym (ap (λ (s : ℕ). toldLooked s l′) p ∙ ap (toldLooked (lookedNumber r)) q ∙ told)) u

@@ -1,104 +1,124 @@
 -- An answer as a number and a lent list: 0 and the values, or the refusal's number. Assumes nothing.
 use Prim.Native.Nat.{ℕ, zero, suc, _+_}
 use mathlib.Core.List.{List, [], _∷_, _++_}
-use lib.ListN.{set}
 use lib.Seq.{sets}
+use Rattle.model.specs.declared.Path.{Path}
+use Rattle.model.specs.declared.Split.{Split}
+use Rattle.model.specs.declared.Split.the-variants as SplitIs
+use Rattle.model.specs.declared.ResolveAnswer.{ResolveAnswer}
+use Rattle.model.specs.declared.InsertAnswer.{InsertAnswer}
+use Rattle.model.specs.declared.BringAnswer.{BringAnswer}
+use Rattle.model.specs.declared.TouchAnswer.{TouchAnswer}
+use Rattle.model.specs.declared.RemoveAnswer.{RemoveAnswer}
+use Rattle.model.specs.declared.ExpireAnswer.{ExpireAnswer}
+use Rattle.model.specs.declared.LookupAnswer.{LookupAnswer}
 use Rattle.model.specs.State.{at}
-use Rattle.model.specs.Insert.{Cut as CutAt}
-use Rattle.model.specs.Calls.{Answer, refused, done, NoValue, Path as PathAt, InsertAnswer, zeros}
-use Rattle.answers.specs.declared.Plain.{Plain}
-use Rattle.answers.specs.declared.Plain.the-variants as P
-use Rattle.answers.specs.declared.Count.{Count}
-use Rattle.answers.specs.declared.Count.the-variants as C
-use Rattle.answers.specs.declared.Resolved.{Resolved}
-use Rattle.answers.specs.declared.Resolved.the-variants as R
-use Rattle.answers.specs.declared.Inserted.{Inserted}
-use Rattle.answers.specs.declared.Inserted.the-variants as I
-use Rattle.answers.specs.declared.Reading.{Reading}
-use Rattle.answers.specs.declared.Reading.the-variants as L
-use Rattle.answers.specs.declared.Looked.{Looked}
+use Rattle.model.specs.Calls.{Answer, refused, done, NoValue}
 
 abbrev pub eightAt : ℕ → List ℕ → List ℕ
 eightAt a l = at l a ∷ at l (a + 1) ∷ at l (a + 2) ∷ at l (a + 3) ∷ at l (a + 4) ∷ at l (a + 5) ∷ at l (a + 6) ∷ at l (a + 7) ∷ []
 
--- the first eight of a tier's sums
-abbrev pub eight : List ℕ → List ℕ
-eight l = eightAt 0 l
-
 -- ---- what a number and a list tell
+
+abbrev pub told : {A : Type 0} → (List ℕ → A) → ℕ → List ℕ → Answer A
+told read zero l = done (read l)
+told read (suc n) l = refused (suc n)
 
 abbrev pub toldPlain : ℕ → Answer NoValue
 toldPlain zero = done tt
 toldPlain (suc n) = refused (suc n)
 
-abbrev pub toldCount : ℕ → List ℕ → Answer ℕ
-toldCount zero l = done (at l 0)
-toldCount (suc n) l = refused (suc n)
+abbrev pub countAt : List ℕ → ℕ
+countAt l = at l 0
 
-abbrev pub pathAt : List ℕ → PathAt
+abbrev pub toldCount : ℕ → List ℕ → Answer ℕ
+toldCount r l = told countAt r l
+
+abbrev pub pathAt : List ℕ → Path
 pathAt l = record { segs = at l 0; blocks = at l 1 }
 
-abbrev pub toldPath : ℕ → List ℕ → Answer PathAt
-toldPath zero l = done (pathAt l)
-toldPath (suc n) l = refused (suc n)
+abbrev pub resolveAt : List ℕ → ResolveAnswer
+resolveAt l = record { path = pathAt l }
+
+abbrev pub toldPath : ℕ → List ℕ → Answer ResolveAnswer
+toldPath r l = told resolveAt r l
 
 -- no cut, or the cut node, the blocks that it keeps and the new node
-abbrev pub cutsAt : ℕ → List ℕ → List CutAt
-cutsAt zero l = []
-cutsAt (suc k) l = record { node = at l 3; at = at l 4; new = at l 5 } ∷ []
+abbrev pub splitAt : ℕ → List ℕ → Split
+splitAt zero l = SplitIs.No
+splitAt (suc k) l = SplitIs.At (record { node = at l 3; at = at l 4; new = at l 5 })
+
+abbrev pub insertAt : List ℕ → InsertAnswer
+insertAt l = record { path = pathAt l; split = splitAt (at l 2) l }
 
 abbrev pub toldInserted : ℕ → List ℕ → Answer InsertAnswer
-toldInserted zero l = done (record { path = pathAt l; cuts = cutsAt (at l 2) l })
-toldInserted (suc n) l = refused (suc n)
+toldInserted r l = told insertAt r l
+
+abbrev pub bringAt : List ℕ → BringAnswer
+bringAt l = record { outs = at l 0 }
+
+abbrev pub toldStoreInserted : ℕ → List ℕ → Answer BringAnswer
+toldStoreInserted r l = told bringAt r l
+
+abbrev pub touchAt : List ℕ → TouchAnswer
+touchAt l = record { bytes = at l 0 }
+
+abbrev pub toldStoreUsed : ℕ → List ℕ → Answer TouchAnswer
+toldStoreUsed r l = told touchAt r l
+
+abbrev pub removeAt : List ℕ → RemoveAnswer
+removeAt l = record { writes = at l 0 }
+
+abbrev pub toldStoreRemoved : ℕ → List ℕ → Answer RemoveAnswer
+toldStoreRemoved r l = told removeAt r l
+
+abbrev pub expireAt : List ℕ → ExpireAnswer
+expireAt l = record { outs = at l 0 }
+
+abbrev pub toldStoreExpired : ℕ → List ℕ → Answer ExpireAnswer
+toldStoreExpired r l = told expireAt r l
 
 -- a path, the number of tier spans, then eight sums of blocks and eight of bytes
-abbrev pub toldLooked : ℕ → List ℕ → Looked
-toldLooked zero l =
-    record { answer = L.Done (record { segs = at l 0; blocks = at l 1 }) (at l 2); blocks = eightAt 3 l; bytes = eightAt 11 l }
-toldLooked (suc n) l = record { answer = L.Refused (suc n); blocks = zeros; bytes = zeros }
+abbrev pub lookupAt : List ℕ → LookupAnswer
+lookupAt l = record { path = pathAt l; spans = at l 2; blocks = eightAt 3 l; bytes = eightAt 11 l }
+
+abbrev pub toldLooked : ℕ → List ℕ → Answer LookupAnswer
+toldLooked r l = told lookupAt r l
 
 -- ---- an answer's number, and the list with its values in front
 
-abbrev pub plainNumber : Plain → ℕ
-plainNumber (P.Refused n) = n
-plainNumber P.Done = 0
+abbrev pub numberOf : {A : Type 0} → Answer A → ℕ
+numberOf (refused n) = n
+numberOf (done v) = 0
 
-abbrev pub countNumber : Count → ℕ
-countNumber (C.Refused n) = n
-countNumber (C.Done k) = 0
+abbrev pub laid : {A : Type 0} → (A → List ℕ) → Answer A → List ℕ → List ℕ
+laid values (refused n) l = l
+laid values (done v) l = sets l 0 (values v)
 
-abbrev pub countIn : Count → List ℕ → List ℕ
-countIn (C.Refused n) l = l
-countIn (C.Done k) l = set l 0 k
+abbrev pub countValues : ℕ → List ℕ
+countValues k = k ∷ []
 
-abbrev pub pathNumber : Resolved → ℕ
-pathNumber (R.Refused n) = n
-pathNumber (R.Done p) = 0
+abbrev pub resolveValues : ResolveAnswer → List ℕ
+resolveValues v = v .path .segs ∷ v .path .blocks ∷ []
 
-abbrev pub pathIn : Resolved → List ℕ → List ℕ
-pathIn (R.Refused n) l = l
-pathIn (R.Done p) l = sets l 0 (p .segs ∷ p .blocks ∷ [])
+abbrev pub splitValues : Split → List ℕ
+splitValues SplitIs.No = 0 ∷ []
+splitValues (SplitIs.At c) = 1 ∷ c .node ∷ c .at ∷ c .new ∷ []
 
-abbrev pub insertedNumber : Inserted → ℕ
-insertedNumber (I.Refused n) = n
-insertedNumber (I.Whole p) = 0
-insertedNumber (I.Split p c) = 0
+abbrev pub insertValues : InsertAnswer → List ℕ
+insertValues v = v .path .segs ∷ v .path .blocks ∷ splitValues (v .split)
 
-abbrev pub insertedIn : Inserted → List ℕ → List ℕ
-insertedIn (I.Refused n) l = l
-insertedIn (I.Whole p) l = sets l 0 (p .segs ∷ p .blocks ∷ 0 ∷ [])
-insertedIn (I.Split p c) l = sets l 0 (p .segs ∷ p .blocks ∷ 1 ∷ c .node ∷ c .at ∷ c .new ∷ [])
+abbrev pub bringValues : BringAnswer → List ℕ
+bringValues v = v .outs ∷ []
 
-abbrev pub readingNumber : Reading → ℕ
-readingNumber (L.Refused n) = n
-readingNumber (L.Done p k) = 0
+abbrev pub touchValues : TouchAnswer → List ℕ
+touchValues v = v .bytes ∷ []
 
-abbrev pub readingIn : Reading → List ℕ → List ℕ → List ℕ → List ℕ
-readingIn (L.Refused n) blocks bytes l = l
-readingIn (L.Done p k) blocks bytes l = sets l 0 (p .segs ∷ p .blocks ∷ k ∷ (eight blocks ++ eight bytes))
+abbrev pub removeValues : RemoveAnswer → List ℕ
+removeValues v = v .writes ∷ []
 
-abbrev pub lookedNumber : Looked → ℕ
-lookedNumber r = readingNumber (r .answer)
+abbrev pub expireValues : ExpireAnswer → List ℕ
+expireValues v = v .outs ∷ []
 
-abbrev pub lookedIn : Looked → List ℕ → List ℕ
-lookedIn r l = readingIn (r .answer) (r .blocks) (r .bytes) l
+abbrev pub lookupValues : LookupAnswer → List ℕ
+lookupValues v = v .path .segs ∷ v .path .blocks ∷ v .spans ∷ (v .blocks ++ v .bytes)

@@ -1,3 +1,2 @@
-// What every exported function has in common: the small numbers in a lent list, and an answer told as a number and a list.
-pub mod books;
+// What every exported function has in common: an answer told as a number and a list.
 pub mod told;

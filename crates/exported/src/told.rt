@@ -1,17 +1,22 @@
 // An answer told as a number and a list: 0 and the values, or the refusal's number with the list as it was.
 use answers::Count;
+use answers::EachTier;
 use answers::Inserted;
 use answers::Looked;
 use answers::Plain;
-use answers::Reading;
 use answers::Resolved;
+use answers::StoreExpired;
+use answers::StoreInserted;
+use answers::StoreRemoved;
+use answers::StoreUsed;
+use model::Split;
 ghost use mathlib.Core.Path.{_≡_};
-ghost use lib.ListN.{length};
 ghost use lib.Seq.{sets};
-ghost use Rattle.exported.specs.Told.{eight, plainNumber, countNumber, countIn, pathNumber, pathIn, insertedNumber, insertedIn, lookedNumber, lookedIn};
+ghost use Rattle.answers.specs.Answers.{plainOf, countOf, resolvedOf, insertedOf, storeInsertedOf, storeUsedOf, storeRemovedOf, storeExpiredOf, eachTier, lookedOf};
+ghost use Rattle.exported.specs.Told.{numberOf, laid, countValues, resolveValues, insertValues, bringValues, touchValues, removeValues, expireValues, lookupValues};
 
 pub fn plain(a: Plain) -> u8
-    ensures { λ r. ⌜ r ≡ plainNumber a ⌝ }
+    ensures { λ r. ⌜ r ≡ numberOf (plainOf a) ⌝ }
 {
     match a {
         Plain::Refused(n) => n,
@@ -20,7 +25,7 @@ pub fn plain(a: Plain) -> u8
 }
 
 pub fn count(answer: &mut [u64; 19], a: Count) -> u8
-    ensures { λ r. ⌜ (r ≡ countNumber a) × (now (answer .exit) ≡ countIn a (now (answer .entry))) ⌝ }
+    ensures { λ r. ⌜ (r ≡ numberOf (countOf a)) × (now (answer .exit) ≡ laid countValues (countOf a) (now (answer .entry))) ⌝ }
 {
     match a {
         Count::Refused(n) => n,
@@ -32,81 +37,129 @@ pub fn count(answer: &mut [u64; 19], a: Count) -> u8
 }
 
 pub fn path(answer: &mut [u64; 19], a: Resolved) -> u8
-    ensures { λ r. ⌜ (r ≡ pathNumber a) × (now (answer .exit) ≡ pathIn a (now (answer .entry))) ⌝ }
+    ensures { λ r. ⌜ (r ≡ numberOf (resolvedOf a)) × (now (answer .exit) ≡ laid resolveValues (resolvedOf a) (now (answer .entry))) ⌝ }
 {
     match a {
         Resolved::Refused(n) => n,
-        Resolved::Done(p) => {
-            answer[0] = p.segs as u64;
-            answer[1] = p.blocks as u64;
+        Resolved::Done(v) => {
+            answer[0] = v.path.segs as u64;
+            answer[1] = v.path.blocks as u64;
             0
         }
     }
 }
 
 pub fn inserted(answer: &mut [u64; 19], a: Inserted) -> u8
-    ensures { λ r. ⌜ (r ≡ insertedNumber a) × (now (answer .exit) ≡ insertedIn a (now (answer .entry))) ⌝ }
+    ensures { λ r. ⌜ (r ≡ numberOf (insertedOf a)) × (now (answer .exit) ≡ laid insertValues (insertedOf a) (now (answer .entry))) ⌝ }
 {
     match a {
         Inserted::Refused(n) => n,
-        Inserted::Whole(p) => {
-            answer[0] = p.segs as u64;
-            answer[1] = p.blocks as u64;
-            answer[2] = 0;
-            0
+        Inserted::Done(v) => {
+            answer[0] = v.path.segs as u64;
+            answer[1] = v.path.blocks as u64;
+            let split = v.split;
+            match split {
+                Split::No => {
+                    answer[2] = 0;
+                    0
+                }
+                Split::At(c) => {
+                    answer[2] = 1;
+                    answer[3] = c.node as u64;
+                    answer[4] = c.at as u64;
+                    answer[5] = c.new as u64;
+                    0
+                }
+            }
         }
-        Inserted::Split(p, c) => {
-            answer[0] = p.segs as u64;
-            answer[1] = p.blocks as u64;
-            answer[2] = 1;
-            answer[3] = c.node as u64;
-            answer[4] = c.at as u64;
-            answer[5] = c.new as u64;
+    }
+}
+
+pub fn store_inserted(answer: &mut [u64; 19], a: StoreInserted) -> u8
+    ensures { λ r. ⌜ (r ≡ numberOf (storeInsertedOf a)) × (now (answer .exit) ≡ laid bringValues (storeInsertedOf a) (now (answer .entry))) ⌝ }
+{
+    match a {
+        StoreInserted::Refused(n) => n,
+        StoreInserted::Done(v) => {
+            answer[0] = v.outs;
             0
         }
     }
 }
 
-fn tell_blocks(answer: &mut [u64; 19], x: [u64; 8])
-    ensures { λ _. ⌜ now (answer .exit) ≡ sets (now (answer .entry)) 3 (eight x) ⌝ }
+pub fn store_used(answer: &mut [u64; 19], a: StoreUsed) -> u8
+    ensures { λ r. ⌜ (r ≡ numberOf (storeUsedOf a)) × (now (answer .exit) ≡ laid touchValues (storeUsedOf a) (now (answer .entry))) ⌝ }
 {
-    answer[3] = x[0];
-    answer[4] = x[1];
-    answer[5] = x[2];
-    answer[6] = x[3];
-    answer[7] = x[4];
-    answer[8] = x[5];
-    answer[9] = x[6];
-    answer[10] = x[7];
-}
-
-fn tell_bytes(answer: &mut [u64; 19], x: [u64; 8])
-    ensures { λ _. ⌜ now (answer .exit) ≡ sets (now (answer .entry)) 11 (eight x) ⌝ }
-{
-    answer[11] = x[0];
-    answer[12] = x[1];
-    answer[13] = x[2];
-    answer[14] = x[3];
-    answer[15] = x[4];
-    answer[16] = x[5];
-    answer[17] = x[6];
-    answer[18] = x[7];
-}
-
-pub fn looked(answer: &mut [u64; 19], r: Looked) -> u8
-    ensures { λ n. ⌜ (n ≡ lookedNumber r) × (now (answer .exit) ≡ lookedIn r (now (answer .entry))) × (length (r .blocks) ≡ 8) × (length (r .bytes) ≡ 8) ⌝ }
-{
-    let a = r.answer;
-    let blocks = r.blocks;
-    let sums = r.bytes;
     match a {
-        Reading::Refused(n) => n,
-        Reading::Done(p, k) => {
-            answer[0] = p.segs as u64;
-            answer[1] = p.blocks as u64;
-            answer[2] = k as u64;
-            tell_blocks(answer, blocks);
-            tell_bytes(answer, sums);
+        StoreUsed::Refused(n) => n,
+        StoreUsed::Done(v) => {
+            answer[0] = v.bytes;
+            0
+        }
+    }
+}
+
+pub fn store_removed(answer: &mut [u64; 19], a: StoreRemoved) -> u8
+    ensures { λ r. ⌜ (r ≡ numberOf (storeRemovedOf a)) × (now (answer .exit) ≡ laid removeValues (storeRemovedOf a) (now (answer .entry))) ⌝ }
+{
+    match a {
+        StoreRemoved::Refused(n) => n,
+        StoreRemoved::Done(v) => {
+            answer[0] = v.writes;
+            0
+        }
+    }
+}
+
+pub fn store_expired(answer: &mut [u64; 19], a: StoreExpired) -> u8
+    ensures { λ r. ⌜ (r ≡ numberOf (storeExpiredOf a)) × (now (answer .exit) ≡ laid expireValues (storeExpiredOf a) (now (answer .entry))) ⌝ }
+{
+    match a {
+        StoreExpired::Refused(n) => n,
+        StoreExpired::Done(v) => {
+            answer[0] = v.outs;
+            0
+        }
+    }
+}
+
+fn tell_blocks(answer: &mut [u64; 19], t: EachTier)
+    ensures { λ _. ⌜ now (answer .exit) ≡ sets (now (answer .entry)) 3 (eachTier t) ⌝ }
+{
+    answer[3] = t.first;
+    answer[4] = t.second;
+    answer[5] = t.third;
+    answer[6] = t.fourth;
+    answer[7] = t.fifth;
+    answer[8] = t.sixth;
+    answer[9] = t.seventh;
+    answer[10] = t.eighth;
+}
+
+fn tell_bytes(answer: &mut [u64; 19], t: EachTier)
+    ensures { λ _. ⌜ now (answer .exit) ≡ sets (now (answer .entry)) 11 (eachTier t) ⌝ }
+{
+    answer[11] = t.first;
+    answer[12] = t.second;
+    answer[13] = t.third;
+    answer[14] = t.fourth;
+    answer[15] = t.fifth;
+    answer[16] = t.sixth;
+    answer[17] = t.seventh;
+    answer[18] = t.eighth;
+}
+
+pub fn looked(answer: &mut [u64; 19], a: Looked) -> u8
+    ensures { λ r. ⌜ (r ≡ numberOf (lookedOf a)) × (now (answer .exit) ≡ laid lookupValues (lookedOf a) (now (answer .entry))) ⌝ }
+{
+    match a {
+        Looked::Refused(n) => n,
+        Looked::Done(v) => {
+            answer[0] = v.path.segs as u64;
+            answer[1] = v.path.blocks as u64;
+            answer[2] = v.spans as u64;
+            tell_blocks(answer, v.blocks);
+            tell_bytes(answer, v.bytes);
             0
         }
     }

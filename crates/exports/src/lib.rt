@@ -1,26 +1,20 @@
-// The calls that Rust makes: the columns in their order, the answer lists, the books with the small numbers, a list for the answer's values, then the
-// arguments. The result is 0, or the refusal's number. What is asked of the state, one owner guarantees who sets up once and changes it by these calls only.
+// The calls that Rust makes: the columns in their order, the answer lists, a list for the answer's values, then the arguments. The result is 0, or the
+// refusal's number. What is asked of the state, one owner guarantees who sets up once and changes it by these calls only.
 use answers::Count;
-use lent::Small;
 use model::Span;
 ghost use mathlib.Core.Path.{_≡_};
 ghost use Prim.Native.Nat.{_≤_};
 ghost use lib.ListN.{length};
 ghost use Rattle.model.specs.Words.{Says};
-ghost use Rattle.model.specs.Sizes.{outPlaces};
+ghost use Rattle.model.specs.Sizes.{maxStores, maxNumbers, outPlaces};
 ghost use Rattle.model.specs.State.{State, storesIn};
 ghost use Rattle.model.specs.Sound.{Sound};
 ghost use Rattle.model.specs.Refusals.{PathFits, OutFits, TierFits};
-ghost use Rattle.model.specs.Calls.{setUp, resolveCall, insert as insertCall, storeInsert, storeUsed, storeRemove, storeExpire, pinSource, unpinSource};
-ghost use Rattle.tree.specs.Walk.{pathListOf};
-ghost use Rattle.evicted.specs.Evicted.{outList};
-ghost use Rattle.tiers.specs.Tiers.{tierListOf};
-ghost use Rattle.looking.specs.Looking.{listsOf, LookedUp};
-ghost use Rattle.counters.specs.Counted.{Of};
+ghost use Rattle.model.specs.Calls.{setUp, resolveCall, insert as insertCall, storeInsert, storeUsed, storeRemove, storeExpire, pinSource, unpinSource, lookup};
+ghost use Rattle.known.specs.Known.{pathListOf, outList, tierListOf, listsOf};
 ghost use Rattle.usedcols.specs.Spans.{spansOf};
 ghost use Rattle.answers.specs.Answers.{stateFrom, outcome, countOf};
-ghost use Rattle.exported.specs.Books.{smallFrom};
-ghost use Rattle.exported.specs.Told.{toldPlain, toldCount, toldPath, toldInserted, toldLooked};
+ghost use Rattle.exported.specs.Told.{toldPlain, toldCount, toldPath, toldInserted, toldStoreInserted, toldStoreUsed, toldStoreRemoved, toldStoreExpired, toldLooked};
 ghost use Rattle.exports.specs.Counter.{counterCall};
 
 // Sets up the tree and the stores, one for each capacity.
@@ -44,15 +38,13 @@ pub extern "C" fn scorebeetle_set_up(
     pin_count: &[u64],
     marks: &mut [usize],
     bytes: &mut [u64],
-    books: &mut [u64; 69],
+    books: &mut [u64],
     table: &[u64],
     capacity: &[u64],
     refreshes: &[bool],
 ) -> u8
-    requires { ⌜ length (now books) ≡ 69 ⌝ }
-    ensures { λ r. ⌜ outcome (stateFrom (now (parent .exit)) (now (depth .exit)) (now (len .exit)) (now (run .exit)) (now (words .entry)) (now (node .entry)) (now (start .entry)) (now (end .entry)) (now (id .entry)) (now (stamp .entry)) (now (touched .entry)) (now (write .entry)) (now («pin_node» .entry)) (now («pin_start» .entry)) (now («pin_end» .entry)) (now («pin_count» .entry)) (now (marks .exit)) (now (bytes .exit)) (smallFrom (now (books .exit)))) tt (toldPlain r) ≡ setUp (stateFrom (now (parent .entry)) (now (depth .entry)) (now (len .entry)) (now (run .entry)) (now (words .entry)) (now (node .entry)) (now (start .entry)) (now (end .entry)) (now (id .entry)) (now (stamp .entry)) (now (touched .entry)) (now (write .entry)) (now («pin_node» .entry)) (now («pin_start» .entry)) (now («pin_end» .entry)) (now («pin_count» .entry)) (now (marks .entry)) (now (bytes .entry)) (smallFrom (now (books .entry)))) (now (table .entry)) (now (capacity .entry)) (now (refreshes .entry)) ⌝ }
+    ensures { λ r. ⌜ outcome (stateFrom (now (parent .exit)) (now (depth .exit)) (now (len .exit)) (now (run .exit)) (now (words .entry)) (now (node .entry)) (now (start .entry)) (now (end .entry)) (now (id .entry)) (now (stamp .entry)) (now (touched .entry)) (now (write .entry)) (now («pin_node» .entry)) (now («pin_start» .entry)) (now («pin_end» .entry)) (now («pin_count» .entry)) (now (marks .exit)) (now (bytes .exit)) (now (books .exit))) tt (toldPlain r) ≡ setUp (stateFrom (now (parent .entry)) (now (depth .entry)) (now (len .entry)) (now (run .entry)) (now (words .entry)) (now (node .entry)) (now (start .entry)) (now (end .entry)) (now (id .entry)) (now (stamp .entry)) (now (touched .entry)) (now (write .entry)) (now («pin_node» .entry)) (now («pin_start» .entry)) (now («pin_end» .entry)) (now («pin_count» .entry)) (now (marks .entry)) (now (bytes .entry)) (now (books .entry))) (now (table .entry)) (now (capacity .entry)) (now (refreshes .entry)) ⌝ }
 {
-    let x = exported::books::small_from(books);
     let r = known::set_up(
         parent,
         depth,
@@ -72,15 +64,12 @@ pub extern "C" fn scorebeetle_set_up(
         pin_count,
         marks,
         bytes,
-        x,
+        books,
         table,
         capacity,
         refreshes,
     );
-    let small = r.small;
-    let a = r.answer;
-    exported::books::keep_small(books, small);
-    exported::told::plain(a)
+    exported::told::plain(r)
 }
 
 // How far the tree has a list.
@@ -104,16 +93,15 @@ pub extern "C" fn scorebeetle_resolve(
     pin_count: &[u64],
     marks: &[usize],
     bytes: &[u64],
+    books: &[u64],
     path_node: &mut [usize],
     path_len: &mut [usize],
-    books: &[u64; 69],
     answer: &mut [u64; 19],
     hashes: &[u64],
 ) -> u8
-    requires { ⌜ Sound (stateFrom (now parent) (now depth) (now len) (now run) (now words) (now node) (now start) (now end) (now id) (now stamp) (now touched) (now write) (now «pin_node») (now «pin_start») (now «pin_end») (now «pin_count») (now marks) (now bytes) (smallFrom (now books))) × PathFits (pathListOf (now «path_node») (now «path_len»)) × (length (now answer) ≡ 19) ⌝ }
-    ensures { λ r. ⌜ outcome (stateFrom (now (parent .entry)) (now (depth .entry)) (now (len .entry)) (now (run .entry)) (now (words .entry)) (now (node .entry)) (now (start .entry)) (now (end .entry)) (now (id .entry)) (now (stamp .entry)) (now (touched .entry)) (now (write .entry)) (now («pin_node» .entry)) (now («pin_start» .entry)) (now («pin_end» .entry)) (now («pin_count» .entry)) (now (marks .entry)) (now (bytes .entry)) (smallFrom (now (books .entry)))) (pathListOf (now («path_node» .exit)) (now («path_len» .exit))) (toldPath r (now (answer .exit))) ≡ resolveCall (stateFrom (now (parent .entry)) (now (depth .entry)) (now (len .entry)) (now (run .entry)) (now (words .entry)) (now (node .entry)) (now (start .entry)) (now (end .entry)) (now (id .entry)) (now (stamp .entry)) (now (touched .entry)) (now (write .entry)) (now («pin_node» .entry)) (now («pin_start» .entry)) (now («pin_end» .entry)) (now («pin_count» .entry)) (now (marks .entry)) (now (bytes .entry)) (smallFrom (now (books .entry)))) (pathListOf (now («path_node» .entry)) (now («path_len» .entry))) (now (hashes .entry)) ⌝ }
+    requires { ⌜ Sound (stateFrom (now parent) (now depth) (now len) (now run) (now words) (now node) (now start) (now end) (now id) (now stamp) (now touched) (now write) (now «pin_node») (now «pin_start») (now «pin_end») (now «pin_count») (now marks) (now bytes) (now books)) × PathFits (pathListOf (now «path_node») (now «path_len»)) × (length (now answer) ≡ 19) ⌝ }
+    ensures { λ r. ⌜ outcome (stateFrom (now (parent .entry)) (now (depth .entry)) (now (len .entry)) (now (run .entry)) (now (words .entry)) (now (node .entry)) (now (start .entry)) (now (end .entry)) (now (id .entry)) (now (stamp .entry)) (now (touched .entry)) (now (write .entry)) (now («pin_node» .entry)) (now («pin_start» .entry)) (now («pin_end» .entry)) (now («pin_count» .entry)) (now (marks .entry)) (now (bytes .entry)) (now (books .entry))) (pathListOf (now («path_node» .exit)) (now («path_len» .exit))) (toldPath r (now (answer .exit))) ≡ resolveCall (stateFrom (now (parent .entry)) (now (depth .entry)) (now (len .entry)) (now (run .entry)) (now (words .entry)) (now (node .entry)) (now (start .entry)) (now (end .entry)) (now (id .entry)) (now (stamp .entry)) (now (touched .entry)) (now (write .entry)) (now («pin_node» .entry)) (now («pin_start» .entry)) (now («pin_end» .entry)) (now («pin_count» .entry)) (now (marks .entry)) (now (bytes .entry)) (now (books .entry))) (pathListOf (now («path_node» .entry)) (now («path_len» .entry))) (now (hashes .entry)) ⌝ }
 {
-    let x = exported::books::small_from(books);
     let r = known::resolve(
         parent,
         depth,
@@ -133,9 +121,9 @@ pub extern "C" fn scorebeetle_resolve(
         pin_count,
         marks,
         bytes,
+        books,
         path_node,
         path_len,
-        x,
         hashes,
     );
     exported::told::path(answer, r)
@@ -162,16 +150,15 @@ pub extern "C" fn scorebeetle_insert(
     pin_count: &mut [u64],
     marks: &mut [usize],
     bytes: &[u64],
+    books: &mut [u64],
     path_node: &mut [usize],
     path_len: &mut [usize],
-    books: &mut [u64; 69],
     answer: &mut [u64; 19],
     hashes: &[u64],
 ) -> u8
-    requires { ⌜ Sound (stateFrom (now parent) (now depth) (now len) (now run) (now words) (now node) (now start) (now end) (now id) (now stamp) (now touched) (now write) (now «pin_node») (now «pin_start») (now «pin_end») (now «pin_count») (now marks) (now bytes) (smallFrom (now books))) × PathFits (pathListOf (now «path_node») (now «path_len»)) × (length (now books) ≡ 69) × (length (now answer) ≡ 19) ⌝ }
-    ensures { λ r. ⌜ outcome (stateFrom (now (parent .exit)) (now (depth .exit)) (now (len .exit)) (now (run .exit)) (now (words .exit)) (now (node .exit)) (now (start .exit)) (now (end .exit)) (now (id .exit)) (now (stamp .exit)) (now (touched .exit)) (now (write .exit)) (now («pin_node» .exit)) (now («pin_start» .exit)) (now («pin_end» .exit)) (now («pin_count» .exit)) (now (marks .exit)) (now (bytes .entry)) (smallFrom (now (books .exit)))) (pathListOf (now («path_node» .exit)) (now («path_len» .exit))) (toldInserted r (now (answer .exit))) ≡ insertCall (stateFrom (now (parent .entry)) (now (depth .entry)) (now (len .entry)) (now (run .entry)) (now (words .entry)) (now (node .entry)) (now (start .entry)) (now (end .entry)) (now (id .entry)) (now (stamp .entry)) (now (touched .entry)) (now (write .entry)) (now («pin_node» .entry)) (now («pin_start» .entry)) (now («pin_end» .entry)) (now («pin_count» .entry)) (now (marks .entry)) (now (bytes .entry)) (smallFrom (now (books .entry)))) (pathListOf (now («path_node» .entry)) (now («path_len» .entry))) (now (hashes .entry)) ⌝ }
+    requires { ⌜ Sound (stateFrom (now parent) (now depth) (now len) (now run) (now words) (now node) (now start) (now end) (now id) (now stamp) (now touched) (now write) (now «pin_node») (now «pin_start») (now «pin_end») (now «pin_count») (now marks) (now bytes) (now books)) × PathFits (pathListOf (now «path_node») (now «path_len»)) × (length (now answer) ≡ 19) ⌝ }
+    ensures { λ r. ⌜ outcome (stateFrom (now (parent .exit)) (now (depth .exit)) (now (len .exit)) (now (run .exit)) (now (words .exit)) (now (node .exit)) (now (start .exit)) (now (end .exit)) (now (id .exit)) (now (stamp .exit)) (now (touched .exit)) (now (write .exit)) (now («pin_node» .exit)) (now («pin_start» .exit)) (now («pin_end» .exit)) (now («pin_count» .exit)) (now (marks .exit)) (now (bytes .entry)) (now (books .exit))) (pathListOf (now («path_node» .exit)) (now («path_len» .exit))) (toldInserted r (now (answer .exit))) ≡ insertCall (stateFrom (now (parent .entry)) (now (depth .entry)) (now (len .entry)) (now (run .entry)) (now (words .entry)) (now (node .entry)) (now (start .entry)) (now (end .entry)) (now (id .entry)) (now (stamp .entry)) (now (touched .entry)) (now (write .entry)) (now («pin_node» .entry)) (now («pin_start» .entry)) (now («pin_end» .entry)) (now («pin_count» .entry)) (now (marks .entry)) (now (bytes .entry)) (now (books .entry))) (pathListOf (now («path_node» .entry)) (now («path_len» .entry))) (now (hashes .entry)) ⌝ }
 {
-    let x = exported::books::small_from(books);
     let r = known::insert(
         parent,
         depth,
@@ -191,15 +178,12 @@ pub extern "C" fn scorebeetle_insert(
         pin_count,
         marks,
         bytes,
+        books,
         path_node,
         path_len,
-        x,
         hashes,
     );
-    let small = r.small;
-    let a = r.answer;
-    exported::books::keep_small(books, small);
-    exported::told::inserted(answer, a)
+    exported::told::inserted(answer, r)
 }
 
 // A span into store s.
@@ -223,13 +207,13 @@ pub extern "C" fn scorebeetle_store_insert(
     pin_count: &[u64],
     marks: &mut [usize],
     bytes: &[u64],
+    books: &mut [u64],
     out_node: &mut [usize],
     out_start: &mut [usize],
     out_end: &mut [usize],
     out_write: &mut [u32],
     out_bytes: &mut [u64],
     out_dead: &mut [u64],
-    books: &mut [u64; 69],
     answer: &mut [u64; 19],
     s: usize,
     on: usize,
@@ -238,10 +222,9 @@ pub extern "C" fn scorebeetle_store_insert(
     time: f64,
     w: u32,
 ) -> u8
-    requires { ⌜ Sound (stateFrom (now parent) (now depth) (now len) (now run) (now words) (now node) (now start) (now end) (now id) (now stamp) (now touched) (now write) (now «pin_node») (now «pin_start») (now «pin_end») (now «pin_count») (now marks) (now bytes) (smallFrom (now books))) × OutFits (outList (now «out_node») (now «out_start») (now «out_end») (now «out_write») (now «out_bytes») (now «out_dead»)) × (length (now books) ≡ 69) × (length (now answer) ≡ 19) ⌝ }
-    ensures { λ r. ⌜ outcome (stateFrom (now (parent .entry)) (now (depth .entry)) (now (len .entry)) (now (run .entry)) (now (words .entry)) (now (node .exit)) (now (start .exit)) (now (end .exit)) (now (id .exit)) (now (stamp .exit)) (now (touched .exit)) (now (write .exit)) (now («pin_node» .entry)) (now («pin_start» .entry)) (now («pin_end» .entry)) (now («pin_count» .entry)) (now (marks .exit)) (now (bytes .entry)) (smallFrom (now (books .exit)))) (outList (now («out_node» .exit)) (now («out_start» .exit)) (now («out_end» .exit)) (now («out_write» .exit)) (now («out_bytes» .exit)) (now («out_dead» .exit))) (toldCount r (now (answer .exit))) ≡ storeInsert (stateFrom (now (parent .entry)) (now (depth .entry)) (now (len .entry)) (now (run .entry)) (now (words .entry)) (now (node .entry)) (now (start .entry)) (now (end .entry)) (now (id .entry)) (now (stamp .entry)) (now (touched .entry)) (now (write .entry)) (now («pin_node» .entry)) (now («pin_start» .entry)) (now («pin_end» .entry)) (now («pin_count» .entry)) (now (marks .entry)) (now (bytes .entry)) (smallFrom (now (books .entry)))) (outList (now («out_node» .entry)) (now («out_start» .entry)) (now («out_end» .entry)) (now («out_write» .entry)) (now («out_bytes» .entry)) (now («out_dead» .entry))) s (record { node = on; start = from; end = upto }) time w ⌝ }
+    requires { ⌜ Sound (stateFrom (now parent) (now depth) (now len) (now run) (now words) (now node) (now start) (now end) (now id) (now stamp) (now touched) (now write) (now «pin_node») (now «pin_start») (now «pin_end») (now «pin_count») (now marks) (now bytes) (now books)) × OutFits (outList (now «out_node») (now «out_start») (now «out_end») (now «out_write») (now «out_bytes») (now «out_dead»)) × (length (now answer) ≡ 19) ⌝ }
+    ensures { λ r. ⌜ outcome (stateFrom (now (parent .entry)) (now (depth .entry)) (now (len .entry)) (now (run .entry)) (now (words .entry)) (now (node .exit)) (now (start .exit)) (now (end .exit)) (now (id .exit)) (now (stamp .exit)) (now (touched .exit)) (now (write .exit)) (now («pin_node» .entry)) (now («pin_start» .entry)) (now («pin_end» .entry)) (now («pin_count» .entry)) (now (marks .exit)) (now (bytes .entry)) (now (books .exit))) (outList (now («out_node» .exit)) (now («out_start» .exit)) (now («out_end» .exit)) (now («out_write» .exit)) (now («out_bytes» .exit)) (now («out_dead» .exit))) (toldStoreInserted r (now (answer .exit))) ≡ storeInsert (stateFrom (now (parent .entry)) (now (depth .entry)) (now (len .entry)) (now (run .entry)) (now (words .entry)) (now (node .entry)) (now (start .entry)) (now (end .entry)) (now (id .entry)) (now (stamp .entry)) (now (touched .entry)) (now (write .entry)) (now («pin_node» .entry)) (now («pin_start» .entry)) (now («pin_end» .entry)) (now («pin_count» .entry)) (now (marks .entry)) (now (bytes .entry)) (now (books .entry))) (outList (now («out_node» .entry)) (now («out_start» .entry)) (now («out_end» .entry)) (now («out_write» .entry)) (now («out_bytes» .entry)) (now («out_dead» .entry))) s (record { node = on; start = from; end = upto }) time w ⌝ }
 {
-    let x = exported::books::small_from(books);
     let sp = Span {
         node: on,
         start: from,
@@ -266,22 +249,19 @@ pub extern "C" fn scorebeetle_store_insert(
         pin_count,
         marks,
         bytes,
+        books,
         out_node,
         out_start,
         out_end,
         out_write,
         out_bytes,
         out_dead,
-        x,
         s,
         sp,
         time,
         w,
     );
-    let small = r.small;
-    let a = r.answer;
-    exported::books::keep_small(books, small);
-    exported::told::count(answer, a)
+    exported::told::store_inserted(answer, r)
 }
 
 // The spans of three lists, in turn, used in store s.
@@ -305,7 +285,7 @@ pub extern "C" fn scorebeetle_store_used(
     pin_count: &[u64],
     marks: &mut [usize],
     bytes: &[u64],
-    books: &mut [u64; 69],
+    books: &mut [u64],
     answer: &mut [u64; 19],
     s: usize,
     on: &[usize],
@@ -314,10 +294,9 @@ pub extern "C" fn scorebeetle_store_used(
     time: f64,
     counted: bool,
 ) -> u8
-    requires { ⌜ Sound (stateFrom (now parent) (now depth) (now len) (now run) (now words) (now node) (now start) (now end) (now id) (now stamp) (now touched) (now write) (now «pin_node») (now «pin_start») (now «pin_end») (now «pin_count») (now marks) (now bytes) (smallFrom (now books))) × (length (now from) ≡ length (now on)) × (length (now upto) ≡ length (now on)) × (length (now books) ≡ 69) × (length (now answer) ≡ 19) ⌝ }
-    ensures { λ r. ⌜ outcome (stateFrom (now (parent .entry)) (now (depth .entry)) (now (len .entry)) (now (run .entry)) (now (words .entry)) (now (node .exit)) (now (start .exit)) (now (end .exit)) (now (id .exit)) (now (stamp .exit)) (now (touched .exit)) (now (write .exit)) (now («pin_node» .entry)) (now («pin_start» .entry)) (now («pin_end» .entry)) (now («pin_count» .entry)) (now (marks .exit)) (now (bytes .entry)) (smallFrom (now (books .exit)))) tt (toldCount r (now (answer .exit))) ≡ storeUsed (stateFrom (now (parent .entry)) (now (depth .entry)) (now (len .entry)) (now (run .entry)) (now (words .entry)) (now (node .entry)) (now (start .entry)) (now (end .entry)) (now (id .entry)) (now (stamp .entry)) (now (touched .entry)) (now (write .entry)) (now («pin_node» .entry)) (now («pin_start» .entry)) (now («pin_end» .entry)) (now («pin_count» .entry)) (now (marks .entry)) (now (bytes .entry)) (smallFrom (now (books .entry)))) s (spansOf (now (on .entry)) (now (from .entry)) (now (upto .entry))) time counted ⌝ }
+    requires { ⌜ Sound (stateFrom (now parent) (now depth) (now len) (now run) (now words) (now node) (now start) (now end) (now id) (now stamp) (now touched) (now write) (now «pin_node») (now «pin_start») (now «pin_end») (now «pin_count») (now marks) (now bytes) (now books)) × (length (now from) ≡ length (now on)) × (length (now upto) ≡ length (now on)) × (length (now answer) ≡ 19) ⌝ }
+    ensures { λ r. ⌜ outcome (stateFrom (now (parent .entry)) (now (depth .entry)) (now (len .entry)) (now (run .entry)) (now (words .entry)) (now (node .exit)) (now (start .exit)) (now (end .exit)) (now (id .exit)) (now (stamp .exit)) (now (touched .exit)) (now (write .exit)) (now («pin_node» .entry)) (now («pin_start» .entry)) (now («pin_end» .entry)) (now («pin_count» .entry)) (now (marks .exit)) (now (bytes .entry)) (now (books .exit))) tt (toldStoreUsed r (now (answer .exit))) ≡ storeUsed (stateFrom (now (parent .entry)) (now (depth .entry)) (now (len .entry)) (now (run .entry)) (now (words .entry)) (now (node .entry)) (now (start .entry)) (now (end .entry)) (now (id .entry)) (now (stamp .entry)) (now (touched .entry)) (now (write .entry)) (now («pin_node» .entry)) (now («pin_start» .entry)) (now («pin_end» .entry)) (now («pin_count» .entry)) (now (marks .entry)) (now (bytes .entry)) (now (books .entry))) s (spansOf (now (on .entry)) (now (from .entry)) (now (upto .entry))) time counted ⌝ }
 {
-    let x = exported::books::small_from(books);
     let r = usedcols::store_used(
         parent,
         depth,
@@ -337,7 +316,7 @@ pub extern "C" fn scorebeetle_store_used(
         pin_count,
         marks,
         bytes,
-        x,
+        books,
         s,
         on,
         from,
@@ -345,10 +324,7 @@ pub extern "C" fn scorebeetle_store_used(
         time,
         counted,
     );
-    let small = r.small;
-    let a = r.answer;
-    exported::books::keep_small(books, small);
-    exported::told::count(answer, a)
+    exported::told::store_used(answer, r)
 }
 
 // A span out of store s.
@@ -372,18 +348,17 @@ pub extern "C" fn scorebeetle_store_remove(
     pin_count: &[u64],
     marks: &mut [usize],
     bytes: &[u64],
+    books: &mut [u64],
     list: &mut [u32],
-    books: &mut [u64; 69],
     answer: &mut [u64; 19],
     s: usize,
     on: usize,
     from: usize,
     upto: usize,
 ) -> u8
-    requires { ⌜ Sound (stateFrom (now parent) (now depth) (now len) (now run) (now words) (now node) (now start) (now end) (now id) (now stamp) (now touched) (now write) (now «pin_node») (now «pin_start») (now «pin_end») (now «pin_count») (now marks) (now bytes) (smallFrom (now books))) × (outPlaces ≤ length (now list)) × (length (now books) ≡ 69) × (length (now answer) ≡ 19) ⌝ }
-    ensures { λ r. ⌜ outcome (stateFrom (now (parent .entry)) (now (depth .entry)) (now (len .entry)) (now (run .entry)) (now (words .entry)) (now (node .exit)) (now (start .exit)) (now (end .exit)) (now (id .exit)) (now (stamp .exit)) (now (touched .exit)) (now (write .exit)) (now («pin_node» .entry)) (now («pin_start» .entry)) (now («pin_end» .entry)) (now («pin_count» .entry)) (now (marks .exit)) (now (bytes .entry)) (smallFrom (now (books .exit)))) (now (list .exit)) (toldCount r (now (answer .exit))) ≡ storeRemove (stateFrom (now (parent .entry)) (now (depth .entry)) (now (len .entry)) (now (run .entry)) (now (words .entry)) (now (node .entry)) (now (start .entry)) (now (end .entry)) (now (id .entry)) (now (stamp .entry)) (now (touched .entry)) (now (write .entry)) (now («pin_node» .entry)) (now («pin_start» .entry)) (now («pin_end» .entry)) (now («pin_count» .entry)) (now (marks .entry)) (now (bytes .entry)) (smallFrom (now (books .entry)))) (now (list .entry)) s (record { node = on; start = from; end = upto }) ⌝ }
+    requires { ⌜ Sound (stateFrom (now parent) (now depth) (now len) (now run) (now words) (now node) (now start) (now end) (now id) (now stamp) (now touched) (now write) (now «pin_node») (now «pin_start») (now «pin_end») (now «pin_count») (now marks) (now bytes) (now books)) × (outPlaces ≤ length (now list)) × (length (now answer) ≡ 19) ⌝ }
+    ensures { λ r. ⌜ outcome (stateFrom (now (parent .entry)) (now (depth .entry)) (now (len .entry)) (now (run .entry)) (now (words .entry)) (now (node .exit)) (now (start .exit)) (now (end .exit)) (now (id .exit)) (now (stamp .exit)) (now (touched .exit)) (now (write .exit)) (now («pin_node» .entry)) (now («pin_start» .entry)) (now («pin_end» .entry)) (now («pin_count» .entry)) (now (marks .exit)) (now (bytes .entry)) (now (books .exit))) (now (list .exit)) (toldStoreRemoved r (now (answer .exit))) ≡ storeRemove (stateFrom (now (parent .entry)) (now (depth .entry)) (now (len .entry)) (now (run .entry)) (now (words .entry)) (now (node .entry)) (now (start .entry)) (now (end .entry)) (now (id .entry)) (now (stamp .entry)) (now (touched .entry)) (now (write .entry)) (now («pin_node» .entry)) (now («pin_start» .entry)) (now («pin_end» .entry)) (now («pin_count» .entry)) (now (marks .entry)) (now (bytes .entry)) (now (books .entry))) (now (list .entry)) s (record { node = on; start = from; end = upto }) ⌝ }
 {
-    let x = exported::books::small_from(books);
     let sp = Span {
         node: on,
         start: from,
@@ -408,15 +383,12 @@ pub extern "C" fn scorebeetle_store_remove(
         pin_count,
         marks,
         bytes,
+        books,
         list,
-        x,
         s,
         sp,
     );
-    let small = r.small;
-    let a = r.answer;
-    exported::books::keep_small(books, small);
-    exported::told::count(answer, a)
+    exported::told::store_removed(answer, r)
 }
 
 // What is older than the seconds leaves store s.
@@ -440,22 +412,21 @@ pub extern "C" fn scorebeetle_store_expire(
     pin_count: &[u64],
     marks: &mut [usize],
     bytes: &[u64],
+    books: &mut [u64],
     out_node: &mut [usize],
     out_start: &mut [usize],
     out_end: &mut [usize],
     out_write: &mut [u32],
     out_bytes: &mut [u64],
     out_dead: &mut [u64],
-    books: &mut [u64; 69],
     answer: &mut [u64; 19],
     s: usize,
     time: f64,
     seconds: f64,
 ) -> u8
-    requires { ⌜ Sound (stateFrom (now parent) (now depth) (now len) (now run) (now words) (now node) (now start) (now end) (now id) (now stamp) (now touched) (now write) (now «pin_node») (now «pin_start») (now «pin_end») (now «pin_count») (now marks) (now bytes) (smallFrom (now books))) × OutFits (outList (now «out_node») (now «out_start») (now «out_end») (now «out_write») (now «out_bytes») (now «out_dead»)) × (length (now books) ≡ 69) × (length (now answer) ≡ 19) ⌝ }
-    ensures { λ r. ⌜ outcome (stateFrom (now (parent .entry)) (now (depth .entry)) (now (len .entry)) (now (run .entry)) (now (words .entry)) (now (node .exit)) (now (start .exit)) (now (end .exit)) (now (id .exit)) (now (stamp .exit)) (now (touched .exit)) (now (write .exit)) (now («pin_node» .entry)) (now («pin_start» .entry)) (now («pin_end» .entry)) (now («pin_count» .entry)) (now (marks .exit)) (now (bytes .entry)) (smallFrom (now (books .exit)))) (outList (now («out_node» .exit)) (now («out_start» .exit)) (now («out_end» .exit)) (now («out_write» .exit)) (now («out_bytes» .exit)) (now («out_dead» .exit))) (toldCount r (now (answer .exit))) ≡ storeExpire (stateFrom (now (parent .entry)) (now (depth .entry)) (now (len .entry)) (now (run .entry)) (now (words .entry)) (now (node .entry)) (now (start .entry)) (now (end .entry)) (now (id .entry)) (now (stamp .entry)) (now (touched .entry)) (now (write .entry)) (now («pin_node» .entry)) (now («pin_start» .entry)) (now («pin_end» .entry)) (now («pin_count» .entry)) (now (marks .entry)) (now (bytes .entry)) (smallFrom (now (books .entry)))) (outList (now («out_node» .entry)) (now («out_start» .entry)) (now («out_end» .entry)) (now («out_write» .entry)) (now («out_bytes» .entry)) (now («out_dead» .entry))) s time seconds ⌝ }
+    requires { ⌜ Sound (stateFrom (now parent) (now depth) (now len) (now run) (now words) (now node) (now start) (now end) (now id) (now stamp) (now touched) (now write) (now «pin_node») (now «pin_start») (now «pin_end») (now «pin_count») (now marks) (now bytes) (now books)) × OutFits (outList (now «out_node») (now «out_start») (now «out_end») (now «out_write») (now «out_bytes») (now «out_dead»)) × (length (now answer) ≡ 19) ⌝ }
+    ensures { λ r. ⌜ outcome (stateFrom (now (parent .entry)) (now (depth .entry)) (now (len .entry)) (now (run .entry)) (now (words .entry)) (now (node .exit)) (now (start .exit)) (now (end .exit)) (now (id .exit)) (now (stamp .exit)) (now (touched .exit)) (now (write .exit)) (now («pin_node» .entry)) (now («pin_start» .entry)) (now («pin_end» .entry)) (now («pin_count» .entry)) (now (marks .exit)) (now (bytes .entry)) (now (books .exit))) (outList (now («out_node» .exit)) (now («out_start» .exit)) (now («out_end» .exit)) (now («out_write» .exit)) (now («out_bytes» .exit)) (now («out_dead» .exit))) (toldStoreExpired r (now (answer .exit))) ≡ storeExpire (stateFrom (now (parent .entry)) (now (depth .entry)) (now (len .entry)) (now (run .entry)) (now (words .entry)) (now (node .entry)) (now (start .entry)) (now (end .entry)) (now (id .entry)) (now (stamp .entry)) (now (touched .entry)) (now (write .entry)) (now («pin_node» .entry)) (now («pin_start» .entry)) (now («pin_end» .entry)) (now («pin_count» .entry)) (now (marks .entry)) (now (bytes .entry)) (now (books .entry))) (outList (now («out_node» .entry)) (now («out_start» .entry)) (now («out_end» .entry)) (now («out_write» .entry)) (now («out_bytes» .entry)) (now («out_dead» .entry))) s time seconds ⌝ }
 {
-    let x = exported::books::small_from(books);
     let r = known::store_expire(
         parent,
         depth,
@@ -475,21 +446,18 @@ pub extern "C" fn scorebeetle_store_expire(
         pin_count,
         marks,
         bytes,
+        books,
         out_node,
         out_start,
         out_end,
         out_write,
         out_bytes,
         out_dead,
-        x,
         s,
         time,
         seconds,
     );
-    let small = r.small;
-    let a = r.answer;
-    exported::books::keep_small(books, small);
-    exported::told::count(answer, a)
+    exported::told::store_expired(answer, r)
 }
 
 // A pin on a span of store s.
@@ -513,16 +481,15 @@ pub extern "C" fn scorebeetle_pin_source(
     pin_count: &mut [u64],
     marks: &[usize],
     bytes: &[u64],
-    books: &mut [u64; 69],
+    books: &mut [u64],
     s: usize,
     on: usize,
     from: usize,
     upto: usize,
 ) -> u8
-    requires { ⌜ Sound (stateFrom (now parent) (now depth) (now len) (now run) (now words) (now node) (now start) (now end) (now id) (now stamp) (now touched) (now write) (now «pin_node») (now «pin_start») (now «pin_end») (now «pin_count») (now marks) (now bytes) (smallFrom (now books))) × (length (now books) ≡ 69) ⌝ }
-    ensures { λ r. ⌜ outcome (stateFrom (now (parent .entry)) (now (depth .entry)) (now (len .entry)) (now (run .entry)) (now (words .entry)) (now (node .entry)) (now (start .entry)) (now (end .entry)) (now (id .entry)) (now (stamp .entry)) (now (touched .entry)) (now (write .entry)) (now («pin_node» .exit)) (now («pin_start» .exit)) (now («pin_end» .exit)) (now («pin_count» .exit)) (now (marks .entry)) (now (bytes .entry)) (smallFrom (now (books .exit)))) tt (toldPlain r) ≡ pinSource (stateFrom (now (parent .entry)) (now (depth .entry)) (now (len .entry)) (now (run .entry)) (now (words .entry)) (now (node .entry)) (now (start .entry)) (now (end .entry)) (now (id .entry)) (now (stamp .entry)) (now (touched .entry)) (now (write .entry)) (now («pin_node» .entry)) (now («pin_start» .entry)) (now («pin_end» .entry)) (now («pin_count» .entry)) (now (marks .entry)) (now (bytes .entry)) (smallFrom (now (books .entry)))) s (record { node = on; start = from; end = upto }) ⌝ }
+    requires { ⌜ Sound (stateFrom (now parent) (now depth) (now len) (now run) (now words) (now node) (now start) (now end) (now id) (now stamp) (now touched) (now write) (now «pin_node») (now «pin_start») (now «pin_end») (now «pin_count») (now marks) (now bytes) (now books)) ⌝ }
+    ensures { λ r. ⌜ outcome (stateFrom (now (parent .entry)) (now (depth .entry)) (now (len .entry)) (now (run .entry)) (now (words .entry)) (now (node .entry)) (now (start .entry)) (now (end .entry)) (now (id .entry)) (now (stamp .entry)) (now (touched .entry)) (now (write .entry)) (now («pin_node» .exit)) (now («pin_start» .exit)) (now («pin_end» .exit)) (now («pin_count» .exit)) (now (marks .entry)) (now (bytes .entry)) (now (books .exit))) tt (toldPlain r) ≡ pinSource (stateFrom (now (parent .entry)) (now (depth .entry)) (now (len .entry)) (now (run .entry)) (now (words .entry)) (now (node .entry)) (now (start .entry)) (now (end .entry)) (now (id .entry)) (now (stamp .entry)) (now (touched .entry)) (now (write .entry)) (now («pin_node» .entry)) (now («pin_start» .entry)) (now («pin_end» .entry)) (now («pin_count» .entry)) (now (marks .entry)) (now (bytes .entry)) (now (books .entry))) s (record { node = on; start = from; end = upto }) ⌝ }
 {
-    let x = exported::books::small_from(books);
     let sp = Span {
         node: on,
         start: from,
@@ -547,14 +514,11 @@ pub extern "C" fn scorebeetle_pin_source(
         pin_count,
         marks,
         bytes,
-        x,
+        books,
         s,
         sp,
     );
-    let small = r.small;
-    let a = r.answer;
-    exported::books::keep_small(books, small);
-    exported::told::plain(a)
+    exported::told::plain(r)
 }
 
 // A pin off a span of store s.
@@ -578,16 +542,15 @@ pub extern "C" fn scorebeetle_unpin_source(
     pin_count: &mut [u64],
     marks: &[usize],
     bytes: &[u64],
-    books: &mut [u64; 69],
+    books: &mut [u64],
     s: usize,
     on: usize,
     from: usize,
     upto: usize,
 ) -> u8
-    requires { ⌜ Sound (stateFrom (now parent) (now depth) (now len) (now run) (now words) (now node) (now start) (now end) (now id) (now stamp) (now touched) (now write) (now «pin_node») (now «pin_start») (now «pin_end») (now «pin_count») (now marks) (now bytes) (smallFrom (now books))) × (length (now books) ≡ 69) ⌝ }
-    ensures { λ r. ⌜ outcome (stateFrom (now (parent .entry)) (now (depth .entry)) (now (len .entry)) (now (run .entry)) (now (words .entry)) (now (node .entry)) (now (start .entry)) (now (end .entry)) (now (id .entry)) (now (stamp .entry)) (now (touched .entry)) (now (write .entry)) (now («pin_node» .exit)) (now («pin_start» .exit)) (now («pin_end» .exit)) (now («pin_count» .exit)) (now (marks .entry)) (now (bytes .entry)) (smallFrom (now (books .exit)))) tt (toldPlain r) ≡ unpinSource (stateFrom (now (parent .entry)) (now (depth .entry)) (now (len .entry)) (now (run .entry)) (now (words .entry)) (now (node .entry)) (now (start .entry)) (now (end .entry)) (now (id .entry)) (now (stamp .entry)) (now (touched .entry)) (now (write .entry)) (now («pin_node» .entry)) (now («pin_start» .entry)) (now («pin_end» .entry)) (now («pin_count» .entry)) (now (marks .entry)) (now (bytes .entry)) (smallFrom (now (books .entry)))) s (record { node = on; start = from; end = upto }) ⌝ }
+    requires { ⌜ Sound (stateFrom (now parent) (now depth) (now len) (now run) (now words) (now node) (now start) (now end) (now id) (now stamp) (now touched) (now write) (now «pin_node») (now «pin_start») (now «pin_end») (now «pin_count») (now marks) (now bytes) (now books)) ⌝ }
+    ensures { λ r. ⌜ outcome (stateFrom (now (parent .entry)) (now (depth .entry)) (now (len .entry)) (now (run .entry)) (now (words .entry)) (now (node .entry)) (now (start .entry)) (now (end .entry)) (now (id .entry)) (now (stamp .entry)) (now (touched .entry)) (now (write .entry)) (now («pin_node» .exit)) (now («pin_start» .exit)) (now («pin_end» .exit)) (now («pin_count» .exit)) (now (marks .entry)) (now (bytes .entry)) (now (books .exit))) tt (toldPlain r) ≡ unpinSource (stateFrom (now (parent .entry)) (now (depth .entry)) (now (len .entry)) (now (run .entry)) (now (words .entry)) (now (node .entry)) (now (start .entry)) (now (end .entry)) (now (id .entry)) (now (stamp .entry)) (now (touched .entry)) (now (write .entry)) (now («pin_node» .entry)) (now («pin_start» .entry)) (now («pin_end» .entry)) (now («pin_count» .entry)) (now (marks .entry)) (now (bytes .entry)) (now (books .entry))) s (record { node = on; start = from; end = upto }) ⌝ }
 {
-    let x = exported::books::small_from(books);
     let sp = Span {
         node: on,
         start: from,
@@ -612,14 +575,11 @@ pub extern "C" fn scorebeetle_unpin_source(
         pin_count,
         marks,
         bytes,
-        x,
+        books,
         s,
         sp,
     );
-    let small = r.small;
-    let a = r.answer;
-    exported::books::keep_small(books, small);
-    exported::told::plain(a)
+    exported::told::plain(r)
 }
 
 // What the tiers hold of a list, along its path from block 0.
@@ -643,21 +603,20 @@ pub extern "C" fn scorebeetle_lookup(
     pin_count: &[u64],
     marks: &[usize],
     bytes: &[u64],
+    books: &[u64],
     path_node: &mut [usize],
     path_len: &mut [usize],
     span_tier: &mut [usize],
     span_node: &mut [usize],
     span_start: &mut [usize],
     span_end: &mut [usize],
-    books: &[u64; 69],
     answer: &mut [u64; 19],
     tiers: &[usize],
     hashes: &[u64],
 ) -> u8
-    requires { ⌜ Sound (stateFrom (now parent) (now depth) (now len) (now run) (now words) (now node) (now start) (now end) (now id) (now stamp) (now touched) (now write) (now «pin_node») (now «pin_start») (now «pin_end») (now «pin_count») (now marks) (now bytes) (smallFrom (now books))) × PathFits (pathListOf (now «path_node») (now «path_len»)) × TierFits (tierListOf (now «span_tier») (now «span_node») (now «span_start») (now «span_end»)) × (length (now answer) ≡ 19) ⌝ }
-    ensures { λ r. ⌜ LookedUp (stateFrom (now (parent .entry)) (now (depth .entry)) (now (len .entry)) (now (run .entry)) (now (words .entry)) (now (node .entry)) (now (start .entry)) (now (end .entry)) (now (id .entry)) (now (stamp .entry)) (now (touched .entry)) (now (write .entry)) (now («pin_node» .entry)) (now («pin_start» .entry)) (now («pin_end» .entry)) (now («pin_count» .entry)) (now (marks .entry)) (now (bytes .entry)) (smallFrom (now (books .entry)))) (listsOf (pathListOf (now («path_node» .entry)) (now («path_len» .entry))) (tierListOf (now («span_tier» .entry)) (now («span_node» .entry)) (now («span_start» .entry)) (now («span_end» .entry)))) (now (tiers .entry)) (now (hashes .entry)) (listsOf (pathListOf (now («path_node» .exit)) (now («path_len» .exit))) (tierListOf (now («span_tier» .exit)) (now («span_node» .exit)) (now («span_start» .exit)) (now («span_end» .exit)))) (toldLooked r (now (answer .exit))) ⌝ }
+    requires { ⌜ Sound (stateFrom (now parent) (now depth) (now len) (now run) (now words) (now node) (now start) (now end) (now id) (now stamp) (now touched) (now write) (now «pin_node») (now «pin_start») (now «pin_end») (now «pin_count») (now marks) (now bytes) (now books)) × PathFits (pathListOf (now «path_node») (now «path_len»)) × TierFits (tierListOf (now «span_tier») (now «span_node») (now «span_start») (now «span_end»)) × (length (now answer) ≡ 19) ⌝ }
+    ensures { λ r. ⌜ outcome (stateFrom (now (parent .entry)) (now (depth .entry)) (now (len .entry)) (now (run .entry)) (now (words .entry)) (now (node .entry)) (now (start .entry)) (now (end .entry)) (now (id .entry)) (now (stamp .entry)) (now (touched .entry)) (now (write .entry)) (now («pin_node» .entry)) (now («pin_start» .entry)) (now («pin_end» .entry)) (now («pin_count» .entry)) (now (marks .entry)) (now (bytes .entry)) (now (books .entry))) (listsOf (pathListOf (now («path_node» .exit)) (now («path_len» .exit))) (tierListOf (now («span_tier» .exit)) (now («span_node» .exit)) (now («span_start» .exit)) (now («span_end» .exit)))) (toldLooked r (now (answer .exit))) ≡ lookup (stateFrom (now (parent .entry)) (now (depth .entry)) (now (len .entry)) (now (run .entry)) (now (words .entry)) (now (node .entry)) (now (start .entry)) (now (end .entry)) (now (id .entry)) (now (stamp .entry)) (now (touched .entry)) (now (write .entry)) (now («pin_node» .entry)) (now («pin_start» .entry)) (now («pin_end» .entry)) (now («pin_count» .entry)) (now (marks .entry)) (now (bytes .entry)) (now (books .entry))) (listsOf (pathListOf (now («path_node» .entry)) (now («path_len» .entry))) (tierListOf (now («span_tier» .entry)) (now («span_node» .entry)) (now («span_start» .entry)) (now («span_end» .entry)))) (now (tiers .entry)) (now (hashes .entry)) ⌝ }
 {
-    let x = exported::books::small_from(books);
     let r = known::lookup(
         parent,
         depth,
@@ -677,13 +636,13 @@ pub extern "C" fn scorebeetle_lookup(
         pin_count,
         marks,
         bytes,
+        books,
         path_node,
         path_len,
         span_tier,
         span_node,
         span_start,
         span_end,
-        x,
         tiers,
         hashes,
     );
@@ -691,33 +650,32 @@ pub extern "C" fn scorebeetle_lookup(
 }
 
 // The counter of a number.
-fn counter_of(x: Small, which: u8, s: usize) -> Count
-    requires { ⌜ storesIn (x .books) ≤ 8 ⌝ }
-    ensures { λ r. ⌜ ((st : State) → Of x st → countOf r ≡ counterCall which st s .answer) ⌝ }
+fn counter_of(books: &[u64], which: u8, s: usize) -> Count
+    requires { ⌜ (storesIn (now books) ≤ maxStores) × (maxNumbers ≤ length (now books)) ⌝ }
+    ensures { λ r. ⌜ ((st : State) → st .books ≡ now (books .entry) → Sound st → countOf r ≡ counterCall which st s .answer) ⌝ }
 {
     match which {
-        0 => known::store_held_blocks(x, s),
-        1 => known::store_capacity_blocks(x, s),
-        2 => known::store_pinned_blocks(x, s),
-        3 => known::store_available_for_stage(x, s),
-        4 => known::source_version(x, s),
-        _ => known::pin_stalls(x),
+        0 => known::store_held_blocks(books, s),
+        1 => known::store_capacity_blocks(books, s),
+        2 => known::store_pinned_blocks(books, s),
+        3 => known::store_available_for_stage(books, s),
+        4 => known::source_version(books, s),
+        _ => known::pin_stalls(books),
     }
 }
 
 // A counter by its number: of store s, 0 blocks held, 1 capacity, 2 blocks pinned, 3 blocks available, 4 version; 5 and above the stalls of all stores.
 #[no_mangle]
 pub extern "C" fn scorebeetle_counter(
-    books: &[u64; 69],
+    books: &[u64],
     answer: &mut [u64; 19],
     which: u8,
     s: usize,
 ) -> u8
-    requires { ⌜ (storesIn (now books) ≤ 8) × (length (now answer) ≡ 19) ⌝ }
-    ensures { λ r. ⌜ ((st : State) → Of (smallFrom (now (books .entry))) st → toldCount r (now (answer .exit)) ≡ counterCall which st s .answer) ⌝ }
+    requires { ⌜ (storesIn (now books) ≤ maxStores) × (maxNumbers ≤ length (now books)) × (length (now answer) ≡ 19) ⌝ }
+    ensures { λ r. ⌜ ((st : State) → st .books ≡ now (books .entry) → Sound st → toldCount r (now (answer .exit)) ≡ counterCall which st s .answer) ⌝ }
 {
-    let x = exported::books::small_from(books);
-    let a = counter_of(x, which, s);
+    let a = counter_of(books, which, s);
     exported::told::count(answer, a)
 }
 
@@ -742,11 +700,10 @@ pub extern "C" fn scorebeetle_sound_state(
     pin_count: &[u64],
     marks: &[usize],
     bytes: &[u64],
-    books: &[u64; 69],
+    books: &[u64],
 ) -> bool
-    ensures { λ r. ⌜ Says r (Sound (stateFrom (now (parent .entry)) (now (depth .entry)) (now (len .entry)) (now (run .entry)) (now (words .entry)) (now (node .entry)) (now (start .entry)) (now (end .entry)) (now (id .entry)) (now (stamp .entry)) (now (touched .entry)) (now (write .entry)) (now («pin_node» .entry)) (now («pin_start» .entry)) (now («pin_end» .entry)) (now («pin_count» .entry)) (now (marks .entry)) (now (bytes .entry)) (smallFrom (now (books .entry))))) ⌝ }
+    ensures { λ r. ⌜ Says r (Sound (stateFrom (now (parent .entry)) (now (depth .entry)) (now (len .entry)) (now (run .entry)) (now (words .entry)) (now (node .entry)) (now (start .entry)) (now (end .entry)) (now (id .entry)) (now (stamp .entry)) (now (touched .entry)) (now (write .entry)) (now («pin_node» .entry)) (now («pin_start» .entry)) (now («pin_end» .entry)) (now («pin_count» .entry)) (now (marks .entry)) (now (bytes .entry)) (now (books .entry)))) ⌝ }
 {
-    let x = exported::books::small_from(books);
     known::sound_state(
         parent,
         depth,
@@ -766,6 +723,6 @@ pub extern "C" fn scorebeetle_sound_state(
         pin_count,
         marks,
         bytes,
-        x,
+        books,
     )
 }

@@ -9,6 +9,13 @@ use native.Mathlib.Omega.{arith}
 use lib.ListN.{length}
 use lib.Ieee.{Float}
 use Rattle.model.specs.declared.Span.{Span}
+use Rattle.model.specs.declared.ResolveAnswer.{ResolveAnswer}
+use Rattle.model.specs.declared.InsertAnswer.{InsertAnswer}
+use Rattle.model.specs.declared.BringAnswer.{BringAnswer}
+use Rattle.model.specs.declared.TouchAnswer.{TouchAnswer}
+use Rattle.model.specs.declared.RemoveAnswer.{RemoveAnswer}
+use Rattle.model.specs.declared.ExpireAnswer.{ExpireAnswer}
+use Rattle.model.specs.declared.LookupAnswer.{LookupAnswer}
 use Rattle.model.specs.Sizes.{outPlaces}
 use Rattle.model.specs.State.{State}
 use Rattle.model.specs.Sound.{Sound}
@@ -21,14 +28,14 @@ use Rattle.model.specs.Pins.{pin, pinNeed, unpin}
 use Rattle.model.specs.Lookup.{lookupPath, tierSums}
 use Rattle.model.specs.Insert.{insertPath}
 use Rattle.model.specs.Refusals.{PathList, OutList, TierList, PathFits, OutFits, TierFits, resolveRefusals, insertRefusals, storeInsertRefusals, storeUsedRefusals, storeRemoveRefusals, storeExpireRefusals, pinRefusals, unpinRefusals, lookupRefusals, countRefusals, storeCountRefusals}
-use Rattle.model.specs.Calls.{Outcome, Answer, NoList, NoValue, Path, InsertAnswer, LookupLists, LookupAnswer, refused, resolveCall, insert, brought, bringIn, storeInsert, touchSpans, bytesTouched, storeUsed, storeRemove, storeExpire, pinSource, unpinSource, lookup, heldCall, capacityCall, pinnedCall, availableCall, versionCall, stallsCall}
+use Rattle.model.specs.Calls.{Outcome, Answer, NoList, NoValue, LookupLists, refused, resolveCall, insert, brought, bringIn, storeInsert, touchSpans, bytesTouched, storeUsed, storeRemove, storeExpire, pinSource, unpinSource, lookup, heldCall, capacityCall, pinnedCall, availableCall, versionCall, stallsCall}
 use Rattle.sure.proofs.Refusals.{first-is, resolve-exact, insert-exact, storeInsert-exact, storeUsed-exact, storeRemove-exact, storeExpire-exact, pin-exact, unpin-exact, lookup-exact, count-exact, storeCount-exact}
 use Rattle.answers.specs.Answers.{outcome}
 
 -- ---- the state isn't sound
 
 module _ (st : State) (n : Sound st → ⊥) where
-  pub resolve-unsound : (l : PathList) (hs : List ℕ) → outcome {A = Path} st l (refused 1) ≡ resolveCall st l hs
+  pub resolve-unsound : (l : PathList) (hs : List ℕ) → outcome {A = ResolveAnswer} st l (refused 1) ≡ resolveCall st l hs
   unfolding resolveCall resolve blocks
   resolve-unsound l hs = rw (first-is (resolveRefusals st l hs) (resolve-exact st l hs) 1 (inl (n, refl)))
 
@@ -36,19 +43,19 @@ module _ (st : State) (n : Sound st → ⊥) where
   unfolding insert resolve blocks insertPath
   insert-unsound l hs = rw (first-is (insertRefusals st l hs) (insert-exact st l hs) 1 (inl (n, refl)))
 
-  pub storeInsert-unsound : (l : OutList) (s : ℕ) (sp : Span) (time : Float) (w : ℕ) → outcome {A = ℕ} st l (refused 1) ≡ storeInsert st l s sp time w
+  pub storeInsert-unsound : (l : OutList) (s : ℕ) (sp : Span) (time : Float) (w : ℕ) → outcome {A = BringAnswer} st l (refused 1) ≡ storeInsert st l s sp time w
   unfolding storeInsert brought bringIn
   storeInsert-unsound l s sp time w = rw (first-is (storeInsertRefusals st l s sp time) (storeInsert-exact st l s sp time) 1 (inl (n, refl)))
 
-  pub storeUsed-unsound : (s : ℕ) (sps : List Span) (time : Float) (counted : Bool) → outcome {L = NoList} {A = ℕ} st tt (refused 1) ≡ storeUsed st s sps time counted
+  pub storeUsed-unsound : (s : ℕ) (sps : List Span) (time : Float) (counted : Bool) → outcome {L = NoList} {A = TouchAnswer} st tt (refused 1) ≡ storeUsed st s sps time counted
   unfolding storeUsed touchSpans bytesTouched
   storeUsed-unsound s sps time counted = rw (first-is (storeUsedRefusals st s sps time counted) (storeUsed-exact st s sps time counted) 1 (inl (n, refl)))
 
-  pub storeRemove-unsound : (l : List ℕ) (s : ℕ) (sp : Span) → outcome {A = ℕ} st l (refused 1) ≡ storeRemove st l s sp
+  pub storeRemove-unsound : (l : List ℕ) (s : ℕ) (sp : Span) → outcome {A = RemoveAnswer} st l (refused 1) ≡ storeRemove st l s sp
   unfolding storeRemove remove storeOf withRanges withNext
   storeRemove-unsound l s sp = rw (first-is (storeRemoveRefusals st l s sp) (storeRemove-exact st l s sp) 1 (inl (n, refl)))
 
-  pub storeExpire-unsound : (l : OutList) (s : ℕ) (now seconds : Float) → outcome {A = ℕ} st l (refused 1) ≡ storeExpire st l s now seconds
+  pub storeExpire-unsound : (l : OutList) (s : ℕ) (now seconds : Float) → outcome {A = ExpireAnswer} st l (refused 1) ≡ storeExpire st l s now seconds
   unfolding storeExpire expire storeOf withRanges
   storeExpire-unsound l s now seconds = rw (first-is (storeExpireRefusals st l s now seconds) (storeExpire-exact st l s now seconds) 1 (inl (n, refl)))
 
@@ -91,7 +98,7 @@ module _ (st : State) (n : Sound st → ⊥) where
 -- ---- the state is sound, and an answer list is short
 
 module _ (st : State) (sound : Sound st) where
-  pub resolve-short : (l : PathList) (hs : List ℕ) → (PathFits l → ⊥) → outcome {A = Path} st l (refused 14) ≡ resolveCall st l hs
+  pub resolve-short : (l : PathList) (hs : List ℕ) → (PathFits l → ⊥) → outcome {A = ResolveAnswer} st l (refused 14) ≡ resolveCall st l hs
   unfolding resolveCall resolve blocks
   resolve-short l hs h = rw (first-is (resolveRefusals st l hs) (resolve-exact st l hs) 14 (inr (λ n. n sound, inl (h, refl))))
 
@@ -100,16 +107,16 @@ module _ (st : State) (sound : Sound st) where
   insert-short l hs h = rw (first-is (insertRefusals st l hs) (insert-exact st l hs) 14 (inr (λ n. n sound, inl (h, refl))))
 
   pub storeInsert-short : (l : OutList) (s : ℕ) (sp : Span) (time : Float) (w : ℕ) → (OutFits l → ⊥)
-      → outcome {A = ℕ} st l (refused 14) ≡ storeInsert st l s sp time w
+      → outcome {A = BringAnswer} st l (refused 14) ≡ storeInsert st l s sp time w
   unfolding storeInsert brought bringIn
   storeInsert-short l s sp time w h = rw (first-is (storeInsertRefusals st l s sp time) (storeInsert-exact st l s sp time) 14 (inr (λ n. n sound, inl (h, refl))))
 
-  pub storeRemove-short : (l : List ℕ) (s : ℕ) (sp : Span) → (outPlaces ≤ length l → ⊥) → outcome {A = ℕ} st l (refused 14) ≡ storeRemove st l s sp
+  pub storeRemove-short : (l : List ℕ) (s : ℕ) (sp : Span) → (outPlaces ≤ length l → ⊥) → outcome {A = RemoveAnswer} st l (refused 14) ≡ storeRemove st l s sp
   unfolding storeRemove remove storeOf withRanges withNext
   storeRemove-short l s sp h =
       rw (first-is (storeRemoveRefusals st l s sp) (storeRemove-exact st l s sp) 14 (inr (λ n. n sound, inl (omega (arith, h), refl))))
 
-  pub storeExpire-short : (l : OutList) (s : ℕ) (now seconds : Float) → (OutFits l → ⊥) → outcome {A = ℕ} st l (refused 14) ≡ storeExpire st l s now seconds
+  pub storeExpire-short : (l : OutList) (s : ℕ) (now seconds : Float) → (OutFits l → ⊥) → outcome {A = ExpireAnswer} st l (refused 14) ≡ storeExpire st l s now seconds
   unfolding storeExpire expire storeOf withRanges
   storeExpire-short l s now seconds h =
       rw (first-is (storeExpireRefusals st l s now seconds) (storeExpire-exact st l s now seconds) 14 (inr (λ n. n sound, inl (h, refl))))

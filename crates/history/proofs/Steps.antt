@@ -12,6 +12,10 @@ use lib.ListN.{length}
 use lib.Ieee.{Float}
 use Rattle.model.specs.declared.Span.{Span}
 use Rattle.model.specs.declared.Book.{Book}
+use Rattle.model.specs.declared.BringAnswer.{BringAnswer}
+use Rattle.model.specs.declared.TouchAnswer.{TouchAnswer}
+use Rattle.model.specs.declared.RemoveAnswer.{RemoveAnswer}
+use Rattle.model.specs.declared.ExpireAnswer.{ExpireAnswer}
 use Rattle.model.specs.Sizes.{storeRecords, maxStamp}
 use Rattle.model.specs.State.{State, Range, Pin, at, storesOf, nextIdOf, stallsOf, recordsOf, stampOf}
 use Rattle.model.specs.Sound.{Sound, Finite}
@@ -137,12 +141,12 @@ module _ (a : State) (l : OutList) (s : ℕ) (sp : Span) (time : Float) (write :
   abbrev n₀ : ℕ
   n₀ = firstOf (storeInsertRefusals a l s sp time)
 
-  made : Outcome OutList ℕ
+  made : Outcome OutList BringAnswer
   made =
       record {
         state = bringIn a s sp time write;
         lists = layOuts (brought a s sp time write .outs) l;
-        answer = done (length (brought a s sp time write .outs));
+        answer = done (record { outs = length (brought a s sp time write .outs) });
       }
 
   outcome-is : (n : ℕ) → n₀ ≡ n → Calls.storeInsert a l s sp time write ≡ unless n a l made
@@ -153,9 +157,9 @@ module _ (a : State) (l : OutList) (s : ℕ) (sp : Span) (time : Float) (write :
   unfolding BroughtIn Gone
   insert-refused n e =
       let is = outcome-is (suc n) e in
-      still c a (Calls.storeInsert a l s sp time write .state) h (ap (λ (x : Outcome OutList ℕ). x .state) is)
-      (λ q v o x. subst (λ (w : Outcome OutList ℕ). IfDone (w .answer) (λ k. (q ≡ s) × InSpan sp v o)) is x)
-      (λ q v o x. subst (λ (w : Outcome OutList ℕ). IfDone (w .answer) (λ k. (q ≡ s) × Listed (w .lists) k v o)) is x) exact
+      still c a (Calls.storeInsert a l s sp time write .state) h (ap (λ (x : Outcome OutList BringAnswer). x .state) is)
+      (λ q v o x. subst (λ (w : Outcome OutList BringAnswer). IfDone (w .answer) (λ k. (q ≡ s) × InSpan sp v o)) is x)
+      (λ q v o x. subst (λ (w : Outcome OutList BringAnswer). IfDone (w .answer) (λ k. (q ≡ s) × Listed (w .lists) (k .outs) v o)) is x) exact
 
   module _ (e : n₀ ≡ 0) where
     abbrev done-is : Calls.storeInsert a l s sp time write ≡ unless 0 a l made
@@ -167,22 +171,22 @@ module _ (a : State) (l : OutList) (s : ℕ) (sp : Span) (time : Float) (write :
 
     in-of : (q v o : ℕ) → q ≡ s → InSpan sp v o → BroughtIn c a q v o
     unfolding BroughtIn made
-    in-of q v o x y = subst (λ (w : Outcome OutList ℕ). IfDone (w .answer) (λ k. (q ≡ s) × InSpan sp v o)) (sym done-is) (x, y)
+    in-of q v o x y = subst (λ (w : Outcome OutList BringAnswer). IfDone (w .answer) (λ k. (q ≡ s) × InSpan sp v o)) (sym done-is) (x, y)
 
     of-in : (q v o : ℕ) → BroughtIn c a q v o → (q ≡ s) × InSpan sp v o
     unfolding BroughtIn made
-    of-in q v o x = subst (λ (w : Outcome OutList ℕ). IfDone (w .answer) (λ k. (q ≡ s) × InSpan sp v o)) done-is x
+    of-in q v o x = subst (λ (w : Outcome OutList BringAnswer). IfDone (w .answer) (λ k. (q ≡ s) × InSpan sp v o)) done-is x
 
     gone-of : (q v o : ℕ) → q ≡ s → InOuts (brought a s sp time write .outs) v o → Gone c a q v o
     unfolding Gone made
     gone-of q v o x y =
-        subst (λ (w : Outcome OutList ℕ). IfDone (w .answer) (λ k. (q ≡ s) × Listed (w .lists) k v o)) (sym done-is)
+        subst (λ (w : Outcome OutList BringAnswer). IfDone (w .answer) (λ k. (q ≡ s) × Listed (w .lists) (k .outs) v o)) (sym done-is)
         (x, out-listed (brought a s sp time write .outs) l v o y)
 
     of-gone : (q v o : ℕ) → Gone c a q v o → (q ≡ s) × InOuts (brought a s sp time write .outs) v o
     unfolding Gone made
     of-gone q v o x =
-        let y = subst (λ (w : Outcome OutList ℕ). IfDone (w .answer) (λ k. (q ≡ s) × Listed (w .lists) k v o)) done-is x in
+        let y = subst (λ (w : Outcome OutList BringAnswer). IfDone (w .answer) (λ k. (q ≡ s) × Listed (w .lists) (k .outs) v o)) done-is x in
         (y .0, listed-out (brought a s sp time write .outs) l v o (y .1))
 
     filled : (v o : ℕ) → Filled (storeOf a s) sp (brought a s sp time write) v o
@@ -214,9 +218,9 @@ module _ (a : State) (l : OutList) (s : ℕ) (sp : Span) (time : Float) (write :
     insert-accepted : Exact (Calls.storeInsert a l s sp time write .state) (next c a h)
     unfolding made
     insert-accepted =
-        subst (λ (w : Outcome OutList ℕ). Exact (w .state) (next c a h)) (sym done-is)
+        subst (λ (w : Outcome OutList BringAnswer). Exact (w .state) (next c a h)) (sym done-is)
         (changes-exact c a (bringIn a s sp time write) h sound
-        (subst (λ (w : Outcome OutList ℕ). Sound (w .state)) done-is (storeInsert-sound a l s sp time write sound)) (one-changes one-brought) exact)
+        (subst (λ (w : Outcome OutList BringAnswer). Sound (w .state)) done-is (storeInsert-sound a l s sp time write sound)) (one-changes one-brought) exact)
 
   pub storeInsert-exact : Exact (Calls.storeInsert a l s sp time write .state) (next c a h)
   storeInsert-exact = go n₀ refl
@@ -240,8 +244,8 @@ module _ (a : State) (l : List ℕ) (s : ℕ) (sp : Span) (h : History) (sound :
   removed : State
   removed = withNext (nextIdOf a + w .need) (stallsOf a) (withRanges s (w .need) (w .store) a)
 
-  unmade : Outcome (List ℕ) ℕ
-  unmade = record { state = removed; lists = front (w .writes) l; answer = done (length (w .writes)) }
+  unmade : Outcome (List ℕ) RemoveAnswer
+  unmade = record { state = removed; lists = front (w .writes) l; answer = done (record { writes = length (w .writes) }) }
 
   remove-is : (n : ℕ) → r₀ ≡ n → Calls.storeRemove a l s sp ≡ unless n a l unmade
   unfolding Calls.storeRemove unmade removed w
@@ -251,8 +255,8 @@ module _ (a : State) (l : List ℕ) (s : ℕ) (sp : Span) (h : History) (sound :
   unfolding BroughtIn Gone
   remove-refused n e =
       let is = remove-is (suc n) e in
-      still r a (Calls.storeRemove a l s sp .state) h (ap (λ (x : Outcome (List ℕ) ℕ). x .state) is) (λ q v o x. x)
-      (λ q v o x. subst (λ (z : Outcome (List ℕ) ℕ). IfDone (z .answer) (λ k. (q ≡ s) × InSpan sp v o)) is x) exact
+      still r a (Calls.storeRemove a l s sp .state) h (ap (λ (x : Outcome (List ℕ) RemoveAnswer). x .state) is) (λ q v o x. x)
+      (λ q v o x. subst (λ (z : Outcome (List ℕ) RemoveAnswer). IfDone (z .answer) (λ k. (q ≡ s) × InSpan sp v o)) is x) exact
 
   -- what an accepted removal asks of the state
   removable : NoneHolds (storeRemoveRefusals a l s sp)
@@ -304,8 +308,8 @@ module _ (a : State) (l : List ℕ) (s : ℕ) (sp : Span) (h : History) (sound :
           inOf = λ q v o x y. y;
           ofIn = λ q v o x. absurd x;
           goneOf =
-              λ q v o x y. subst (λ (z : Outcome (List ℕ) ℕ). IfDone (z .answer) (λ k. (q ≡ s) × InSpan sp v o)) (sym gone-is) (x, y);
-          ofGone = λ q v o x. subst (λ (z : Outcome (List ℕ) ℕ). IfDone (z .answer) (λ k. (q ≡ s) × InSpan sp v o)) gone-is x;
+              λ q v o x y. subst (λ (z : Outcome (List ℕ) RemoveAnswer). IfDone (z .answer) (λ k. (q ≡ s) × InSpan sp v o)) (sym gone-is) (x, y);
+          ofGone = λ q v o x. subst (λ (z : Outcome (List ℕ) RemoveAnswer). IfDone (z .answer) (λ k. (q ≡ s) × InSpan sp v o)) gone-is x;
           came = λ v o x. inl (holds-removed v o .0 x .0);
           stayed = λ v o x. holds-removed v o .0 x .1;
           kept = λ v o x g. holds-removed v o .1 (⊎-elim (λ y. y) (λ y. absurd y) x, g);
@@ -315,8 +319,8 @@ module _ (a : State) (l : List ℕ) (s : ℕ) (sp : Span) (h : History) (sound :
     remove-accepted : Exact (Calls.storeRemove a l s sp .state) (next r a h)
     unfolding unmade
     remove-accepted =
-        subst (λ (z : Outcome (List ℕ) ℕ). Exact (z .state) (next r a h)) (sym gone-is)
-        (changes-exact r a removed h sound (subst (λ (z : Outcome (List ℕ) ℕ). Sound (z .state)) gone-is (storeRemove-sound a l s sp sound))
+        subst (λ (z : Outcome (List ℕ) RemoveAnswer). Exact (z .state) (next r a h)) (sym gone-is)
+        (changes-exact r a removed h sound (subst (λ (z : Outcome (List ℕ) RemoveAnswer). Sound (z .state)) gone-is (storeRemove-sound a l s sp sound))
         (one-changes one-removed) exact)
 
   pub storeRemove-exact : Exact (Calls.storeRemove a l s sp .state) (next r a h)
@@ -341,8 +345,8 @@ module _ (a : State) (l : OutList) (s : ℕ) (now seconds : Float) (h : History)
   expired : State
   expired = withRanges s 0 (aged .store) a
 
-  outlived : Outcome OutList ℕ
-  outlived = record { state = expired; lists = layOuts (aged .outs) l; answer = done (length (aged .outs)) }
+  outlived : Outcome OutList ExpireAnswer
+  outlived = record { state = expired; lists = layOuts (aged .outs) l; answer = done (record { outs = length (aged .outs) }) }
 
   expire-is : (n : ℕ) → x₀ ≡ n → Calls.storeExpire a l s now seconds ≡ unless n a l outlived
   unfolding Calls.storeExpire outlived expired aged
@@ -352,8 +356,8 @@ module _ (a : State) (l : OutList) (s : ℕ) (now seconds : Float) (h : History)
   unfolding BroughtIn Gone
   expire-refused n e =
       let is = expire-is (suc n) e in
-      still x a (Calls.storeExpire a l s now seconds .state) h (ap (λ (z : Outcome OutList ℕ). z .state) is) (λ q v o y. y)
-      (λ q v o y. subst (λ (z : Outcome OutList ℕ). IfDone (z .answer) (λ k. (q ≡ s) × Listed (z .lists) k v o)) is y) exact
+      still x a (Calls.storeExpire a l s now seconds .state) h (ap (λ (z : Outcome OutList ExpireAnswer). z .state) is) (λ q v o y. y)
+      (λ q v o y. subst (λ (z : Outcome OutList ExpireAnswer). IfDone (z .answer) (λ k. (q ≡ s) × Listed (z .lists) (k .outs) v o)) is y) exact
 
   expirable : NoneHolds (storeExpireRefusals a l s now seconds) → s < storesOf a
   expirable (unsound, (short, (noStore, (badTimes, end)))) = omega arith
@@ -389,12 +393,12 @@ module _ (a : State) (l : OutList) (s : ℕ) (now seconds : Float) (h : History)
     gone-out : (q v o : ℕ) → q ≡ s → InOuts (aged .outs) v o → Gone x a q v o
     unfolding Gone outlived
     gone-out q v o y z =
-        subst (λ (w : Outcome OutList ℕ). IfDone (w .answer) (λ k. (q ≡ s) × Listed (w .lists) k v o)) (sym aged-is) (y, out-listed (aged .outs) l v o z)
+        subst (λ (w : Outcome OutList ExpireAnswer). IfDone (w .answer) (λ k. (q ≡ s) × Listed (w .lists) (k .outs) v o)) (sym aged-is) (y, out-listed (aged .outs) l v o z)
 
     out-gone : (q v o : ℕ) → Gone x a q v o → (q ≡ s) × InOuts (aged .outs) v o
     unfolding Gone outlived
     out-gone q v o y =
-        let z = subst (λ (w : Outcome OutList ℕ). IfDone (w .answer) (λ k. (q ≡ s) × Listed (w .lists) k v o)) aged-is y in
+        let z = subst (λ (w : Outcome OutList ExpireAnswer). IfDone (w .answer) (λ k. (q ≡ s) × Listed (w .lists) (k .outs) v o)) aged-is y in
         (z .0, listed-out (aged .outs) l v o (z .1))
 
     one-expired : OneStore x a expired s (aged .store .ranges) (λ v o. ⊥) (InOuts (aged .outs))
@@ -419,9 +423,9 @@ module _ (a : State) (l : OutList) (s : ℕ) (now seconds : Float) (h : History)
     expire-accepted : Exact (Calls.storeExpire a l s now seconds .state) (next x a h)
     unfolding outlived
     expire-accepted =
-        subst (λ (z : Outcome OutList ℕ). Exact (z .state) (next x a h)) (sym aged-is)
+        subst (λ (z : Outcome OutList ExpireAnswer). Exact (z .state) (next x a h)) (sym aged-is)
         (changes-exact x a expired h sound
-        (subst (λ (z : Outcome OutList ℕ). Sound (z .state)) aged-is (storeExpire-sound a l s now seconds sound)) (one-changes one-expired) exact)
+        (subst (λ (z : Outcome OutList ExpireAnswer). Sound (z .state)) aged-is (storeExpire-sound a l s now seconds sound)) (one-changes one-expired) exact)
 
   pub storeExpire-exact : Exact (Calls.storeExpire a l s now seconds .state) (next x a h)
   storeExpire-exact = go x₀ refl
@@ -571,7 +575,8 @@ module _ (a : State) (s : ℕ) (sps : List Span) (time : Float) (counted : Bool)
   used-same : SameBlocks a (Calls.storeUsed a s sps time counted .state)
   unfolding Calls.storeUsed
   used-same =
-      same-or a (touchSpans a s sps time counted) _ _ (bytesTouched a s sps time counted) u₀
+      let told : TouchAnswer = record { bytes = bytesTouched a s sps time counted } in
+      same-or a (touchSpans a s sps time counted) _ _ told u₀
       (λ e. spans-of (none-where _ _ _ (storeUsed-kept a s sps time counted) e))
 
   pub storeUsed-exact : Exact (Calls.storeUsed a s sps time counted .state) (next u a h)

@@ -6,6 +6,8 @@ use mathlib.Core.Path.{_≡_}
 use mathlib.Core.List.{List, [], _∷_}
 use lib.Ieee.{Float}
 use Rattle.model.specs.declared.Span.{Span}
+use Rattle.model.specs.declared.BringAnswer.{BringAnswer}
+use Rattle.model.specs.declared.ExpireAnswer.{ExpireAnswer}
 use Rattle.model.specs.State.{State, Range, at, heldOf}
 use Rattle.model.specs.Store.{Store, storeOf, total}
 use Rattle.model.specs.Refusals.{PathList, OutList}
@@ -92,12 +94,12 @@ Gone (resolve l hs) st q n o = ⊥
 Gone (insert l hs) st q n o = ⊥
 Gone (storeInsert l s sp time write) st q n o =
     let w = Calls.storeInsert st l s sp time write in
-    IfDone (w .answer) (λ k. (q ≡ s) × Listed (w .lists) k n o)
+    IfDone (w .answer) (λ k. (q ≡ s) × Listed (w .lists) (k .outs) n o)
 Gone (storeUsed s sps time counted) st q n o = ⊥
 Gone (storeRemove l s sp) st q n o = IfDone (Calls.storeRemove st l s sp .answer) (λ k. (q ≡ s) × InSpan sp n o)
 Gone (storeExpire l s now seconds) st q n o =
     let w = Calls.storeExpire st l s now seconds in
-    IfDone (w .answer) (λ k. (q ≡ s) × Listed (w .lists) k n o)
+    IfDone (w .answer) (λ k. (q ≡ s) × Listed (w .lists) (k .outs) n o)
 Gone (pinSource s sp) st q n o = ⊥
 Gone (unpinSource s sp) st q n o = ⊥
 Gone (lookup l ts hs) st q n o = ⊥

@@ -8,9 +8,9 @@ use native.Mathlib.Nat.{le-refl}
 use lib.ListN.{length, take, drop, length-drop}
 use Rattle.model.specs.declared.Book.{Book}
 use Rattle.model.specs.Sizes.{maxStores, maxNumbers, maxPinned, storeNumbers}
-use Rattle.model.specs.State.{Tree, Ranges, Pins, Range, Pin, State, at, whole, nextIdIn, stallsIn, partsIn, numbers, bookIn}
+use Rattle.model.specs.State.{Tree, Ranges, Pins, Range, Pin, State, at, whole, nextIdIn, stallsIn, partsIn, numbers, bookFrom, bookIn, changed}
 use Rattle.model.specs.Sound.{PinsLent}
-use Rattle.model.specs.Store.{Store, lay, ranges, layRanges, pins, layPins, layBook, layNext, changed, storeOf, withRanges, withPins, withNext}
+use Rattle.model.specs.Store.{Store, lay, ranges, layRanges, pins, layPins, layBook, layNext, storeOf, withRanges, withPins, withNext}
 use Rattle.model.specs.Insert.{rangesAcross, cutMarks, cutPins, pinsAcross, cutStore, rangesFrom, cutStoreIn}
 use Rattle.model.specs.Pins.{pinnedIn}
 use Rattle.lent.specs.Lent.{stateOf}
@@ -30,7 +30,7 @@ use Rattle.insert.specs.Halves.{halves, cutBook, RangesRoom, RangesCut, 
 abbrev storeWith : List Range → Store
 storeWith rs =
     record {
-      book = record { capacity = 0; policy = 0; records = 0; held = 0; stamp = 0; version = 0; entries = 0; pinned = 0 };
+      book = bookFrom [];
       ranges = rs;
       pins = [];
       marks = [];

@@ -10,7 +10,7 @@ use lib.Dec.{ltb}
 use lib.ListN.{length, getD, take, set, length-set}
 use lib.Seq.{take-suc, length-take-le}
 use Rattle.model.specs.Words.{any}
-use Rattle.model.specs.Sizes.{maxNodes, maxWords, maxStores, maxStamp, storeRecords, storePins}
+use Rattle.model.specs.Sizes.{maxNodes, maxWords, maxStores, maxNumbers, maxStamp, storeRecords, storePins}
 use Rattle.model.specs.State.{Ranges, Pins, State, at, nodesIn, usedIn, storesIn, nextIdIn, bookIn, storesOf, nextIdOf, recordsOf, entriesOf}
 use Rattle.model.specs.Sound.{Sound}
 use Rattle.model.specs.Tree.{Seg, resolve, blocks}
@@ -18,15 +18,15 @@ use Rattle.model.specs.Store.{storeOf, ranges, pins, plus}
 use Rattle.model.specs.Insert.{matchEnd, adds, endsInside, rangesAcross, pinsAcross}
 use Rattle.model.specs.Refusals.{nodeNeed, newBlocks, cuts, cutRecords, cutEntries, cutIds}
 use Rattle.model.specs.Calls.{front}
-use Rattle.lent.specs.declared.Small.{Small}
+use Rattle.books.specs.Books.{recordsIn, entriesIn}
+use Rattle.books.proofs.Laws.{records-at, entries-at}
 use Rattle.tree.specs.declared.Match.{Match}
-use Rattle.books.proofs.Laws.{number-at}
 use Rattle.grow.proofs.Laws.{Done, done-turn}
 use Rattle.cutstore.specs.Needs.{overfull, overpinned, idsBelow}
 use Rattle.keptstate.proofs.Cut.{records-counted, entries-counted}
 use Rattle.keptstate.proofs.Parts.{sound-parts}
 use Rattle.keptcut.proofs.Insert.{match-end}
-use Rattle.insert.specs.Refusal.{eighths, recordsIn, entriesIn, insertRefusal, pick, cutRefusal, Seen, Shown}
+use Rattle.insert.specs.Refusal.{insertRefusal, pick, cutRefusal, Seen, Shown}
 
 -- ---- the copy
 
@@ -57,28 +57,6 @@ pub copy-end : (n : ℕ) (src l c : List ℕ) (i : ℕ) → Copying n src l c i 
 copy-end n src l c i w h =
     let e : i ≡ n = omega (arith, w .most) in
     rw (length-take-le n src (w .from), ← e) (w .done .is)
-
--- ---- each store's counts
-
--- number i of every store stands at every eighth place
-eighth-at : (i : ℕ) (l : List ℕ) (s : ℕ) → s < maxStores → at (eighths (5 + i) l) s ≡ at l (5 + 8 * s + i)
-eighth-at i l zero h = ap (λ (k : ℕ). at l k) (omega arith)
-eighth-at i l (suc zero) h = ap (λ (k : ℕ). at l k) (omega arith)
-eighth-at i l (suc (suc zero)) h = ap (λ (k : ℕ). at l k) (omega arith)
-eighth-at i l (suc (suc (suc zero))) h = ap (λ (k : ℕ). at l k) (omega arith)
-eighth-at i l (suc (suc (suc (suc zero)))) h = ap (λ (k : ℕ). at l k) (omega arith)
-eighth-at i l (suc (suc (suc (suc (suc zero))))) h = ap (λ (k : ℕ). at l k) (omega arith)
-eighth-at i l (suc (suc (suc (suc (suc (suc zero)))))) h = ap (λ (k : ℕ). at l k) (omega arith)
-eighth-at i l (suc (suc (suc (suc (suc (suc (suc zero))))))) h = ap (λ (k : ℕ). at l k) (omega arith)
-eighth-at i l (suc (suc (suc (suc (suc (suc (suc (suc s)))))))) h = absurd (omega arith)
-
-pub records-at : (l : List ℕ) (s : ℕ) → s < maxStores → at (recordsIn l) s ≡ bookIn l s .records
-unfolding bookIn
-records-at l s h = eighth-at 2 l s h ∙ sym (number-at l s 2 (omega arith))
-
-entries-at : (l : List ℕ) (s : ℕ) → s < maxStores → at (entriesIn l) s ≡ bookIn l s .entries
-unfolding bookIn
-entries-at l s h = eighth-at 6 l s h ∙ sym (number-at l s 6 (omega arith))
 
 -- ---- the conditions
 
@@ -239,7 +217,7 @@ module _ (j k : ℕ) (over : Bool) (records : List ℕ) (stores next : ℕ) (nod
 
 -- ---- and of the whole
 
-module _ {ls ns ss es : List ℕ} {o : Bool} {x : Small} {m : Match} {n : ℕ} (st : State) (hs : List ℕ) (w : Seen ls ns ss es o x m n st hs) where
+module _ {ls ns ss es bs : List ℕ} {o : Bool} {m : Match} {n : ℕ} (st : State) (hs : List ℕ) (w : Seen ls ns ss es bs o m n st hs) where
   path : List Seg
   path = resolve (st .tree) hs
 
@@ -252,20 +230,23 @@ module _ {ls ns ss es : List ℕ} {o : Bool} {x : Small} {m : Match} {n : ℕ} (
   len-is : m .len ≡ matchEnd (resolve (st .tree) hs) .len
   len-is = ap (λ a. a .len) (w .match)
 
-  pub few-nodes : nodesIn (x .books) ≤ 256
+  pub few-nodes : nodesIn bs ≤ 256
   few-nodes = omega (arith, w .nodes, w .sound .counts .nodes)
+
+  pub long : maxNumbers ≤ length bs
+  long = rw (w .books) at (w .sound .lent .books)
 
   few-stores : storesOf st ≤ maxStores
   few-stores = w .sound .counts .stores
 
   -- what the test of a cut asks
-  pub cut-asks : (rs : List ℕ) → rs ≡ recordsIn (x .books)
-      → (storesIn (x .books) ≤ 8) × ((s : ℕ) → s < storesIn (x .books) → at rs s ≤ 128) × (1024 ≤ length ns) × (1024 ≤ length ss) × (1024 ≤ length es) × (nextIdIn (x .books) ≤ maxStamp)
+  pub cut-asks : (rs : List ℕ) → rs ≡ recordsIn bs
+      → (storesIn bs ≤ 8) × ((s : ℕ) → s < storesIn bs → at rs s ≤ 128) × (1024 ≤ length ns) × (1024 ≤ length ss) × (1024 ≤ length es) × (nextIdIn bs ≤ maxStamp)
   cut-asks rs is =
       let h = w .sound in
-      let e : st .books ≡ x .books = w .books in
+      let e : st .books ≡ bs = w .books in
       let each : (s : ℕ) → s < storesOf st → at (recordsIn (st .books)) s ≤ 128 = λ s l. rw (records-at (st .books) s (omega (arith, few-stores))) (h .counts .each s zero-le l .records) in
-      (rw e at (h .counts .stores), subst (λ (q : List ℕ). (s : ℕ) → s < storesIn (x .books) → at q s ≤ 128) (sym is) (subst (λ (q : List ℕ). (s : ℕ) → s < storesIn q → at (recordsIn q) s ≤ 128) e each), rw (w .node) at (h .lent .ranges .node), rw (w .start) at (h .lent .ranges .start), rw (w .end) at (h .lent .ranges .end), rw e at (h .counts .nextId))
+      (rw e at (h .counts .stores), subst (λ (q : List ℕ). (s : ℕ) → s < storesIn bs → at q s ≤ 128) (sym is) (subst (λ (q : List ℕ). (s : ℕ) → s < storesIn q → at (recordsIn q) s ≤ 128) e each), rw (w .node) at (h .lent .ranges .node), rw (w .start) at (h .lent .ranges .start), rw (w .end) at (h .lent .ranges .end), rw e at (h .counts .nextId))
 
   no-cut : adds hs (resolve (st .tree) hs) && endsInside (st .tree) (resolve (st .tree) hs) ≡ false → st .tree .nodes + nodeNeed st hs ≤ maxNodes
       → st .tree .used + newBlocks st hs ≤ maxWords → 0 ≡ insertRefusal st hs
@@ -298,28 +279,28 @@ module _ {ls ns ss es : List ℕ} {o : Bool} {x : Small} {m : Match} {n : ℕ} (
     needed : (b : Bool) → b ≡ ltb (m .len) (at ls (m .node)) → nodeNeed st hs ≡ plus b 1
     needed b e = need-some st hs added ∙ ap (λ z. plus z 1) (inside-is b e)
 
-    pub six : (b : Bool) (r : ℕ) → b ≡ ltb (m .len) (at ls (m .node)) → r ≡ plus b 1 → maxNodes < nodesIn (x .books) + r → 6 ≡ insertRefusal st hs
+    pub six : (b : Bool) (r : ℕ) → b ≡ ltb (m .len) (at ls (m .node)) → r ≡ plus b 1 → maxNodes < nodesIn bs + r → 6 ≡ insertRefusal st hs
     six b r e f l = sym (first-is st hs ∙ rw (lt-ltb maxNodes (st .tree .nodes + nodeNeed st hs) (omega (arith, w .nodes, needed b e))))
 
-    module _ (b : Bool) (r : ℕ) (e : b ≡ ltb (m .len) (at ls (m .node))) (f : r ≡ plus b 1) (l : nodesIn (x .books) + r ≤ maxNodes) where
+    module _ (b : Bool) (r : ℕ) (e : b ≡ ltb (m .len) (at ls (m .node))) (f : r ≡ plus b 1) (l : nodesIn bs + r ≤ maxNodes) where
       nodes-fit : st .tree .nodes + nodeNeed st hs ≤ maxNodes
       nodes-fit = omega (arith, w .nodes, needed b e)
 
-      pub seven : maxWords < usedIn (x .books) + (n - m .blocks) → 7 ≡ insertRefusal st hs
+      pub seven : maxWords < usedIn bs + (n - m .blocks) → 7 ≡ insertRefusal st hs
       seven g =
           sym
           (first-is st hs
           ∙ rw (le-ltb maxNodes (st .tree .nodes + nodeNeed st hs) nodes-fit, lt-ltb maxWords (st .tree .used + newBlocks st hs) (omega (arith, new-is st hs, blocks-is, w .count, w .used))))
 
-      module _ (g : usedIn (x .books) + (n - m .blocks) ≤ maxWords) where
+      module _ (g : usedIn bs + (n - m .blocks) ≤ maxWords) where
         words-fit : st .tree .used + newBlocks st hs ≤ maxWords
         words-fit = omega (arith, new-is st hs, blocks-is, w .count, w .used)
 
         pub not-inside : not b ≡ true → 0 ≡ insertRefusal st hs
         not-inside q = no-cut (rw (added, inside-is b e, not-yes b q)) nodes-fit words-fit
 
-        pub inside : not b ≡ false → (rs : List ℕ) → rs ≡ recordsIn (x .books) → (v : ℕ)
-            → ((c : Ranges) → c .node ≡ ns → c .start ≡ ss → c .end ≡ es → v ≡ cutRefusal (m .node) (m .len) o c rs (storesIn (x .books)) (nextIdIn (x .books)))
+        pub inside : not b ≡ false → (rs : List ℕ) → rs ≡ recordsIn bs → (v : ℕ)
+            → ((c : Ranges) → c .node ≡ ns → c .start ≡ ss → c .end ≡ es → v ≡ cutRefusal (m .node) (m .len) o c rs (storesIn bs) (nextIdIn bs))
             → v ≡ insertRefusal st hs
         unfolding cutRefusal
         inside q rs are v h =
@@ -329,26 +310,26 @@ module _ {ls ns ss es : List ℕ} {o : Bool} {x : Small} {m : Match} {n : ℕ} (
             first-is st hs
             ∙ rw (le-ltb maxNodes (st .tree .nodes + nodeNeed st hs) nodes-fit, le-ltb maxWords (st .tree .used + newBlocks st hs) words-fit, records-test st hs does few-stores, entries-test st hs does few-stores, ids-read st hs does (storesOf st) few-stores, w .over, node-is, len-is) in
             h (st .ranges) (w .node) (w .start) (w .end)
-            ∙ ap (λ (l : List ℕ). cutRefusal (m .node) (m .len) o (st .ranges) l (storesIn (x .books)) (nextIdIn (x .books))) are
+            ∙ ap (λ (l : List ℕ). cutRefusal (m .node) (m .len) o (st .ranges) l (storesIn bs) (nextIdIn bs)) are
             ∙ ap (λ (l : List ℕ). cutRefusal (m .node) (m .len) o (st .ranges) (recordsIn l) (storesIn l) (nextIdIn l)) (sym (w .books)) ∙ sym is
 
 -- ---- with 9's test
 
-module _ {ls ns ss es pns pss pes : List ℕ} {x : Small} {m : Match} {n : ℕ} (st : State) (hs : List ℕ) (w : Shown ls ns ss es pns pss pes x m n st hs)
-    (entries : List ℕ) (are : entries ≡ entriesIn (x .books)) where
-  pub entries-asks : (storesIn (x .books) ≤ 8) × ((s : ℕ) → s < storesIn (x .books) → at entries s ≤ 32) × (256 ≤ length pns) × (256 ≤ length pss) × (256 ≤ length pes)
+module _ {ls ns ss es pns pss pes bs : List ℕ} {m : Match} {n : ℕ} (st : State) (hs : List ℕ) (w : Shown ls ns ss es pns pss pes bs m n st hs)
+    (entries : List ℕ) (are : entries ≡ entriesIn bs) where
+  pub entries-asks : (storesIn bs ≤ 8) × ((s : ℕ) → s < storesIn bs → at entries s ≤ 32) × (256 ≤ length pns) × (256 ≤ length pss) × (256 ≤ length pes)
   entries-asks =
       let h = w .seen .sound in
-      let e : st .books ≡ x .books = w .seen .books in
+      let e : st .books ≡ bs = w .seen .books in
       let each : (s : ℕ) → s < storesOf st → at (entriesIn (st .books)) s ≤ 32 = λ s l. rw (entries-at (st .books) s (omega (arith, h .counts .stores))) (h .counts .each s zero-le l .entries) in
-      (rw e at (h .counts .stores), subst (λ (q : List ℕ). (s : ℕ) → s < storesIn (x .books) → at q s ≤ 32) (sym are) (subst (λ (q : List ℕ). (s : ℕ) → s < storesIn q → at (entriesIn q) s ≤ 32) e each), rw (w .pinNode) at (h .lent .pins .node), rw (w .pinStart) at (h .lent .pins .start), rw (w .pinEnd) at (h .lent .pins .end))
+      (rw e at (h .counts .stores), subst (λ (q : List ℕ). (s : ℕ) → s < storesIn bs → at q s ≤ 32) (sym are) (subst (λ (q : List ℕ). (s : ℕ) → s < storesIn q → at (entriesIn q) s ≤ 32) e each), rw (w .pinNode) at (h .lent .pins .node), rw (w .pinStart) at (h .lent .pins .start), rw (w .pinEnd) at (h .lent .pins .end))
 
   pub with-over : (o : Bool)
-      → ((c : Pins) → c .node ≡ pns → c .start ≡ pss → c .end ≡ pes → o ≡ any (storesIn (x .books)) (overpinned (m .node) (m .len) c entries))
-      → Seen ls ns ss es o x m n st hs
+      → ((c : Pins) → c .node ≡ pns → c .start ≡ pss → c .end ≡ pes → o ≡ any (storesIn bs) (overpinned (m .node) (m .len) c entries))
+      → Seen ls ns ss es bs o m n st hs
   with-over o h =
       let q : any (storesOf st) (overpinned (m .node) (m .len) (st .pins) (entriesIn (st .books))) ≡ o =
       ap (λ (l : List ℕ). any (storesIn l) (overpinned (m .node) (m .len) (st .pins) (entriesIn l))) (w .seen .books)
-      ∙ ap (λ (l : List ℕ). any (storesIn (x .books)) (overpinned (m .node) (m .len) (st .pins) l)) (sym are)
+      ∙ ap (λ (l : List ℕ). any (storesIn bs) (overpinned (m .node) (m .len) (st .pins) l)) (sym are)
       ∙ sym (h (st .pins) (w .pinNode) (w .pinStart) (w .pinEnd)) in
-      subst (λ (z : Bool). Seen ls ns ss es z x m n st hs) q (w .seen)
+      subst (λ (z : Bool). Seen ls ns ss es bs z m n st hs) q (w .seen)

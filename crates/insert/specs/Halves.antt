@@ -5,9 +5,9 @@ use lib.ListN.{length, take, drop}
 use mathlib.Core.Path.{_≡_}
 use Rattle.model.specs.declared.Book.{Book}
 use Rattle.model.specs.Sizes.{maxNodes, maxStores, maxStamp, maxMarks, maxPinned, maxNumbers, storeRecords, storePins, storeMarks}
-use Rattle.model.specs.State.{Ranges, Pins, Range, nextIdIn, bookIn}
+use Rattle.model.specs.State.{Ranges, Pins, Range, nextIdIn, bookIn, changed}
 use Rattle.model.specs.Sound.{RangesLent, PinsLent}
-use Rattle.model.specs.Store.{lay, ranges, layRanges, pins, changed}
+use Rattle.model.specs.Store.{lay, ranges, layRanges, pins}
 use Rattle.model.specs.Insert.{heads, tails, rangesAcross, cutMarks, pinsAcross}
 use Rattle.model.specs.Pins.{pinnedIn}
 use Rattle.kept.specs.Facts.{All}

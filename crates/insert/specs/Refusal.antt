@@ -7,26 +7,14 @@ use lib.ListN.{length}
 use lib.Dec.{ltb}
 use Rattle.model.specs.Words.{any}
 use Rattle.model.specs.Sizes.{maxHashes, maxStamp}
-use Rattle.model.specs.State.{Ranges, State, at, nodesIn, usedIn, storesOf}
+use Rattle.model.specs.State.{Ranges, State, nodesIn, usedIn, storesOf}
 use Rattle.model.specs.Sound.{Sound}
 use Rattle.model.specs.Tree.{resolve}
 use Rattle.model.specs.Refusals.{firstOf, fewNodes, fewWords, fewRecordsInCut, fewEntriesInCut, lateId, cutIds}
-use Rattle.lent.specs.declared.Small.{Small}
+use Rattle.books.specs.Books.{entriesIn}
 use Rattle.tree.specs.declared.Match.{Match}
 use Rattle.tree.specs.Walk.{matchOf}
 use Rattle.cutstore.specs.Needs.{overfull, overpinned, idsBelow}
-
--- every eighth number from place a on
-abbrev pub eighths : ℕ → List ℕ → List ℕ
-eighths a l =
-    at l a ∷ at l (a + 8) ∷ at l (a + 16) ∷ at l (a + 24) ∷ at l (a + 32) ∷ at l (a + 40) ∷ at l (a + 48) ∷ at l (a + 56) ∷ []
-
--- each store's used records, and its used pin entries, of the small numbers
-abbrev pub recordsIn : List ℕ → List ℕ
-recordsIn l = eighths 7 l
-
-abbrev pub entriesIn : List ℕ → List ℕ
-entriesIn l = eighths 11 l
 
 unfoldable pub insertRefusal : State → List ℕ → ℕ
 insertRefusal st hs =
@@ -52,23 +40,23 @@ cutRefusal j k over c records stores next =
     pick (any stores (overfull j k c records)) over (ltb maxStamp (next + idsBelow j k c records stores))
 
 -- a sound state of which these columns and numbers are lent, and the match of a list in its tree; o tells whether some store's pins are too many
-pub record Seen (ls ns ss es : List ℕ) (o : Bool) (x : Small) (m : Match) (n : ℕ) (st : State) (hs : List ℕ) : Type 0 where
+pub record Seen (ls ns ss es bs : List ℕ) (o : Bool) (m : Match) (n : ℕ) (st : State) (hs : List ℕ) : Type 0 where
   pub sound : Sound st
-  pub nodes : st .tree .nodes ≡ nodesIn (x .books)
-  pub used : st .tree .used ≡ usedIn (x .books)
+  pub nodes : st .tree .nodes ≡ nodesIn bs
+  pub used : st .tree .used ≡ usedIn bs
   pub len : st .tree .len ≡ ls
   pub node : st .ranges .node ≡ ns
   pub start : st .ranges .start ≡ ss
   pub end : st .ranges .end ≡ es
-  pub books : st .books ≡ x .books
+  pub books : st .books ≡ bs
   pub over : o ≡ any (storesOf st) (overpinned (m .node) (m .len) (st .pins) (entriesIn (st .books)))
   pub count : length hs ≡ n
   pub short : length hs ≤ maxHashes
   pub match : m ≡ matchOf (resolve (st .tree) hs)
 
 -- the same with three columns of the pins lent, from which that is told
-pub record Shown (ls ns ss es pns pss pes : List ℕ) (x : Small) (m : Match) (n : ℕ) (st : State) (hs : List ℕ) : Type 0 where
-  pub seen : Seen ls ns ss es (any (storesOf st) (overpinned (m .node) (m .len) (st .pins) (entriesIn (st .books)))) x m n st hs
+pub record Shown (ls ns ss es pns pss pes bs : List ℕ) (m : Match) (n : ℕ) (st : State) (hs : List ℕ) : Type 0 where
+  pub seen : Seen ls ns ss es bs (any (storesOf st) (overpinned (m .node) (m .len) (st .pins) (entriesIn (st .books)))) m n st hs
   pub pinNode : st .pins .node ≡ pns
   pub pinStart : st .pins .start ≡ pss
   pub pinEnd : st .pins .end ≡ pes

@@ -1,6 +1,8 @@
 use books::book_of;
+use books::entries_of;
 use books::put_book;
 use books::put_next;
+use books::records_of;
 use cutstore::cut_marks;
 use cutstore::cut_pins;
 use cutstore::cut_ranges;
@@ -8,21 +10,20 @@ use cutstore::entries_over;
 use cutstore::ids_needed;
 use cutstore::records_over;
 use cutting::After;
-use lent::Small;
 use model::Book;
 use tree::Match;
 ghost use mathlib.Core.Path.{_≡_};
 ghost use mathlib.Core.List.{List};
 ghost use Prim.Native.Nat.{ℕ, _≤_, _<_};
 ghost use lib.ListN.{length, take};
-ghost use Rattle.model.specs.Sizes.{maxStamp};
+ghost use Rattle.model.specs.Sizes.{maxStores, maxNumbers, maxStamp};
 ghost use Rattle.model.specs.State.{State, Tree, Ranges, at, stallsIn};
 ghost use Rattle.model.specs.Store.{plus, layBook, layNext};
 ghost use Rattle.model.specs.Calls.{front};
 ghost use Rattle.model.specs.Insert.{cutStoreIn};
 ghost use Rattle.lent.specs.Lent.{rangesOf, pinsOf, stateOf};
 ghost use Rattle.insert.specs.Halves.{cutBook, RangesRoom, RangesCut, StoreRoom};
-ghost use Rattle.insert.specs.Refusal.{recordsIn, entriesIn, insertRefusal, cutRefusal, Seen, Shown};
+ghost use Rattle.insert.specs.Refusal.{insertRefusal, cutRefusal, Seen, Shown};
 
 // The first n of src, in front of dst. A refusal must not write the lent path lists, so a path is found in local arrays first.
 pub fn copy_front(dst: &mut [usize], src: &[usize], n: usize)
@@ -34,38 +35,6 @@ pub fn copy_front(dst: &mut [usize], src: &[usize], n: usize)
         dst[i] = src[i];
         i += 1;
     }
-}
-
-// Each store's used records.
-fn records_of(books: &[u64; 69]) -> [usize; 8]
-    ensures { λ r. ⌜ r ≡ recordsIn (now (books .entry)) ⌝ }
-{
-    [
-        books[7] as usize,
-        books[15] as usize,
-        books[23] as usize,
-        books[31] as usize,
-        books[39] as usize,
-        books[47] as usize,
-        books[55] as usize,
-        books[63] as usize,
-    ]
-}
-
-// Each store's used pin entries.
-fn entries_of(books: &[u64; 69]) -> [usize; 8]
-    ensures { λ r. ⌜ r ≡ entriesIn (now (books .entry)) ⌝ }
-{
-    [
-        books[11] as usize,
-        books[19] as usize,
-        books[27] as usize,
-        books[35] as usize,
-        books[43] as usize,
-        books[51] as usize,
-        books[59] as usize,
-        books[67] as usize,
-    ]
 }
 
 // What a cut of node j at k is refused for: 8, 9, 11 or nothing, 0. `over` says whether some store has too few pin entries left.
@@ -112,13 +81,13 @@ pub fn insert_refusal(
     node: &[usize],
     start: &[usize],
     end: &[usize],
+    books: &[u64],
     over: bool,
-    x: Small,
     m: Match,
     count: usize,
 ) -> u8
-    requires { ⌜ ((st : State) × (hs : List ℕ) × Seen (now len) (now node) (now start) (now end) over x m count st hs) ⌝ }
-    ensures { λ r. ⌜ ((st : State) (hs : List ℕ) → Seen (now (len .entry)) (now (node .entry)) (now (start .entry)) (now (end .entry)) over x m count st hs → r ≡ insertRefusal st hs) ⌝ }
+    requires { ⌜ ((st : State) × (hs : List ℕ) × Seen (now len) (now node) (now start) (now end) (now books) over m count st hs) ⌝ }
+    ensures { λ r. ⌜ ((st : State) (hs : List ℕ) → Seen (now (len .entry)) (now (node .entry)) (now (start .entry)) (now (end .entry)) (now (books .entry)) over m count st hs → r ≡ insertRefusal st hs) ⌝ }
 {
     if count <= m.blocks {
         return 0;
@@ -126,20 +95,20 @@ pub fn insert_refusal(
     let j = m.node;
     let k = m.len;
     let inside = k < len[j];
-    let nodes = x.books[0] as usize;
+    let nodes = books[0] as usize;
     if 256 < nodes + node_need(inside) {
         return 6;
     }
-    let used = x.books[1] as usize;
+    let used = books[1] as usize;
     if 4096 < used + (count - m.blocks) {
         return 7;
     }
     if !inside {
         return 0;
     }
-    let stores = x.books[2] as usize;
-    let next = x.books[3];
-    let records = records_of(&x.books);
+    let stores = books[2] as usize;
+    let next = books[3];
+    let records = records_of(books);
     cut_refusal(node, start, end, over, records, stores, next, j, k)
 }
 
@@ -152,17 +121,17 @@ pub fn refusal(
     pin_node: &[usize],
     pin_start: &[usize],
     pin_end: &[usize],
-    x: Small,
+    books: &[u64],
     m: Match,
     count: usize,
 ) -> u8
-    requires { ⌜ ((st : State) × (hs : List ℕ) × Shown (now len) (now node) (now start) (now end) (now «pin_node») (now «pin_start») (now «pin_end») x m count st hs) ⌝ }
-    ensures { λ r. ⌜ ((st : State) (hs : List ℕ) → Shown (now (len .entry)) (now (node .entry)) (now (start .entry)) (now (end .entry)) (now («pin_node» .entry)) (now («pin_start» .entry)) (now («pin_end» .entry)) x m count st hs → r ≡ insertRefusal st hs) ⌝ }
+    requires { ⌜ ((st : State) × (hs : List ℕ) × Shown (now len) (now node) (now start) (now end) (now «pin_node») (now «pin_start») (now «pin_end») (now books) m count st hs) ⌝ }
+    ensures { λ r. ⌜ ((st : State) (hs : List ℕ) → Shown (now (len .entry)) (now (node .entry)) (now (start .entry)) (now (end .entry)) (now («pin_node» .entry)) (now («pin_start» .entry)) (now («pin_end» .entry)) (now (books .entry)) m count st hs → r ≡ insertRefusal st hs) ⌝ }
 {
-    let stores = x.books[2] as usize;
-    let entries = entries_of(&x.books);
+    let stores = books[2] as usize;
+    let entries = entries_of(books);
     let over = entries_over(pin_node, pin_start, pin_end, entries, stores, m.node, m.len);
-    insert_refusal(len, node, start, end, over, x, m, count)
+    insert_refusal(len, node, start, end, books, over, m, count)
 }
 
 // The ranges and the marks of store s, of which n are used, cut; its pin entries are cut apart.
@@ -206,18 +175,16 @@ fn cut_range_half(
 }
 
 // The small numbers with those of store s after its cut. A cut pins no block more, so the count of pinned blocks stays.
-fn cut_books(x: Small, s: usize, b: Book, cut: After, entries: usize) -> Small
-    requires { ⌜ s < 8 ⌝ }
-    ensures { λ r. ⌜ r .books ≡ layNext (cut .next) (stallsIn (x .books)) (layBook s (cutBook b (cut .n) entries) (x .books)) ⌝ }
+fn cut_books(books: &mut [u64], s: usize, b: Book, cut: After, entries: usize)
+    requires { ⌜ (s < maxStores) × (maxNumbers ≤ length (now books)) ⌝ }
+    ensures { λ _. ⌜ now (books .exit) ≡ layNext (cut .next) (stallsIn (now (books .entry))) (layBook s (cutBook b (cut .n) entries) (now (books .entry))) ⌝ }
 {
     let mut new = b;
     new.records = cut.n;
     new.entries = entries;
-    let stalls = x.books[4];
-    let mut y = x;
-    put_book(&mut y.books, s, new);
-    put_next(&mut y.books, cut.next, stalls);
-    y
+    let stalls = books[4];
+    put_book(books, s, new);
+    put_next(books, cut.next, stalls);
 }
 
 // Store s, cut: first its ranges and marks, then its pin entries.
@@ -234,16 +201,16 @@ pub fn cut_store(
     pin_end: &mut [usize],
     pin_count: &mut [u64],
     marks: &mut [usize],
-    x: Small,
+    books: &mut [u64],
     s: usize,
     j: usize,
     k: usize,
     m: usize,
-) -> Small
-    requires { ⌜ StoreRoom j k m s (rangesOf (now node) (now start) (now end) (now id) (now stamp) (now touched) (now write)) (pinsOf (now «pin_node») (now «pin_start») (now «pin_end») (now «pin_count»)) (now marks) (x .books) ⌝ }
-    ensures { λ r. ⌜ ((t : Tree) (bytes : List ℕ) → stateOf t (rangesOf (now (node .exit)) (now (start .exit)) (now (end .exit)) (now (id .exit)) (now (stamp .exit)) (now (touched .exit)) (now (write .exit))) (pinsOf (now («pin_node» .exit)) (now («pin_start» .exit)) (now («pin_end» .exit)) (now («pin_count» .exit))) (now (marks .exit)) bytes (r .books) ≡ cutStoreIn j k m s (stateOf t (rangesOf (now (node .entry)) (now (start .entry)) (now (end .entry)) (now (id .entry)) (now (stamp .entry)) (now (touched .entry)) (now (write .entry))) (pinsOf (now («pin_node» .entry)) (now («pin_start» .entry)) (now («pin_end» .entry)) (now («pin_count» .entry))) (now (marks .entry)) bytes (x .books))) ⌝ }
+)
+    requires { ⌜ StoreRoom j k m s (rangesOf (now node) (now start) (now end) (now id) (now stamp) (now touched) (now write)) (pinsOf (now «pin_node») (now «pin_start») (now «pin_end») (now «pin_count»)) (now marks) (now books) ⌝ }
+    ensures { λ _. ⌜ ((t : Tree) (bytes : List ℕ) → stateOf t (rangesOf (now (node .exit)) (now (start .exit)) (now (end .exit)) (now (id .exit)) (now (stamp .exit)) (now (touched .exit)) (now (write .exit))) (pinsOf (now («pin_node» .exit)) (now («pin_start» .exit)) (now («pin_end» .exit)) (now («pin_count» .exit))) (now (marks .exit)) bytes (now (books .exit)) ≡ cutStoreIn j k m s (stateOf t (rangesOf (now (node .entry)) (now (start .entry)) (now (end .entry)) (now (id .entry)) (now (stamp .entry)) (now (touched .entry)) (now (write .entry))) (pinsOf (now («pin_node» .entry)) (now («pin_start» .entry)) (now («pin_end» .entry)) (now («pin_count» .entry))) (now (marks .entry)) bytes (now (books .entry)))) ⌝ }
 {
-    let b = book_of(&x.books, s);
+    let b = book_of(books, s);
     let cut = cut_range_half(
         node,
         start,
@@ -258,7 +225,7 @@ pub fn cut_store(
         j,
         k,
         m,
-        x.books[3],
+        books[3],
     );
     let entries = cut_pins(
         pin_node,
@@ -271,5 +238,5 @@ pub fn cut_store(
         k,
         m,
     );
-    cut_books(x, s, b, cut, entries)
+    cut_books(books, s, b, cut, entries);
 }

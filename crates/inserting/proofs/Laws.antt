@@ -7,17 +7,19 @@ use native.Mathlib.Omega.{arith}
 use borrow.Author.Tests.{lt-ltb, le-ltb, ltb-true, le-leb}
 use lib.ListN.{length, take, drop, set, length-append, length-take, length-drop}
 use lib.Seq.{length-take-le, take-at}
+use Rattle.model.specs.declared.Split.{Split}
+use Rattle.model.specs.declared.Split.the-variants as S
+use Rattle.model.specs.declared.InsertAnswer.{InsertAnswer}
 use Rattle.model.specs.Words.{Each}
-use Rattle.model.specs.Sizes.{maxNodes, maxWords, maxHashes, maxStamp, storeRecords, storePins, pathPlaces}
+use Rattle.model.specs.Sizes.{maxNodes, maxWords, maxHashes, maxNumbers, maxStamp, storeRecords, storePins, pathPlaces}
 use Rattle.model.specs.State.{Tree, Ranges, Pins, State, at, nodesIn, usedIn, storesOf, nextIdOf, recordsOf, entriesOf}
 use Rattle.model.specs.Sound.{TreeLent, Sound}
 use Rattle.model.specs.SoundTest.{sound}
 use Rattle.model.specs.Tree.{Seg, resolve, blocks}
 use Rattle.model.specs.Store.{plus, layCounts}
-use Rattle.model.specs.Insert.{Cut, Inserted, cutTree, addLeaf, matchEnd, adds, endsInside, withTree, withLeaf, cut, cutFirst, grow, insertPath}
+use Rattle.model.specs.Insert.{Inserted, cutTree, addLeaf, matchEnd, adds, endsInside, withTree, withLeaf, cut, cutFirst, grow, insertPath}
 use Rattle.model.specs.Refusals.{PathList, PathFits, pathFits, firstOf, insertRefusals, nodeNeed, newBlocks, cuts, cutRecords, cutEntries, cutIds}
-use Rattle.model.specs.Calls.{Outcome, refused, done, unless, front, layPath, pathOf, InsertAnswer, insert}
-use Rattle.lent.specs.declared.Small.{Small}
+use Rattle.model.specs.Calls.{Outcome, refused, done, unless, front, layPath, pathOf, insert}
 use Rattle.lent.specs.Lent.{treeOf, stateOf}
 use Rattle.answers.specs.declared.Inserted.the-variants as I
 use Rattle.answers.specs.Answers.{outcome, insertedOf}
@@ -122,7 +124,7 @@ resolved-found t hs l found m r =
 
 -- what an insert that is not refused leaves and answers
 abbrev taken : Inserted → PathList → Outcome PathList InsertAnswer
-taken w l = record { state = w .state; lists = layPath (w .path) l; answer = done (record { path = pathOf (w .path); cuts = w .cuts }) }
+taken w l = record { state = w .state; lists = layPath (w .path) l; answer = done (record { path = pathOf (w .path); split = w .split }) }
 
 refused-is : (n : ℕ) (st : State) (l : PathList) (o : Outcome PathList InsertAnswer) → (n ≡ 0 → ⊥) → unless n st l o ≡ outcome st l (refused n)
 refused-is zero st l o h = absurd (h refl)
@@ -162,12 +164,12 @@ module _ (st : State) (l : PathList) (hs : List ℕ) where
           record { sound = h; fits = fits; short = short; none = sym e ∙ z; path = resolved-found (st .tree) hs k found m r }
 
 -- what the test of 6, 7, 8, 9 and 11 asks
-pub shown : (parent depth len run words : List ℕ) (c : Ranges) (p : Pins) (marks bytes : List ℕ) (x : Small) (hs : List ℕ) (m : Match)
-    → Sound (stateOf (treeOf parent depth len run words (nodesIn (x .books)) (usedIn (x .books))) c p marks bytes (x .books)) → length hs ≤ maxHashes
-    → m ≡ matchOf (resolve (treeOf parent depth len run words (nodesIn (x .books)) (usedIn (x .books))) hs)
-    → Shown len (c .node) (c .start) (c .end) (p .node) (p .start) (p .end) x m (length hs)
-    (stateOf (treeOf parent depth len run words (nodesIn (x .books)) (usedIn (x .books))) c p marks bytes (x .books)) hs
-shown parent depth len run words c p marks bytes x hs m h short e =
+pub shown : (parent depth len run words : List ℕ) (c : Ranges) (p : Pins) (marks bytes books hs : List ℕ) (m : Match)
+    → Sound (stateOf (treeOf parent depth len run words (nodesIn books) (usedIn books)) c p marks bytes books) → length hs ≤ maxHashes
+    → m ≡ matchOf (resolve (treeOf parent depth len run words (nodesIn books) (usedIn books)) hs)
+    → Shown len (c .node) (c .start) (c .end) (p .node) (p .start) (p .end) books m (length hs)
+    (stateOf (treeOf parent depth len run words (nodesIn books) (usedIn books)) c p marks bytes books) hs
+shown parent depth len run words c p marks bytes books hs m h short e =
     record {
       seen = record {
         sound = h;
@@ -229,14 +231,14 @@ counts-read parent depth len run words c p marks bytes n i l l₁ e =
     ap (λ (q : List ℕ). stateOf (treeOf parent depth len run words (nodesIn q) (usedIn q)) c p marks bytes q) e
 
 -- what `add_leaf`, the counts that are written and the lists' functions leave is the model's
-pub leafed : (ss : List Seg) (cuts : List Cut) (t : Tree) (parent depth len run words : List ℕ) (c : Ranges) (p : Pins) (marks bytes l l₁ : List ℕ)
+pub leafed : (ss : List Seg) (split : Split) (t : Tree) (parent depth len run words : List ℕ) (c : Ranges) (p : Pins) (marks bytes l l₁ : List ℕ)
     (hs : List ℕ) (m : Match) (k k′ found : PathList) → Found ss m found
     → treeOf parent depth len run words (t .nodes + 1) (t .used + (length hs - m .blocks)) ≡ addLeaf (m .node) (m .blocks) (drop (m .blocks) hs) t
     → l₁ ≡ layCounts (t .nodes + 1) (t .used + (length hs - m .blocks)) l
     → k′ ≡ pathListOf (front (take (m .segs) (found .node) ++ (t .nodes ∷ [])) (k .node)) (front (take (m .segs) (found .len) ++ ((length hs - m .blocks) ∷ [])) (k .len))
-    → Left (withLeaf hs ss cuts (stateOf t c p marks bytes l)) k (stateOf (treeOf parent depth len run words (nodesIn l₁) (usedIn l₁)) c p marks bytes l₁) k′
+    → Left (withLeaf hs ss split (stateOf t c p marks bytes l)) k (stateOf (treeOf parent depth len run words (nodesIn l₁) (usedIn l₁)) c p marks bytes l₁) k′
 unfolding withLeaf withTree
-leafed ss cuts t parent depth len run words c p marks bytes l l₁ hs m k k′ found f e d g =
+leafed ss split t parent depth len run words c p marks bytes l l₁ hs m k k′ found f e d g =
     record {
       state = counts-read parent depth len run words c p marks bytes (t .nodes + 1) (t .used + (length hs - m .blocks)) l l₁ d
           ∙ ap put (e ∙ ap (λ (a : Match). addLeaf (a .node) (a .blocks) (drop (a .blocks) hs) t) (f .match));
@@ -259,10 +261,10 @@ leafed ss cuts t parent depth len run words c p marks bytes l l₁ hs m k k′ f
     put : Tree → State
     put u = stateOf u c p marks bytes (layCounts (u .nodes) (u .used) l)
 
-leaf-path : (ss : List Seg) (hs : List ℕ) (cuts : List Cut) (st : State) → blocks ss ≤ length hs
-    → record { segs = length ss + 1; blocks = length hs } ≡ pathOf (withLeaf hs ss cuts st .path)
+leaf-path : (ss : List Seg) (hs : List ℕ) (split : Split) (st : State) → blocks ss ≤ length hs
+    → record { segs = length ss + 1; blocks = length hs } ≡ pathOf (withLeaf hs ss split st .path)
 unfolding withLeaf
-leaf-path ss hs cuts st within =
+leaf-path ss hs split st within =
     let s : Seg = record { node = st .tree .nodes; len = length (drop (blocks ss) hs) } in
     let sum : length hs ≡ blocks (ss ++ (s ∷ [])) = omega (arith, blocks-more ss s, length-drop (blocks ss) hs) in
     let two : length ss + 1 ≡ length (ss ++ (s ∷ [])) = sym (segs-more ss s) in
@@ -270,13 +272,14 @@ leaf-path ss hs cuts st within =
 
 -- what is left of w is its outcome
 left-taken : (w : Inserted) (l l′ : PathList) (st′ : State) (n b : ℕ) → Left w l st′ l′ → record { segs = n; blocks = b } ≡ pathOf (w .path)
-    → outcome st′ l′ (done (record { path = record { segs = n; blocks = b }; cuts = w .cuts })) ≡ taken w l
-left-taken w l l′ st′ n b h e = λ i. record { state = h .state i; lists = h .lists i; answer = done (record { path = e i; cuts = w .cuts }) }
+    → outcome st′ l′ (done (record { path = record { segs = n; blocks = b }; split = w .split })) ≡ taken w l
+left-taken w l l′ st′ n b h e = λ i. record { state = h .state i; lists = h .lists i; answer = done (record { path = e i; split = w .split }) }
 
 -- room for it in a tree of the pools' sizes
-leaf-room : (ss : List Seg) (t : Tree) (l : PathList) (hs : List ℕ) (m : Match) (found : PathList) → Found ss m found → PathFits l → TreeLent t
-    → t .nodes < maxNodes → m .blocks ≤ length hs → t .used + (length hs - m .blocks) ≤ maxWords → m .segs < pathPlaces → LeafRoom ss t l hs m found
-leaf-room ss t l hs m found f fits lent nodes within words few =
+leaf-room : (ss : List Seg) (t : Tree) (bs : List ℕ) (l : PathList) (hs : List ℕ) (m : Match) (found : PathList) → Found ss m found → PathFits l
+    → TreeLent t → maxNumbers ≤ length bs → t .nodes < maxNodes → m .blocks ≤ length hs → t .used + (length hs - m .blocks) ≤ maxWords
+    → m .segs < pathPlaces → LeafRoom ss t bs l hs m found
+leaf-room ss t bs l hs m found f fits lent long nodes within words few =
     record {
       path = f;
       within = within;
@@ -285,6 +288,7 @@ leaf-room ss t l hs m found f fits lent nodes within words few =
       len = omega (arith, lent .len);
       run = omega (arith, lent .run);
       words = omega (arith, lent .words);
+      books = long;
       pathNode = omega (arith, fits .node);
       pathLen = omega (arith, fits .len);
     }
@@ -303,7 +307,7 @@ module _ (st : State) (l : PathList) (hs : List ℕ) (m : Match) (found : PathLi
   fit =
       let w = insertPath hs (resolve (st .tree) hs) st in
       roomy st l hs
-      (unless-done (w .state) (layPath (w .path) l) (record { path = pathOf (w .path); cuts = w .cuts }) (insert-kept st l hs) (record { path = pathOf (w .path); cuts = w .cuts }) (ap (λ i. unless i st l (taken w l) .answer) zero-number) .none)
+      (unless-done (w .state) (layPath (w .path) l) (record { path = pathOf (w .path); split = w .split }) (insert-kept st l hs) (record { path = pathOf (w .path); split = w .split }) (ap (λ i. unless i st l (taken w l) .answer) zero-number) .none)
 
   blocks-is : m .blocks ≡ blocks (resolve (st .tree) hs)
   blocks-is = blocks-are (h .path)
@@ -326,7 +330,7 @@ module _ (st : State) (l : PathList) (hs : List ℕ) (m : Match) (found : PathLi
   -- nothing is new
   pub nothing-new : (l′ : PathList) → length hs ≤ m .blocks
       → l′ ≡ pathListOf (front (take (m .segs) (found .node)) (l .node)) (front (take (m .segs) (found .len)) (l .len))
-      → outcome st l′ (insertedOf (I.Whole (record { segs = m .segs; blocks = m .blocks }))) ≡ insert st l hs
+      → outcome st l′ (insertedOf (I.Done (record { path = record { segs = m .segs; blocks = m .blocks }; split = S.No }))) ≡ insert st l hs
   unfolding insertPath
   nothing-new l′ all e =
       let none : adds hs (resolve (st .tree) hs) ≡ false = le-ltb (blocks (resolve (st .tree) hs)) (length hs) (omega (arith, blocks-is)) in
@@ -369,18 +373,18 @@ module _ (st : State) (l : PathList) (hs : List ℕ) (m : Match) (found : PathLi
           let e : nodeNeed st hs ≡ 1 = need-some st hs added ∙ ap (λ b. plus b 1) not-inside in
           omega (arith, fit .nodes)
 
-      pub leaf-asks : LeafRoom (resolve (st .tree) hs) (st .tree) l hs m found
+      pub leaf-asks : LeafRoom (resolve (st .tree) hs) (st .tree) (st .books) l hs m found
       leaf-asks =
-          leaf-room (resolve (st .tree) hs) (st .tree) l hs m found (h .path) (h .fits) (h .sound .lent .tree) nodes-one (omega arith) words-fit
+          leaf-room (resolve (st .tree) hs) (st .tree) (st .books) l hs m found (h .path) (h .fits) (h .sound .lent .tree) (h .sound .lent .books) nodes-one (omega arith) words-fit
           (omega (arith, few-segs, nodes-one))
 
-      pub leaf-new : (st′ : State) (l′ : PathList) → Left (withLeaf hs (resolve (st .tree) hs) [] st) l st′ l′
-          → outcome st′ l′ (insertedOf (I.Whole (record { segs = m .segs + 1; blocks = length hs }))) ≡ insert st l hs
+      pub leaf-new : (st′ : State) (l′ : PathList) → Left (withLeaf hs (resolve (st .tree) hs) S.No st) l st′ l′
+          → outcome st′ l′ (insertedOf (I.Done (record { path = record { segs = m .segs + 1; blocks = length hs }; split = S.No }))) ≡ insert st l hs
       unfolding insertPath withLeaf
       leaf-new st′ l′ w =
           let path = resolve (st .tree) hs in
-          left-taken (withLeaf hs path [] st) l l′ st′ (m .segs + 1) (length hs) w
-          (ap (λ (n : ℕ). record { segs = n + 1; blocks = length hs }) (segs-are (h .path)) ∙ leaf-path path hs [] st (omega (arith, blocks-is)))
+          left-taken (withLeaf hs path S.No st) l l′ st′ (m .segs + 1) (length hs) w
+          (ap (λ (n : ℕ). record { segs = n + 1; blocks = length hs }) (segs-are (h .path)) ∙ leaf-path path hs S.No st (omega (arith, blocks-is)))
           ∙ ap (λ b. taken (cutFirst b hs path st) l) (sym not-inside) ∙ ap (λ b. taken (grow b hs path st) l) (sym added) ∙ accepted
 
     -- it ends inside a node
@@ -416,28 +420,32 @@ module _ (st : State) (l : PathList) (hs : List ℕ) (m : Match) (found : PathLi
       pub cut-asks : Cuttable (m .node) (m .len) st
       cut-asks = rw (node-is, len-is) cut-here
 
+      -- the cut that is made
+      abbrev pub made : Split
+      made = S.At (record { node = m .node; at = m .len; new = st .tree .nodes })
+
       module _ (st₁ : State) (e : st₁ ≡ cut (m .node) (m .len) st) where
         tree-is : st₁ .tree ≡ cutTree (m .node) (m .len) (st .tree)
         tree-is = ap (λ (s : State). s .tree) e ∙ cut-tree (m .node) (m .len) st
 
-        pub leaf-asks-cut : LeafRoom (resolve (st .tree) hs) (st₁ .tree) l hs m found
-        leaf-asks-cut =
+        pub leaf-asks-cut : length (st₁ .books) ≡ length (st .books) → LeafRoom (resolve (st .tree) hs) (st₁ .tree) (st₁ .books) l hs m found
+        leaf-asks-cut same =
             let cutLent = tree-cut (m .node) (m .len) st cut-asks .lent in
             rw tree-is
-            (leaf-room (resolve (st .tree) hs) (cutTree (m .node) (m .len) (st .tree)) l hs m found (h .path) (h .fits) cutLent
-            (rw (nodes-cut (m .node) (m .len) (st .tree)) nodes-two) (omega arith) (rw (used-cut (m .node) (m .len) (st .tree)) words-fit)
-            (omega (arith, few-segs, nodes-two)))
+            (leaf-room (resolve (st .tree) hs) (cutTree (m .node) (m .len) (st .tree)) (st₁ .books) l hs m found (h .path) (h .fits) cutLent
+            (rw same (h .sound .lent .books)) (rw (nodes-cut (m .node) (m .len) (st .tree)) nodes-two) (omega arith)
+            (rw (used-cut (m .node) (m .len) (st .tree)) words-fit) (omega (arith, few-segs, nodes-two)))
 
         pub cut-new : (st′ : State) (l′ : PathList)
-            → Left (withLeaf hs (resolve (st .tree) hs) (record { node = m .node; at = m .len; new = st .tree .nodes } ∷ []) st₁) l st′ l′
-            → outcome st′ l′ (insertedOf (I.Split (record { segs = m .segs + 1; blocks = length hs }) (record { node = m .node; at = m .len; new = st .tree .nodes }))) ≡ insert st l hs
+            → Left (withLeaf hs (resolve (st .tree) hs) made st₁) l st′ l′
+            → outcome st′ l′ (insertedOf (I.Done (record { path = record { segs = m .segs + 1; blocks = length hs }; split = made }))) ≡ insert st l hs
         unfolding insertPath withLeaf
         cut-new st′ l′ w =
             let path = resolve (st .tree) hs in
-            left-taken (withLeaf hs path (record { node = m .node; at = m .len; new = st .tree .nodes } ∷ []) st₁) l l′ st′ (m .segs + 1) (length hs) w
+            left-taken (withLeaf hs path made st₁) l l′ st′ (m .segs + 1) (length hs) w
             (ap (λ (n : ℕ). record { segs = n + 1; blocks = length hs }) (segs-are (h .path))
-            ∙ leaf-path path hs (record { node = m .node; at = m .len; new = st .tree .nodes } ∷ []) st₁ (omega (arith, blocks-is)))
-            ∙ ap (λ (s : State). taken (withLeaf hs path (record { node = m .node; at = m .len; new = st .tree .nodes } ∷ []) s) l) e
-            ∙ ap (λ (a : Match). taken (withLeaf hs path (record { node = a .node; at = a .len; new = st .tree .nodes } ∷ []) (cut (a .node) (a .len) st)) l) (h .path .match)
+            ∙ leaf-path path hs made st₁ (omega (arith, blocks-is)))
+            ∙ ap (λ (s : State). taken (withLeaf hs path made s) l) e
+            ∙ ap (λ (a : Match). taken (withLeaf hs path (S.At (record { node = a .node; at = a .len; new = st .tree .nodes })) (cut (a .node) (a .len) st)) l) (h .path .match)
             ∙ ap (λ b. taken (cutFirst b hs path st) l) (sym inside)
             ∙ ap (λ b. taken (grow b hs path st) l) (sym added) ∙ accepted

@@ -3,7 +3,7 @@ use Prim.Native.Nat.{ℕ, _+_, _-_, _≤_, _<_}
 use mathlib.Core.Path.{_≡_}
 use mathlib.Core.List.{List, map}
 use lib.ListN.{length, take}
-use Rattle.model.specs.Sizes.{maxHashes}
+use Rattle.model.specs.Sizes.{maxHashes, maxNumbers}
 use Rattle.model.specs.State.{Tree, State}
 use Rattle.model.specs.Sound.{Sound}
 use Rattle.model.specs.Tree.{Seg, resolve}
@@ -28,8 +28,8 @@ pub record Passed (st : State) (l : PathList) (hs : List ℕ) (m : Match) (found
   pub none : insertRefusal st hs ≡ 0
   pub path : Found (resolve (st .tree) hs) m found
 
--- there is room in the tree for a leaf with the rest of the list, and in the lists for its segment after the path
-pub record LeafRoom (ss : List Seg) (t : Tree) (l : PathList) (hs : List ℕ) (m : Match) (found : PathList) : Type 0 where
+-- there is room in the tree for a leaf with the rest of the list, in the small numbers for its counts, and in the lists for its segment after the path
+pub record LeafRoom (ss : List Seg) (t : Tree) (bs : List ℕ) (l : PathList) (hs : List ℕ) (m : Match) (found : PathList) : Type 0 where
   pub path : Found ss m found
   pub within : m .blocks ≤ length hs
   pub parent : t .nodes < length (t .parent)
@@ -37,6 +37,7 @@ pub record LeafRoom (ss : List Seg) (t : Tree) (l : PathList) (hs : List ℕ) (m
   pub len : t .nodes < length (t .len)
   pub run : t .nodes < length (t .run)
   pub words : t .used + (length hs - m .blocks) ≤ length (t .words)
+  pub books : maxNumbers ≤ length bs
   pub pathNode : m .segs < length (l .node)
   pub pathLen : m .segs < length (l .len)
 

@@ -1,23 +1,24 @@
-use answers::Cut;
 use answers::Inserted;
-use answers::Insertion;
-use answers::Path;
 use books::put_counts;
 use cutstate::cut_all;
 use grow::add_leaf;
 use insert::copy_front;
 use insert::refusal;
-use lent::Small;
+use model::Cut;
+use model::InsertAnswer;
+use model::Path;
+use model::Split;
 use tree::Match;
 use tree::resolve;
 ghost use mathlib.Core.Path.{_≡_};
 ghost use mathlib.Core.List.{List, [], _∷_, _++_};
 ghost use Prim.Native.Nat.{ℕ, _≤_, _<_};
 ghost use lib.ListN.{length, take};
+ghost use Rattle.model.specs.declared.Split.{Split};
 ghost use Rattle.model.specs.State.{Ranges, Pins, nodesIn, usedIn};
 ghost use Rattle.model.specs.Sound.{Sound};
 ghost use Rattle.model.specs.Tree.{Seg};
-ghost use Rattle.model.specs.Insert.{Cut as CutAt, withLeaf};
+ghost use Rattle.model.specs.Insert.{withLeaf};
 ghost use Rattle.model.specs.Refusals.{PathFits};
 ghost use Rattle.model.specs.Calls.{front, insert as insertCall};
 ghost use Rattle.lent.specs.Lent.{treeOf, stateOf};
@@ -65,19 +66,19 @@ fn add_rest(
     len: &mut [usize],
     run: &mut [usize],
     words: &mut [u64],
+    books: &mut [u64],
     path_node: &mut [usize],
     path_len: &mut [usize],
-    x: Small,
     hashes: &[u64],
     m: Match,
     found_node: &[usize],
     found_len: &[usize],
-) -> Small
-    requires { ⌜ ((ss : List Seg) × LeafRoom ss (treeOf (now parent) (now depth) (now len) (now run) (now words) (nodesIn (x .books)) (usedIn (x .books))) (pathListOf (now «path_node») (now «path_len»)) (now hashes) m (pathListOf (now «found_node») (now «found_len»))) ⌝ }
-    ensures { λ r. ⌜ ((ss : List Seg) (cuts : List CutAt) (c : Ranges) (p : Pins) (marks bytes : List ℕ) → Found ss m (pathListOf (now («found_node» .entry)) (now («found_len» .entry))) → Left (withLeaf (now (hashes .entry)) ss cuts (stateOf (treeOf (now (parent .entry)) (now (depth .entry)) (now (len .entry)) (now (run .entry)) (now (words .entry)) (nodesIn (x .books)) (usedIn (x .books))) c p marks bytes (x .books))) (pathListOf (now («path_node» .entry)) (now («path_len» .entry))) (stateOf (treeOf (now (parent .exit)) (now (depth .exit)) (now (len .exit)) (now (run .exit)) (now (words .exit)) (nodesIn (r .books)) (usedIn (r .books))) c p marks bytes (r .books)) (pathListOf (now («path_node» .exit)) (now («path_len» .exit)))) ⌝ }
+)
+    requires { ⌜ ((ss : List Seg) × LeafRoom ss (treeOf (now parent) (now depth) (now len) (now run) (now words) (nodesIn (now books)) (usedIn (now books))) (now books) (pathListOf (now «path_node») (now «path_len»)) (now hashes) m (pathListOf (now «found_node») (now «found_len»))) ⌝ }
+    ensures { λ _. ⌜ ((ss : List Seg) (split : Split) (c : Ranges) (p : Pins) (marks bytes : List ℕ) → Found ss m (pathListOf (now («found_node» .entry)) (now («found_len» .entry))) → Left (withLeaf (now (hashes .entry)) ss split (stateOf (treeOf (now (parent .entry)) (now (depth .entry)) (now (len .entry)) (now (run .entry)) (now (words .entry)) (nodesIn (now (books .entry))) (usedIn (now (books .entry)))) c p marks bytes (now (books .entry)))) (pathListOf (now («path_node» .entry)) (now («path_len» .entry))) (stateOf (treeOf (now (parent .exit)) (now (depth .exit)) (now (len .exit)) (now (run .exit)) (now (words .exit)) (nodesIn (now (books .exit))) (usedIn (now (books .exit)))) c p marks bytes (now (books .exit))) (pathListOf (now («path_node» .exit)) (now («path_len» .exit)))) ⌝ }
 {
-    let nodes = x.books[0] as usize;
-    let used = x.books[1] as usize;
+    let nodes = books[0] as usize;
+    let used = books[1] as usize;
     let rest = hashes.len() - m.blocks;
     add_leaf(
         parent,
@@ -100,9 +101,7 @@ fn add_rest(
         nodes,
         rest,
     );
-    let mut y = x;
-    put_counts(&mut y.books, nodes + 1, used + rest);
-    y
+    put_counts(books, nodes + 1, used + rest);
 }
 
 // What insert does once it has made its tests. A cut's node is numbered before the leaf.
@@ -125,56 +124,56 @@ fn insert_found(
     pin_count: &mut [u64],
     marks: &mut [usize],
     bytes: &[u64],
+    books: &mut [u64],
     path_node: &mut [usize],
     path_len: &mut [usize],
-    x: Small,
     hashes: &[u64],
     m: Match,
     found_node: &[usize],
     found_len: &[usize],
-) -> Insertion
-    requires { ⌜ Passed (stateFrom (now parent) (now depth) (now len) (now run) (now words) (now node) (now start) (now end) (now id) (now stamp) (now touched) (now write) (now «pin_node») (now «pin_start») (now «pin_end») (now «pin_count») (now marks) (now bytes) x) (pathListOf (now «path_node») (now «path_len»)) (now hashes) m (pathListOf (now «found_node») (now «found_len»)) ⌝ }
-    ensures { λ r. ⌜ outcome (stateFrom (now (parent .exit)) (now (depth .exit)) (now (len .exit)) (now (run .exit)) (now (words .exit)) (now (node .exit)) (now (start .exit)) (now (end .exit)) (now (id .exit)) (now (stamp .exit)) (now (touched .exit)) (now (write .exit)) (now («pin_node» .exit)) (now («pin_start» .exit)) (now («pin_end» .exit)) (now («pin_count» .exit)) (now (marks .exit)) (now (bytes .entry)) (r .small)) (pathListOf (now («path_node» .exit)) (now («path_len» .exit))) (insertedOf (r .answer)) ≡ insertCall (stateFrom (now (parent .entry)) (now (depth .entry)) (now (len .entry)) (now (run .entry)) (now (words .entry)) (now (node .entry)) (now (start .entry)) (now (end .entry)) (now (id .entry)) (now (stamp .entry)) (now (touched .entry)) (now (write .entry)) (now («pin_node» .entry)) (now («pin_start» .entry)) (now («pin_end» .entry)) (now («pin_count» .entry)) (now (marks .entry)) (now (bytes .entry)) x) (pathListOf (now («path_node» .entry)) (now («path_len» .entry))) (now (hashes .entry)) ⌝ }
+) -> Inserted
+    requires { ⌜ Passed (stateFrom (now parent) (now depth) (now len) (now run) (now words) (now node) (now start) (now end) (now id) (now stamp) (now touched) (now write) (now «pin_node») (now «pin_start») (now «pin_end») (now «pin_count») (now marks) (now bytes) (now books)) (pathListOf (now «path_node») (now «path_len»)) (now hashes) m (pathListOf (now «found_node») (now «found_len»)) ⌝ }
+    ensures { λ r. ⌜ outcome (stateFrom (now (parent .exit)) (now (depth .exit)) (now (len .exit)) (now (run .exit)) (now (words .exit)) (now (node .exit)) (now (start .exit)) (now (end .exit)) (now (id .exit)) (now (stamp .exit)) (now (touched .exit)) (now (write .exit)) (now («pin_node» .exit)) (now («pin_start» .exit)) (now («pin_end» .exit)) (now («pin_count» .exit)) (now (marks .exit)) (now (bytes .entry)) (now (books .exit))) (pathListOf (now («path_node» .exit)) (now («path_len» .exit))) (insertedOf r) ≡ insertCall (stateFrom (now (parent .entry)) (now (depth .entry)) (now (len .entry)) (now (run .entry)) (now (words .entry)) (now (node .entry)) (now (start .entry)) (now (end .entry)) (now (id .entry)) (now (stamp .entry)) (now (touched .entry)) (now (write .entry)) (now («pin_node» .entry)) (now («pin_start» .entry)) (now («pin_end» .entry)) (now («pin_count» .entry)) (now (marks .entry)) (now (bytes .entry)) (now (books .entry))) (pathListOf (now («path_node» .entry)) (now («path_len» .entry))) (now (hashes .entry)) ⌝ }
 {
     let count = hashes.len();
     if count <= m.blocks {
         lay_path(path_node, path_len, found_node, found_len, m.segs);
-        return Insertion {
-            small: x,
-            answer: Inserted::Whole(Path {
+        return Inserted::Done(InsertAnswer {
+            path: Path {
                 segs: m.segs,
                 blocks: m.blocks,
-            }),
-        };
+            },
+            split: Split::No,
+        });
     }
     let j = m.node;
     let k = m.len;
     let segs = m.segs + 1;
     if len[j] <= k {
-        let y = add_rest(
+        add_rest(
             parent,
             depth,
             len,
             run,
             words,
+            books,
             path_node,
             path_len,
-            x,
             hashes,
             m,
             found_node,
             found_len,
         );
-        return Insertion {
-            small: y,
-            answer: Inserted::Whole(Path {
+        return Inserted::Done(InsertAnswer {
+            path: Path {
                 segs,
                 blocks: count,
-            }),
-        };
+            },
+            split: Split::No,
+        });
     }
-    let new = x.books[0] as usize;
-    let y = cut_all(
+    let new = books[0] as usize;
+    cut_all(
         &mut *parent,
         &mut *depth,
         &mut *len,
@@ -193,38 +192,35 @@ fn insert_found(
         &mut *pin_count,
         &mut *marks,
         bytes,
-        x,
+        &mut *books,
         j,
         k,
     );
-    let z = add_rest(
+    add_rest(
         parent,
         depth,
         len,
         run,
         words,
+        books,
         path_node,
         path_len,
-        y,
         hashes,
         m,
         found_node,
         found_len,
     );
-    Insertion {
-        small: z,
-        answer: Inserted::Split(
-            Path {
-                segs,
-                blocks: count,
-            },
-            Cut {
-                node: j,
-                at: k,
-                new,
-            },
-        ),
-    }
+    Inserted::Done(InsertAnswer {
+        path: Path {
+            segs,
+            blocks: count,
+        },
+        split: Split::At(Cut {
+            node: j,
+            at: k,
+            new,
+        }),
+    })
 }
 
 // Insert: the tests first, on a path found in arrays of its own, for a refusal writes nothing.
@@ -247,22 +243,19 @@ pub fn insert(
     pin_count: &mut [u64],
     marks: &mut [usize],
     bytes: &[u64],
+    books: &mut [u64],
     path_node: &mut [usize],
     path_len: &mut [usize],
-    x: Small,
     hashes: &[u64],
-) -> Insertion
-    requires { ⌜ Sound (stateFrom (now parent) (now depth) (now len) (now run) (now words) (now node) (now start) (now end) (now id) (now stamp) (now touched) (now write) (now «pin_node») (now «pin_start») (now «pin_end») (now «pin_count») (now marks) (now bytes) x) × PathFits (pathListOf (now «path_node») (now «path_len»)) ⌝ }
-    ensures { λ r. ⌜ outcome (stateFrom (now (parent .exit)) (now (depth .exit)) (now (len .exit)) (now (run .exit)) (now (words .exit)) (now (node .exit)) (now (start .exit)) (now (end .exit)) (now (id .exit)) (now (stamp .exit)) (now (touched .exit)) (now (write .exit)) (now («pin_node» .exit)) (now («pin_start» .exit)) (now («pin_end» .exit)) (now («pin_count» .exit)) (now (marks .exit)) (now (bytes .entry)) (r .small)) (pathListOf (now («path_node» .exit)) (now («path_len» .exit))) (insertedOf (r .answer)) ≡ insertCall (stateFrom (now (parent .entry)) (now (depth .entry)) (now (len .entry)) (now (run .entry)) (now (words .entry)) (now (node .entry)) (now (start .entry)) (now (end .entry)) (now (id .entry)) (now (stamp .entry)) (now (touched .entry)) (now (write .entry)) (now («pin_node» .entry)) (now («pin_start» .entry)) (now («pin_end» .entry)) (now («pin_count» .entry)) (now (marks .entry)) (now (bytes .entry)) x) (pathListOf (now («path_node» .entry)) (now («path_len» .entry))) (now (hashes .entry)) ⌝ }
+) -> Inserted
+    requires { ⌜ Sound (stateFrom (now parent) (now depth) (now len) (now run) (now words) (now node) (now start) (now end) (now id) (now stamp) (now touched) (now write) (now «pin_node») (now «pin_start») (now «pin_end») (now «pin_count») (now marks) (now bytes) (now books)) × PathFits (pathListOf (now «path_node») (now «path_len»)) ⌝ }
+    ensures { λ r. ⌜ outcome (stateFrom (now (parent .exit)) (now (depth .exit)) (now (len .exit)) (now (run .exit)) (now (words .exit)) (now (node .exit)) (now (start .exit)) (now (end .exit)) (now (id .exit)) (now (stamp .exit)) (now (touched .exit)) (now (write .exit)) (now («pin_node» .exit)) (now («pin_start» .exit)) (now («pin_end» .exit)) (now («pin_count» .exit)) (now (marks .exit)) (now (bytes .entry)) (now (books .exit))) (pathListOf (now («path_node» .exit)) (now («path_len» .exit))) (insertedOf r) ≡ insertCall (stateFrom (now (parent .entry)) (now (depth .entry)) (now (len .entry)) (now (run .entry)) (now (words .entry)) (now (node .entry)) (now (start .entry)) (now (end .entry)) (now (id .entry)) (now (stamp .entry)) (now (touched .entry)) (now (write .entry)) (now («pin_node» .entry)) (now («pin_start» .entry)) (now («pin_end» .entry)) (now («pin_count» .entry)) (now (marks .entry)) (now (bytes .entry)) (now (books .entry))) (pathListOf (now («path_node» .entry)) (now («path_len» .entry))) (now (hashes .entry)) ⌝ }
 {
     let count = hashes.len();
     if 1024 < count {
-        return Insertion {
-            small: x,
-            answer: Inserted::Refused(3),
-        };
+        return Inserted::Refused(3);
     }
-    let nodes = x.books[0] as usize;
+    let nodes = books[0] as usize;
     let mut found_node = [0usize; 255];
     let mut found_len = [0usize; 255];
     let m = resolve(
@@ -283,15 +276,12 @@ pub fn insert(
         &*pin_node,
         &*pin_start,
         &*pin_end,
-        x,
+        books,
         m,
         count,
     );
     if number != 0 {
-        return Insertion {
-            small: x,
-            answer: Inserted::Refused(number),
-        };
+        return Inserted::Refused(number);
     }
     insert_found(
         parent,
@@ -312,9 +302,9 @@ pub fn insert(
         pin_count,
         marks,
         bytes,
+        books,
         path_node,
         path_len,
-        x,
         hashes,
         m,
         &found_node,

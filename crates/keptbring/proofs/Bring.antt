@@ -114,7 +114,7 @@ module _ (t : Tree) (table : List ℕ) (next : ℕ) (x : Store) (sp : Span) (tim
   pub bring-steady : Steady x (bring t table x next sp time write .store)
   unfolding giveBack keep
   bring-steady =
-      bring-cases (λ k b. Steady x (b .store)) (λ e. steady-same x) (λ c. record { capacity = refl; policy = refl; pins = refl; entries = refl; pinned = refl })
+      bring-cases (λ k b. Steady x (b .store)) (λ e. steady-same x) (λ c. record { book = refl; pins = refl })
 
   -- a bring-in that does not stall leaves no more than the capacity
   pub bring-fits : StoreSound t next x → bring t table x next sp time write .stalled ≡ false

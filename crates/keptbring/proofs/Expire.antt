@@ -101,7 +101,7 @@ module _ (t : Tree) (table : List ℕ) (x : Store) (now seconds : Float) where
 
   pub expire-steady : Steady x (expire t table x now seconds .store)
   unfolding expire
-  expire-steady = record { capacity = refl; policy = refl; pins = refl; entries = refl; pinned = refl }
+  expire-steady = record { book = refl; pins = refl }
 
   pub expire-ends : oldest now seconds (expire t table x now seconds .store .ranges) ≡ none
   unfolding expire

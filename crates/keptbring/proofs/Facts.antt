@@ -1,6 +1,6 @@
 -- Laws of what holds of each element, of every two in order, and of the ids; and of a list that is a part of another, element by element. Assumes nothing.
 use Prim.Native.Nat.{ℕ, zero, suc, _≤_, _<_, zero-le}
-use mathlib.Core.Path.{_≡_, refl, sym, subst}
+use mathlib.Core.Path.{_≡_, refl, sym, subst, ap}
 use mathlib.Core.Logic.{_⊎_, inl, inr, ⊎-elim}
 use mathlib.Core.List.{List, [], _∷_, _++_}
 use native.Mathlib.Omega.{arith}
@@ -8,7 +8,8 @@ use native.Mathlib.Nat.{le-refl}
 use lib.ListN.{length, getD}
 use Rattle.model.specs.State.{Tree, Range}
 use Rattle.model.specs.Sound.{IdBetween, StampBetween}
-use Rattle.model.specs.Store.{Store}
+use Rattle.model.specs.declared.Book.{Book}
+use Rattle.model.specs.Store.{Store, ranged}
 use Rattle.kept.specs.Facts.{All, InOrder, IdApart, ApartFrom, HasId, IdsFrom}
 use Rattle.kept.specs.StoreSound.{RangesSound, StoreSound}
 
@@ -193,14 +194,25 @@ apart-sym (r ∷ rs) qs a = all-both (λ q k h. (λ e. k (sym e), h)) qs (a .0) 
 -- ---- what a call that moves no pin leaves of a store as it was
 
 pub record Steady (x y : Store) : Type 0 where
-  pub capacity : y .book .capacity ≡ x .book .capacity
-  pub policy : y .book .policy ≡ x .book .policy
+  pub book : y .book ≡ ranged (x .book) (y .book .records) (y .book .held) (y .book .stamp) (y .book .version)
   pub pins : y .pins ≡ x .pins
-  pub entries : y .book .entries ≡ x .book .entries
-  pub pinned : y .book .pinned ≡ x .book .pinned
+
+-- so these numbers are as they were
+module _ {x y : Store} (s : Steady x y) where
+  pub steady-capacity : y .book .capacity ≡ x .book .capacity
+  steady-capacity = ap (λ (b : Book). b .capacity) (s .book)
+
+  pub steady-policy : y .book .policy ≡ x .book .policy
+  steady-policy = ap (λ (b : Book). b .policy) (s .book)
+
+  pub steady-entries : y .book .entries ≡ x .book .entries
+  steady-entries = ap (λ (b : Book). b .entries) (s .book)
+
+  pub steady-pinned : y .book .pinned ≡ x .book .pinned
+  steady-pinned = ap (λ (b : Book). b .pinned) (s .book)
 
 pub steady-same : (x : Store) → Steady x x
-steady-same x = record { capacity = refl; policy = refl; pins = refl; entries = refl; pinned = refl }
+steady-same x = record { book = refl; pins = refl }
 
 -- ---- a later next id, a later stamp
 

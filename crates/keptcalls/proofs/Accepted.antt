@@ -45,13 +45,18 @@ module _ {L A : Type 0} {cs : List Condition} {st : State} {l : L} (st′ : Stat
   accepted-none : KeptWhenRefused cs st l (outcome st l st′ l′ v 0) → NoneHolds cs
   accepted-none k = none-holds cs (λ h. let e = k .refuses h .1 in let z : _≡_ {A = ℕ} 0 1 = cc in omega arith)
 
-  pub unless-sound : KeptWhenRefused cs st l (outcome st l st′ l′ v (firstOf cs)) → Sound st → (NoneHolds cs → Sound st′)
-      → Sound (outcome st l st′ l′ v (firstOf cs) .state)
-  unless-sound k h f = go (firstOf cs) k
+  -- what holds of the state before, and of st′ where no condition does, holds of the state after
+  pub unless-holds : (P : State → Type 0) → KeptWhenRefused cs st l (outcome st l st′ l′ v (firstOf cs)) → P st → (NoneHolds cs → P st′)
+      → P (outcome st l st′ l′ v (firstOf cs) .state)
+  unless-holds P k h f = go (firstOf cs) k
     where
-      go : (n : ℕ) → KeptWhenRefused cs st l (outcome st l st′ l′ v n) → Sound (outcome st l st′ l′ v n .state)
+      go : (n : ℕ) → KeptWhenRefused cs st l (outcome st l st′ l′ v n) → P (outcome st l st′ l′ v n .state)
       go zero k = f (accepted-none k)
       go (suc n) k = h
+
+  pub unless-sound : KeptWhenRefused cs st l (outcome st l st′ l′ v (firstOf cs)) → Sound st → (NoneHolds cs → Sound st′)
+      → Sound (outcome st l st′ l′ v (firstOf cs) .state)
+  unless-sound k h f = unless-holds Sound k h f
 
   pub unless-done : KeptWhenRefused cs st l (outcome st l st′ l′ v (firstOf cs)) → (a : A) → outcome st l st′ l′ v (firstOf cs) .answer ≡ done a
       → Accepted cs st′ v (outcome st l st′ l′ v (firstOf cs)) a

@@ -1,21 +1,21 @@
--- Every public call keeps every clause of a sound state, accepted or refused. Assumes nothing.
+-- Every public call keeps every clause of a sound state, accepted or refused; and an unpin what every store holds. Assumes nothing.
 use Prim.Native.Nat.{ℕ, _+_}
-use mathlib.Core.Path.{_≡_}
+use mathlib.Core.Path.{_≡_, refl}
 use mathlib.Core.Bool.{Bool}
 use mathlib.Core.List.{List}
 use native.Mathlib.Omega.{arith}
 use lib.Ieee.{Float}
 use Rattle.model.specs.declared.Span.{Span}
 use Rattle.model.specs.Sizes.{storeRecords, storePins}
-use Rattle.model.specs.State.{State, at, storesOf, recordsOf, entriesOf}
+use Rattle.model.specs.State.{State, at, storesOf, recordsOf, heldOf, entriesOf}
 use Rattle.model.specs.Sound.{Sound}
 use Rattle.model.specs.Refusals.{PathList, OutList, SpanIn, noSpan, cutRecords, cutEntries}
 use Rattle.model.specs.Calls.{done, LookupLists, setUp, resolveCall, insert, storeInsert, storeUsed, storeRemove, storeExpire, pinSource, unpinSource, lookup, heldCall, capacityCall, pinnedCall, availableCall, versionCall, stallsCall}
 use Rattle.sure.proofs.Refused.{setUp-kept, resolve-kept, insert-kept, storeInsert-kept, storeUsed-kept, storeRemove-kept, storeExpire-kept, pin-kept, unpin-kept, lookup-kept, held-kept, capacity-kept, pinned-kept, available-kept, version-kept, stalls-kept}
 use Rattle.laid.proofs.SetUp
 use Rattle.keptbring.proofs.Facts.{all-from}
-use Rattle.keptcalls.proofs.Accepted.{unless-sound, unless-same, unless-done, neither, each-fits, span-in, is-finite, set-up-fits}
-use Rattle.keptcalls.proofs.Stores.{bringIn-sound, touchSpans-sound, removeIn-sound, expireIn-sound, pinIn-sound, unpinIn-sound}
+use Rattle.keptcalls.proofs.Accepted.{unless-holds, unless-sound, unless-same, unless-done, neither, each-fits, span-in, is-finite, set-up-fits}
+use Rattle.keptcalls.proofs.Stores.{bringIn-sound, touchSpans-sound, removeIn-sound, expireIn-sound, pinIn-sound, unpinIn-sound, unpinIn-held}
 use Rattle.keptcalls.proofs.Insert.{insertPath-sound}
 
 -- an accepted set-up; a refused one gives the pools back
@@ -78,6 +78,13 @@ unfolding unpinSource
 unpin-sound st s sp h =
     unless-sound _ _ _ (unpin-kept st s sp) h
     (λ (unsound, (noStore, (badSpan, (noEntry, end)))). unpinIn-sound st s h (omega arith) sp)
+
+-- "unpin .. never trims": accepted or refused, every store's held blocks are what they were
+pub unpin-held : (st : State) (s : ℕ) (sp : Span) → Sound st → (q : ℕ) → heldOf (unpinSource st s sp .state) q ≡ heldOf st q
+unfolding unpinSource
+unpin-held st s sp h q =
+    unless-holds _ _ _ (λ x. heldOf x q ≡ heldOf st q) (unpin-kept st s sp) refl
+    (λ (unsound, (noStore, rest)). unpinIn-held st s h (omega arith) sp q)
 
 -- ---- calls that only read: the state is the same, and so as sound
 

@@ -10,6 +10,12 @@ use lib.ListN.{length, length-append}
 use lib.Dec.{eqb}
 use lib.Ieee.{Float}
 use Rattle.model.specs.declared.Span.{Span}
+use Rattle.model.specs.declared.ResolveAnswer.{ResolveAnswer}
+use Rattle.model.specs.declared.InsertAnswer.{InsertAnswer}
+use Rattle.model.specs.declared.BringAnswer.{BringAnswer}
+use Rattle.model.specs.declared.RemoveAnswer.{RemoveAnswer}
+use Rattle.model.specs.declared.ExpireAnswer.{ExpireAnswer}
+use Rattle.model.specs.declared.LookupAnswer.{LookupAnswer}
 use Rattle.model.specs.Sizes.{maxNodes, maxHashes, storeRecords, pathPlaces, outPlaces, tierPlaces}
 use Rattle.model.specs.State.{State, at, storesOf, nextIdOf, recordsOf}
 use Rattle.model.specs.Sound.{Sound}
@@ -20,7 +26,7 @@ use Rattle.model.specs.Expire.{expire}
 use Rattle.model.specs.Lookup.{TierSpan, Looked, firstTier, along, lookupPath}
 use Rattle.model.specs.Insert.{adds, endsInside, withLeaf, cutFirst, grow, insertPath}
 use Rattle.model.specs.Refusals.{PathList, OutList, SpanIn, nodeNeed}
-use Rattle.model.specs.Calls.{done, LookupLists, Path, InsertAnswer, LookupAnswer, resolveCall, insert, brought, storeInsert, storeRemove, storeExpire, lookup}
+use Rattle.model.specs.Calls.{done, LookupLists, resolveCall, insert, brought, storeInsert, storeRemove, storeExpire, lookup}
 use Rattle.sure.proofs.Refused.{resolve-kept, insert-kept, storeInsert-kept, storeRemove-kept, storeExpire-kept, lookup-kept}
 use Rattle.prefix.proofs.Walked.{resolve-within, resolve-few, resolve-255}
 use Rattle.laid.proofs.Store.{records-length}
@@ -100,10 +106,10 @@ lookupPath-fits st ts hs h short = omega (arith, lookup-few st ts (resolve (st .
 
 -- ---- of a call's answer
 
-pub resolve-fits : (st : State) (l : PathList) (hs : List ℕ) (p : Path) → resolveCall st l hs .answer ≡ done p → p .segs ≤ pathPlaces
+pub resolve-fits : (st : State) (l : PathList) (hs : List ℕ) (a : ResolveAnswer) → resolveCall st l hs .answer ≡ done a → a .path .segs ≤ pathPlaces
 unfolding resolveCall
 resolve-fits st l hs =
-    unless-answer _ _ _ (λ p. p .segs ≤ pathPlaces) (resolve-kept st l hs)
+    unless-answer _ _ _ (λ a. a .path .segs ≤ pathPlaces) (resolve-kept st l hs)
     (λ (unsound, (short, (many, end))). resolve-255 st (is-sound st unsound) hs)
 
 pub insert-fits : (st : State) (l : PathList) (hs : List ℕ) (a : InsertAnswer) → insert st l hs .answer ≡ done a → a .path .segs ≤ pathPlaces
@@ -112,24 +118,24 @@ insert-fits st l hs =
     unless-answer _ _ _ (λ a. a .path .segs ≤ pathPlaces) (insert-kept st l hs)
     (λ (unsound, (short, (many, (fewNodes, rest)))). insertPath-fits st hs (is-sound st unsound) (omega arith))
 
-pub storeInsert-fits : (st : State) (l : OutList) (s : ℕ) (sp : Span) (time : Float) (write n : ℕ)
-    → storeInsert st l s sp time write .answer ≡ done n → n ≤ outPlaces
+pub storeInsert-fits : (st : State) (l : OutList) (s : ℕ) (sp : Span) (time : Float) (write : ℕ) (a : BringAnswer)
+    → storeInsert st l s sp time write .answer ≡ done a → a .outs ≤ outPlaces
 unfolding storeInsert
 storeInsert-fits st l s sp time write =
-    unless-answer _ _ _ (λ n. n ≤ outPlaces) (storeInsert-kept st l s sp time write)
+    unless-answer _ _ _ (λ a. a .outs ≤ outPlaces) (storeInsert-kept st l s sp time write)
     (λ (unsound, (short, (noStore, (badSpan, (badTime, (fewRecords, rest)))))). bringIn-fits st s sp time write (omega arith))
 
-pub storeRemove-fits : (st : State) (l : List ℕ) (s : ℕ) (sp : Span) (n : ℕ) → storeRemove st l s sp .answer ≡ done n → n ≤ outPlaces
+pub storeRemove-fits : (st : State) (l : List ℕ) (s : ℕ) (sp : Span) (a : RemoveAnswer) → storeRemove st l s sp .answer ≡ done a → a .writes ≤ outPlaces
 unfolding storeRemove
 storeRemove-fits st l s sp =
-    unless-answer _ _ _ (λ n. n ≤ outPlaces) (storeRemove-kept st l s sp)
+    unless-answer _ _ _ (λ a. a .writes ≤ outPlaces) (storeRemove-kept st l s sp)
     (λ (unsound, (short, (noStore, (badSpan, rest)))). removeIn-fits st s (is-sound st unsound) (omega arith) sp (span-in (st .tree) sp badSpan))
 
-pub storeExpire-fits : (st : State) (l : OutList) (s : ℕ) (now seconds : Float) (n : ℕ) → storeExpire st l s now seconds .answer ≡ done n
-    → n ≤ outPlaces
+pub storeExpire-fits : (st : State) (l : OutList) (s : ℕ) (now seconds : Float) (a : ExpireAnswer) → storeExpire st l s now seconds .answer ≡ done a
+    → a .outs ≤ outPlaces
 unfolding storeExpire
 storeExpire-fits st l s now seconds =
-    unless-answer _ _ _ (λ n. n ≤ outPlaces) (storeExpire-kept st l s now seconds)
+    unless-answer _ _ _ (λ a. a .outs ≤ outPlaces) (storeExpire-kept st l s now seconds)
     (λ (unsound, (short, (noStore, rest))). expireIn-fits st s (is-sound st unsound) (omega arith) now seconds)
 
 -- the path and the tier spans of a lookup

@@ -1,15 +1,17 @@
 -- Each call on a store keeps the state sound: the law of the store's value, laid back into the state. A caller with a sound state in hand cites these: they
 -- ask what the refusals test, and no refusal list. Assumes nothing.
 use Prim.Native.Nat.{ℕ, zero, suc, _+_, _-_, _≤_, _<_, zero-le}
-use mathlib.Core.Path.{_≡_, refl, subst}
+use mathlib.Core.Path.{_≡_, refl, ap, subst}
 use mathlib.Core.Bool.{Bool, true, false}
 use mathlib.Core.List.{List, [], _∷_}
 use native.Mathlib.Omega.{arith}
+use native.Mathlib.Decide.{ℕ-discrete}
 use lib.ListN.{length}
 use lib.Ieee.{Float}
 use Rattle.model.specs.declared.Span.{Span}
+use Rattle.model.specs.declared.Book.{Book}
 use Rattle.model.specs.Sizes.{storeRecords, storePins, maxPinned, maxStamp, maxStalls}
-use Rattle.model.specs.State.{State, at, storesOf, nextIdOf, stallsOf, capacityOf, recordsOf, stampOf, entriesOf, pinnedOf}
+use Rattle.model.specs.State.{State, at, storesOf, nextIdOf, stallsOf, capacityOf, recordsOf, heldOf, stampOf, entriesOf, pinnedOf}
 use Rattle.model.specs.Sound.{Sound, Finite}
 use Rattle.model.specs.Store.{Store, storeOf, withRanges, withPins, withNext}
 use Rattle.model.specs.Trim.{stallsAfter}
@@ -19,7 +21,8 @@ use Rattle.model.specs.Expire.{expire}
 use Rattle.model.specs.Pins.{pin, pinNeed, unpin}
 use Rattle.model.specs.Refusals.{SpanIn, touchedBy, touchSpan, turnRefusals}
 use Rattle.model.specs.Calls.{brought, bringIn, touchSpans}
-use Rattle.laid.proofs.Store.{records-length, entries-length}
+use Rattle.laid.proofs.Books.{book-read, book-other}
+use Rattle.laid.proofs.Store.{sound-roomy, records-length, entries-length}
 use Rattle.kept.specs.Facts.{All, IdsFrom}
 use Rattle.kept.specs.StoreSound.{StoreSound}
 use Rattle.keptbring.proofs.Facts.{Steady}
@@ -158,6 +161,19 @@ module _ (st : State) (s : ℕ) (h : Sound st) (less : s < storesOf st) where
       parts-sound (withPins s 0 (unpin x sp) st)
       (pins-changed st s 0 (unpin x sp) (sound-parts st h) less unmoved (omega (arith, Pins.unpin-length x sp, long)) (omega (arith, own .fewPins, long))
       (Pins.unpin-sound own sp))
+
+  -- an unpin leaves what every store holds
+  pub unpinIn-held : (sp : Span) (q : ℕ) → heldOf (withPins s 0 (unpin (storeOf st s) sp) st) q ≡ heldOf st q
+  unfolding withPins unpin storeOf
+  unpinIn-held sp q = go (ℕ-discrete q s)
+    where
+      go : Dec (q ≡ s) → heldOf (withPins s 0 (unpin (storeOf st s) sp) st) q ≡ heldOf st q
+      go (yes e) =
+          rw e
+          (ap (λ (b : Book). b .held) (book-read s (st .books) (sound-roomy st s h less .store) (h .lent .books) (unpin (storeOf st s) sp .book)))
+      go (no other) =
+          ap (λ (b : Book). b .held)
+          (book-other s (st .books) (sound-roomy st s h less .store) (h .lent .books) (unpin (storeOf st s) sp .book) q other)
 
 -- ---- the spans of a touch, in turn
 

@@ -14,9 +14,9 @@ use lib.Dec.{ltb, eqb}
 use borrow.Author.Tests.{lt-ltb}
 use Rattle.model.specs.Words.{Says, Each}
 use Rattle.model.specs.Sizes.{maxNodes, storeRecords, storePins}
-use Rattle.model.specs.State.{Tree, Range, Pin, at}
+use Rattle.model.specs.State.{Tree, Range, Pin, at, changed}
 use Rattle.model.specs.Sound.{Before, Inside, IdBetween, StampBetween, Finite, PinInside}
-use Rattle.model.specs.Store.{Store, changed, total, onNode, put, plus}
+use Rattle.model.specs.Store.{Store, total, onNode, put, plus}
 use Rattle.model.specs.Pins.{counted, addPin, pinnedIn}
 use Rattle.model.specs.Insert.{nextNode, across, beyond, head, heads, tail, tails, placed, rangesAcross, pinAcross, putPin, pinHead, pinTail, pinPieces, cutPins, pinsAcross, ifHeld, cutMarks, cutStore, cutTree}
 use Rattle.sure.proofs.Says.{lt-sure, eq-sure}

@@ -15,7 +15,7 @@ use Rattle.laid.proofs.Books.{counts-length}
 use Rattle.laid.proofs.Store.{RangesFit, PinsFit, records-length, entries-length}
 use Rattle.kept.specs.Facts.{ApartFrom, IdsFrom}
 use Rattle.kept.specs.StoreSound.{TreeSound, StoreSound, Parts}
-use Rattle.keptbring.proofs.Facts.{ids-same, apart-kept, apart-sym, Steady, store-later}
+use Rattle.keptbring.proofs.Facts.{ids-same, apart-kept, apart-sym, Steady, steady-entries, store-later}
 use Rattle.keptstate.proofs.Lists.{same-tree}
 use Rattle.keptstate.proofs.Laid.{Laid, Sizes, laid-next, laid-ranges, laid-pins}
 
@@ -193,7 +193,7 @@ ranges-fit st s need next y steady few room sound =
       room = room;
       marks = sound .marks .long;
       counted = sound .records;
-      entries = steady .entries;
+      entries = steady-entries steady;
       pins = steady .pins;
     }
 

@@ -21,7 +21,7 @@ use Rattle.model.specs.Touch.{markRead}
 use Rattle.model.specs.Refusals.{SpanIn}
 use Rattle.kept.specs.Facts.{All}
 use Rattle.kept.specs.StoreSound.{RangesSound, MarksSound, StoreSound}
-use Rattle.keptbring.proofs.Facts.{Steady}
+use Rattle.keptbring.proofs.Facts.{Steady, steady-capacity, steady-policy, steady-entries, steady-pinned}
 use Rattle.kepttouch.proofs.Bools.{or-right}
 use Rattle.kepttouch.proofs.Holds.{Filled, In, Holds}
 
@@ -85,18 +85,18 @@ pub steady-sound : {t : Tree} {next later : ℕ} {x y : Store} → StoreSound t 
     → StoreSound t later y
 steady-sound h s counted few stamp ranges held less marks =
     record {
-      capacity = rw (s .capacity) (h .capacity);
-      policy = rw (s .policy) (h .policy);
+      capacity = rw (steady-capacity s) (h .capacity);
+      policy = rw (steady-policy s) (h .policy);
       records = counted;
       few = few;
       stamp = stamp;
       ranges = ranges;
       held = held;
-      heldNone = λ e. omega (arith, h .heldNone (sym (s .capacity) ∙ e));
-      entries = s .entries ∙ h .entries ∙ ap length (sym (s .pins));
+      heldNone = λ e. omega (arith, h .heldNone (sym (steady-capacity s) ∙ e));
+      entries = steady-entries s ∙ h .entries ∙ ap length (sym (s .pins));
       fewPins = rw (s .pins) (h .fewPins);
       pins = rw (s .pins) (h .pins);
-      pinned = s .pinned ∙ h .pinned ∙ ap pinnedIn (sym (s .pins));
-      pinnedMost = rw (s .pinned) (h .pinnedMost);
+      pinned = steady-pinned s ∙ h .pinned ∙ ap pinnedIn (sym (s .pins));
+      pinnedMost = rw (steady-pinned s) (h .pinnedMost);
       marks = marks;
     }

@@ -99,7 +99,7 @@ module _ (x : Store) (next : ℕ) (sp : Span) where
     where
       go : (hits : List Range) → Steady x (removeHits hits x next sp .store)
       go [] = steady-same x
-      go (r ∷ hits) = record { capacity = refl; policy = refl; pins = refl; entries = refl; pinned = refl }
+      go (r ∷ hits) = record { book = refl; pins = refl }
 
   pub remove-stamp : w .store .book .stamp ≡ x .book .stamp
   unfolding remove

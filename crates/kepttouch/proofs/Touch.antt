@@ -41,7 +41,7 @@ module _ (x : Store) (next : ℕ) (sp : Span) (time : Float) where
   turn : (rs : List Range) (ms : List ℕ) (stamp need stamps read : ℕ) → stamp ≡ x .book .stamp + stamps
       → Turned x (record { store = reranged x rs stamp ms; need = need; stamps = stamps; bytes = read })
   turn rs ms stamp need stamps read e =
-      record { steady = record { capacity = refl; policy = refl; pins = refl; entries = refl; pinned = refl }; counted = refl; held = refl; version = refl; stamp = e }
+      record { steady = record { book = refl; pins = refl }; counted = refl; held = refl; version = refl; stamp = e }
 
   refreshed : (on one : Bool) (ms : List ℕ) (read : ℕ) → Turned x (refresh on one x next sp time ms read)
   unfolding renew split

@@ -22,18 +22,24 @@ five-front (a ∷ b ∷ c ∷ []) h = absurd (omega arith)
 five-front (a ∷ b ∷ c ∷ d ∷ []) h = absurd (omega arith)
 five-front (a ∷ b ∷ c ∷ d ∷ e ∷ l) h = refl
 
+-- n numbers of a list from place i on, spelt out
+abbrev spell : ℕ → ℕ → List ℕ → List ℕ
+spell i zero l = []
+spell i (suc n) l = at l i ∷ spell (suc i) n l
+
+spell-tail : (x : ℕ) (l : List ℕ) (i n : ℕ) → spell (suc i) n (x ∷ l) ≡ spell i n l
+spell-tail x l i zero = refl
+spell-tail x l i (suc n) = ap (λ (xs : List ℕ). at l i ∷ xs) (spell-tail x l (suc i) n)
+
+spelt : (l : List ℕ) (n : ℕ) → length l ≡ n → spell 0 n l ≡ l
+spelt [] zero e = refl
+spelt [] (suc n) e = absurd (omega arith)
+spelt (x ∷ l) zero e = absurd (omega arith)
+spelt (x ∷ l) (suc n) e = ap (λ (xs : List ℕ). x ∷ xs) (spell-tail x l 0 n ∙ spelt l n (omega arith))
+
 -- so many numbers make a book
 numbers-from : (l : List ℕ) → length l ≡ storeNumbers → numbers (bookFrom l) ≡ l
-numbers-from [] e = absurd (omega arith)
-numbers-from (a ∷ []) e = absurd (omega arith)
-numbers-from (a ∷ b ∷ []) e = absurd (omega arith)
-numbers-from (a ∷ b ∷ c ∷ []) e = absurd (omega arith)
-numbers-from (a ∷ b ∷ c ∷ d ∷ []) e = absurd (omega arith)
-numbers-from (a ∷ b ∷ c ∷ d ∷ f ∷ []) e = absurd (omega arith)
-numbers-from (a ∷ b ∷ c ∷ d ∷ f ∷ g ∷ []) e = absurd (omega arith)
-numbers-from (a ∷ b ∷ c ∷ d ∷ f ∷ g ∷ h ∷ []) e = absurd (omega arith)
-numbers-from (a ∷ b ∷ c ∷ d ∷ f ∷ g ∷ h ∷ i ∷ []) e = refl
-numbers-from (a ∷ b ∷ c ∷ d ∷ f ∷ g ∷ h ∷ i ∷ j ∷ l) e = absurd (omega arith)
+numbers-from l e = spelt l storeNumbers e
 
 -- ---- a store's numbers
 

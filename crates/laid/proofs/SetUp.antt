@@ -7,7 +7,7 @@ use mathlib.Core.List.{List, [], _∷_, _++_}
 use native.Mathlib.Omega.{arith}
 use native.Mathlib.Nat.{add-zero, zero-add}
 use lib.ListN.{length, getD, take, drop, replicate, length-append, length-replicate, length-set, List·getD-append}
-use lib.Seq.{getD-set-same}
+use lib.Seq.{getD-set-same, drop-drop}
 use Rattle.model.specs.Words.{Each, Pairs}
 use Rattle.model.specs.declared.Book.{Book}
 use Rattle.model.specs.Sizes.{maxStores, maxMarks, maxNumbers, tableLength, storeMarks, storeNumbers}
@@ -32,11 +32,14 @@ unfolding newNumbers
 new-part capacity refreshes rest zero r s less = absurd (omega arith)
 new-part capacity refreshes rest (suc n) r zero less = rw add-zero
 new-part capacity refreshes rest (suc n) r (suc s) less =
-    let e : storeNumbers * suc s ≡ suc (suc (suc (suc (suc (suc (suc (suc (storeNumbers * s)))))))) = omega arith in
-    let f : r + suc s ≡ suc r + s = omega arith in
-    rw (e, f) (new-part capacity refreshes rest n (suc r) s (omega arith))
+    let e : storeNumbers * suc s ≡ storeNumbers + storeNumbers * s = omega arith in
+    let f : suc r + s ≡ r + suc s = omega arith in
+    ap (λ (k : ℕ). take storeNumbers (drop k (newNumbers capacity refreshes r (suc n) ++ rest))) e
+    ∙ ap (λ (l : List ℕ). take storeNumbers l) (sym (drop-drop (storeNumbers * s) storeNumbers (newNumbers capacity refreshes r (suc n) ++ rest)))
+    ∙ new-part capacity refreshes rest n (suc r) s (omega arith)
+    ∙ ap (λ (k : ℕ). numbers (newBook capacity refreshes k)) f
 
-new-length : (capacity : List ℕ) (refreshes : List Bool) (r n : ℕ) → length (newNumbers capacity refreshes r n) ≡ storeNumbers * n
+pub new-length : (capacity : List ℕ) (refreshes : List Bool) (r n : ℕ) → length (newNumbers capacity refreshes r n) ≡ storeNumbers * n
 unfolding newNumbers
 new-length capacity refreshes r zero = refl
 new-length capacity refreshes r (suc n) = omega (arith, new-length capacity refreshes (suc r) n)

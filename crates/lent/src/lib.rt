@@ -1,4 +1,1 @@
-// The small numbers of a state, which go by value and come back by value: five of the whole, then eight of each store. The pools are lent beside them.
-pub struct Small {
-    pub books: [u64; 69],
-}
+// The state that lent pools make: see specs/Lent.

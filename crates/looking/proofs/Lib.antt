@@ -1,4 +1,4 @@
 -- The laws of lookup's outcomes.
-pub mod Sums
 pub mod Records
+pub mod Tiers
 pub mod Outcomes

@@ -1,27 +1,13 @@
--- The stores' record counts, written one by one into an array. Assumes nothing.
-use Prim.Native.Nat.{ℕ, _+_, _<_}
+-- The array of the stores' record counts has each store's at its place. Assumes nothing.
+use Prim.Native.Nat.{ℕ, zero, suc, _<_}
 use mathlib.Core.List.{List}
-use mathlib.Core.Path.{_≡_, _∙_}
+use mathlib.Core.Path.{_≡_, refl, ap, _∙_}
 use native.Mathlib.Omega.{arith}
-use lib.ListN.{length, set, length-set}
-use lib.Seq.{getD-set-same, getD-set-other}
-use borrow.Author.Count.{below-more}
 use Rattle.model.specs.Words.{Each}
+use Rattle.model.specs.Sizes.{maxStores}
 use Rattle.model.specs.State.{at, bookIn}
+use Rattle.books.specs.Books.{recordsIn}
+use Rattle.books.proofs.Laws.{records-at}
 
--- those of the stores below s stand in the array
-pub record Counted (books counts : List ℕ) (s : ℕ) : Type 0 where
-  pub long : length counts ≡ 8
-  pub below : Each 0 s (λ k. at counts k ≡ bookIn books k .records)
-
-pub counted-more : {books counts : List ℕ} {s : ℕ} (n : ℕ) → Counted books counts s → s < 8 → n ≡ bookIn books s .records → Counted books (set counts s n) (s + 1)
-counted-more {books} {counts} {s} n c h e =
-    record {
-      long = length-set counts s n ∙ c .long;
-      below =
-          λ k low high.
-          below-more (λ j. at (set counts s n) j ≡ bookIn books j .records) s
-          (λ j less. getD-set-other counts s j n 0 (omega arith) ∙ c .below j (omega arith) less)
-          (getD-set-same counts s n 0 (omega (arith, c .long)) ∙ e)
-          k high;
-    }
+pub records-each : (l : List ℕ) {rs : List ℕ} → rs ≡ recordsIn l → Each 0 maxStores (λ s. at rs s ≡ bookIn l s .records)
+records-each l e s low high = ap (λ (q : List ℕ). at q s) e ∙ records-at l s high

@@ -1,19 +1,18 @@
+use answers::EachTier;
 use answers::Looked;
-use answers::Path;
 use answers::Reading;
-use lent::Small;
+use model::Path;
 ghost use mathlib.Core.Path.{_≡_};
 ghost use Prim.Native.Nat.{ℕ, _≤_};
 ghost use lib.ListN.{length};
-ghost use Rattle.model.specs.Words.{Each, Says, Some};
-ghost use Rattle.model.specs.State.{at, bookIn};
+ghost use Rattle.model.specs.Words.{Says, Some};
+ghost use Rattle.model.specs.State.{at};
 ghost use Rattle.model.specs.Sound.{Sound};
 ghost use Rattle.model.specs.Refusals.{PathFits, TierFits};
-ghost use Rattle.model.specs.Calls.{zeros};
+ghost use Rattle.model.specs.Calls.{lookup};
 ghost use Rattle.tree.specs.Walk.{pathListOf};
-ghost use Rattle.tiers.specs.Tiers.{tierListOf};
-ghost use Rattle.answers.specs.Answers.{stateFrom};
-ghost use Rattle.looking.specs.Looking.{listsOf, LookedUp};
+ghost use Rattle.tiers.specs.Tiers.{tierListOf, listsOf};
+ghost use Rattle.answers.specs.Answers.{stateFrom, outcome, eachTier, lookedOf};
 
 // Is some tier no store?
 fn no_tier(tiers: &[usize], stores: usize) -> bool
@@ -29,27 +28,18 @@ fn no_tier(tiers: &[usize], stores: usize) -> bool
     false
 }
 
-// How many records each store has.
-fn record_counts(books: &[u64; 69]) -> [usize; 8]
-    ensures { λ r. ⌜ Each 0 8 (λ (s : ℕ). at r s ≡ bookIn (now (books .entry)) s .records) ⌝ }
+fn each_tier(x: [u64; 8]) -> EachTier
+    ensures { λ r. ⌜ eachTier r ≡ x ⌝ }
 {
-    let mut counts = [0; 8];
-    let mut s = 0;
-    while s < 8 {
-        let b = books::book_of(books, s);
-        counts[s] = b.records;
-        s += 1;
-    }
-    counts
-}
-
-fn refused(n: u8) -> Looked
-    ensures { λ r. ⌜ (r .answer ≡ Reading.Refused n) × (r .blocks ≡ zeros) × (r .bytes ≡ zeros) ⌝ }
-{
-    Looked {
-        answer: Reading::Refused(n),
-        blocks: [0; 8],
-        bytes: [0; 8],
+    EachTier {
+        first: x[0],
+        second: x[1],
+        third: x[2],
+        fourth: x[3],
+        fifth: x[4],
+        sixth: x[5],
+        seventh: x[6],
+        eighth: x[7],
     }
 }
 
@@ -73,39 +63,39 @@ pub fn lookup(
     pin_count: &[u64],
     marks: &[usize],
     bytes: &[u64],
+    books: &[u64],
     path_node: &mut [usize],
     path_len: &mut [usize],
     span_tier: &mut [usize],
     span_node: &mut [usize],
     span_start: &mut [usize],
     span_end: &mut [usize],
-    x: Small,
     tiers: &[usize],
     hashes: &[u64],
 ) -> Looked
-    requires { ⌜ Sound (stateFrom (now parent) (now depth) (now len) (now run) (now words) (now node) (now start) (now end) (now id) (now stamp) (now touched) (now write) (now «pin_node») (now «pin_start») (now «pin_end») (now «pin_count») (now marks) (now bytes) x) × PathFits (pathListOf (now «path_node») (now «path_len»)) × TierFits (tierListOf (now «span_tier») (now «span_node») (now «span_start») (now «span_end»)) ⌝ }
-    ensures { λ r. ⌜ LookedUp (stateFrom (now (parent .entry)) (now (depth .entry)) (now (len .entry)) (now (run .entry)) (now (words .entry)) (now (node .entry)) (now (start .entry)) (now (end .entry)) (now (id .entry)) (now (stamp .entry)) (now (touched .entry)) (now (write .entry)) (now («pin_node» .entry)) (now («pin_start» .entry)) (now («pin_end» .entry)) (now («pin_count» .entry)) (now (marks .entry)) (now (bytes .entry)) x) (listsOf (pathListOf (now («path_node» .entry)) (now («path_len» .entry))) (tierListOf (now («span_tier» .entry)) (now («span_node» .entry)) (now («span_start» .entry)) (now («span_end» .entry)))) (now (tiers .entry)) (now (hashes .entry)) (listsOf (pathListOf (now («path_node» .exit)) (now («path_len» .exit))) (tierListOf (now («span_tier» .exit)) (now («span_node» .exit)) (now («span_start» .exit)) (now («span_end» .exit)))) r ⌝ }
+    requires { ⌜ Sound (stateFrom (now parent) (now depth) (now len) (now run) (now words) (now node) (now start) (now end) (now id) (now stamp) (now touched) (now write) (now «pin_node») (now «pin_start») (now «pin_end») (now «pin_count») (now marks) (now bytes) (now books)) × PathFits (pathListOf (now «path_node») (now «path_len»)) × TierFits (tierListOf (now «span_tier») (now «span_node») (now «span_start») (now «span_end»)) ⌝ }
+    ensures { λ r. ⌜ outcome (stateFrom (now (parent .entry)) (now (depth .entry)) (now (len .entry)) (now (run .entry)) (now (words .entry)) (now (node .entry)) (now (start .entry)) (now (end .entry)) (now (id .entry)) (now (stamp .entry)) (now (touched .entry)) (now (write .entry)) (now («pin_node» .entry)) (now («pin_start» .entry)) (now («pin_end» .entry)) (now («pin_count» .entry)) (now (marks .entry)) (now (bytes .entry)) (now (books .entry))) (listsOf (pathListOf (now («path_node» .exit)) (now («path_len» .exit))) (tierListOf (now («span_tier» .exit)) (now («span_node» .exit)) (now («span_start» .exit)) (now («span_end» .exit)))) (lookedOf r) ≡ lookup (stateFrom (now (parent .entry)) (now (depth .entry)) (now (len .entry)) (now (run .entry)) (now (words .entry)) (now (node .entry)) (now (start .entry)) (now (end .entry)) (now (id .entry)) (now (stamp .entry)) (now (touched .entry)) (now (write .entry)) (now («pin_node» .entry)) (now («pin_start» .entry)) (now («pin_end» .entry)) (now («pin_count» .entry)) (now (marks .entry)) (now (bytes .entry)) (now (books .entry))) (listsOf (pathListOf (now («path_node» .entry)) (now («path_len» .entry))) (tierListOf (now («span_tier» .entry)) (now («span_node» .entry)) (now («span_start» .entry)) (now («span_end» .entry)))) (now (tiers .entry)) (now (hashes .entry)) ⌝ }
 {
-    if no_tier(tiers, x.books[2] as usize) {
-        return refused(2);
+    if no_tier(tiers, books[2] as usize) {
+        return Looked::Refused(2);
     }
     if 1024 < hashes.len() {
-        return refused(3);
+        return Looked::Refused(3);
     }
     if 8 < tiers.len() {
-        return refused(3);
+        return Looked::Refused(3);
     }
     let m = tree::resolve(
         parent,
         len,
         run,
         words,
-        x.books[0] as usize,
+        books[0] as usize,
         hashes,
         &mut *path_node,
         &mut *path_len,
     );
-    let records = record_counts(&x.books);
+    let records = books::records_of(books);
     let w = tiers::lookup_resolved(
         depth,
         node,
@@ -124,15 +114,13 @@ pub fn lookup(
     );
     let blocks = w.blocks;
     let sums = w.bytes;
-    Looked {
-        answer: Reading::Done(
-            Path {
-                segs: m.segs,
-                blocks: m.blocks,
-            },
-            w.spans,
-        ),
-        blocks,
-        bytes: sums,
-    }
+    Looked::Done(Reading {
+        path: Path {
+            segs: m.segs,
+            blocks: m.blocks,
+        },
+        spans: w.spans,
+        blocks: each_tier(blocks),
+        bytes: each_tier(sums),
+    })
 }

@@ -6,6 +6,14 @@ use mathlib.Core.List.{List, [], _∷_, _++_, map}
 use lib.ListN.{length, drop, replicate}
 use lib.Ieee.{Float}
 use Rattle.model.specs.declared.Span.{Span}
+use Rattle.model.specs.declared.Path.{Path}
+use Rattle.model.specs.declared.ResolveAnswer.{ResolveAnswer}
+use Rattle.model.specs.declared.InsertAnswer.{InsertAnswer}
+use Rattle.model.specs.declared.BringAnswer.{BringAnswer}
+use Rattle.model.specs.declared.TouchAnswer.{TouchAnswer}
+use Rattle.model.specs.declared.RemoveAnswer.{RemoveAnswer}
+use Rattle.model.specs.declared.ExpireAnswer.{ExpireAnswer}
+use Rattle.model.specs.declared.LookupAnswer.{LookupAnswer}
 use Rattle.model.specs.Sizes.{maxTiers}
 use Rattle.model.specs.State.{State, at, nextIdOf, stallsOf, capacityOf, heldOf, versionOf, pinnedOf}
 use Rattle.model.specs.Tree.{Seg, resolve, blocks}
@@ -17,7 +25,7 @@ use Rattle.model.specs.Remove.{Removed, remove}
 use Rattle.model.specs.Expire.{Expired, expire}
 use Rattle.model.specs.Pins.{pin, pinNeed, unpin}
 use Rattle.model.specs.Lookup.{TierSpan, lookupPath, spanBlocks, spanBytes, tierSums}
-use Rattle.model.specs.Insert.{Cut, Inserted, insertPath}
+use Rattle.model.specs.Insert.{Inserted, insertPath}
 use Rattle.model.specs.SetUp.{setUpState}
 use Rattle.model.specs.Refusals
 
@@ -81,33 +89,23 @@ setUp pools table capacity refreshes =
 
 -- ---- the tree
 
--- how many segments, and how many blocks they cover
-pub record Path : Type 0 where
-  pub segs : ℕ
-  pub blocks : ℕ
-
 abbrev pub pathOf : List Seg → Path
 pathOf ss = record { segs = length ss; blocks = blocks ss }
 
-unfoldable pub resolveCall : State → Refusals.PathList → List ℕ → Outcome Refusals.PathList Path
+unfoldable pub resolveCall : State → Refusals.PathList → List ℕ → Outcome Refusals.PathList ResolveAnswer
 unfolding resolve blocks
 resolveCall st l hs =
     let path = resolve (st .tree) hs in
-    unless (Refusals.firstOf (Refusals.resolveRefusals st l hs)) st l (record { state = st; lists = layPath path l; answer = done (pathOf path) })
-
--- the path, and the cut or none
-pub record InsertAnswer : Type 0 where
-  pub path : Path
-  pub cuts : List Cut
+    unless (Refusals.firstOf (Refusals.resolveRefusals st l hs)) st l (record { state = st; lists = layPath path l; answer = done (record { path = pathOf path }) })
 
 unfoldable pub insert : State → Refusals.PathList → List ℕ → Outcome Refusals.PathList InsertAnswer
 unfolding resolve blocks insertPath
 insert st l hs =
     let w = insertPath hs (resolve (st .tree) hs) st in
     unless (Refusals.firstOf (Refusals.insertRefusals st l hs)) st l
-    (record { state = w .state; lists = layPath (w .path) l; answer = done (record { path = pathOf (w .path); cuts = w .cuts }) })
+    (record { state = w .state; lists = layPath (w .path) l; answer = done (record { path = pathOf (w .path); split = w .split }) })
 
--- ---- the stores. The answer is the number of spans given out, of bytes read, of writes listed
+-- ---- the stores
 
 unfoldable pub brought : State → ℕ → Span → Float → ℕ → Brought
 unfolding bring storeOf
@@ -124,12 +122,12 @@ bringIn st s sp time write =
       | suc c ↦ withNext (nextIdOf st + need) (stallsAfter (w .stalled) (stallsOf st)) (withRanges s need (w .store) st)
     ]
 
-unfoldable pub storeInsert : State → Refusals.OutList → ℕ → Span → Float → ℕ → Outcome Refusals.OutList ℕ
+unfoldable pub storeInsert : State → Refusals.OutList → ℕ → Span → Float → ℕ → Outcome Refusals.OutList BringAnswer
 unfolding brought bringIn
 storeInsert st l s sp time write =
     let outs = brought st s sp time write .outs in
     unless (Refusals.firstOf (Refusals.storeInsertRefusals st l s sp time)) st l
-    (record { state = bringIn st s sp time write; lists = layOuts outs l; answer = done (length outs) })
+    (record { state = bringIn st s sp time write; lists = layOuts outs l; answer = done (record { outs = length outs }) })
 
 -- "a list of up to 64 spans, in turn"
 unfoldable pub touchSpans : State → ℕ → List Span → Float → Bool → State
@@ -141,13 +139,13 @@ bytesTouched st s [] time counted = 0
 bytesTouched st s (sp ∷ sps) time counted =
     Refusals.touchedBy st s sp time counted .bytes + bytesTouched (Refusals.touchSpan st s sp time counted) s sps time counted
 
-unfoldable pub storeUsed : State → ℕ → List Span → Float → Bool → Outcome NoList ℕ
+unfoldable pub storeUsed : State → ℕ → List Span → Float → Bool → Outcome NoList TouchAnswer
 unfolding touchSpans bytesTouched
 storeUsed st s sps time counted =
     unless (Refusals.firstOf (Refusals.storeUsedRefusals st s sps time counted)) st tt
-    (record { state = touchSpans st s sps time counted; lists = tt; answer = done (bytesTouched st s sps time counted) })
+    (record { state = touchSpans st s sps time counted; lists = tt; answer = done (record { bytes = bytesTouched st s sps time counted }) })
 
-unfoldable pub storeRemove : State → List ℕ → ℕ → Span → Outcome (List ℕ) ℕ
+unfoldable pub storeRemove : State → List ℕ → ℕ → Span → Outcome (List ℕ) RemoveAnswer
 unfolding remove storeOf withRanges withNext
 storeRemove st l s sp =
     let w = remove (storeOf st s) (nextIdOf st) sp in
@@ -155,15 +153,15 @@ storeRemove st l s sp =
     (record {
       state = withNext (nextIdOf st + w .need) (stallsOf st) (withRanges s (w .need) (w .store) st);
       lists = front (w .writes) l;
-      answer = done (length (w .writes));
+      answer = done (record { writes = length (w .writes) });
     })
 
-unfoldable pub storeExpire : State → Refusals.OutList → ℕ → Float → Float → Outcome Refusals.OutList ℕ
+unfoldable pub storeExpire : State → Refusals.OutList → ℕ → Float → Float → Outcome Refusals.OutList ExpireAnswer
 unfolding expire storeOf withRanges
 storeExpire st l s now seconds =
     let w = expire (st .tree) (st .bytes) (storeOf st s) now seconds in
     unless (Refusals.firstOf (Refusals.storeExpireRefusals st l s now seconds)) st l
-    (record { state = withRanges s 0 (w .store) st; lists = layOuts (w .outs) l; answer = done (length (w .outs)) })
+    (record { state = withRanges s 0 (w .store) st; lists = layOuts (w .outs) l; answer = done (record { outs = length (w .outs) }) })
 
 unfoldable pub pinSource : State → ℕ → Span → Outcome NoList NoValue
 unfolding pin pinNeed storeOf withPins
@@ -183,13 +181,6 @@ pub record LookupLists : Type 0 where
   pub path : Refusals.PathList
   pub spans : Refusals.TierList
 
--- the path, the number of tier spans, and for each tier the sum of blocks and of bytes
-pub record LookupAnswer : Type 0 where
-  pub path : Path
-  pub spans : ℕ
-  pub blocks : List ℕ
-  pub bytes : List ℕ
-
 unfoldable pub lookup : State → LookupLists → List ℕ → List ℕ → Outcome LookupLists LookupAnswer
 unfolding resolve blocks lookupPath tierSums
 lookup st l ts hs =
@@ -203,26 +194,10 @@ lookup st l ts hs =
           done (record {
             path = pathOf path;
             spans = length spans;
-            blocks = tierSums spanBlocks 0 (length ts) spans;
-            bytes = tierSums (spanBytes st) 0 (length ts) spans;
+            blocks = tierSums spanBlocks 0 maxTiers spans;
+            bytes = tierSums (spanBytes st) 0 maxTiers spans;
           });
     })
-
--- one for each of eight tiers
-abbrev pub eight : {A : Type 0} → A → List A → List A
-eight none xs = xs ++ replicate (maxTiers - length xs) none
-
-abbrev pub zeros : List ℕ
-zeros = replicate maxTiers 0
-
--- the sums as they come back by value beside the answer: eight of each, 0 on refusal and past the tiers
-abbrev pub blockSums : Answer LookupAnswer → List ℕ
-blockSums (refused n) = zeros
-blockSums (done a) = eight 0 (a .blocks)
-
-abbrev pub byteSums : Answer LookupAnswer → List ℕ
-byteSums (refused n) = zeros
-byteSums (done a) = eight 0 (a .bytes)
 
 -- ---- the counters
 

@@ -8,12 +8,20 @@ use lib.ListN.{length, take, replicate}
 use lib.IntN.{pos}
 use lib.Ieee.{Float, binary64, ofInt}
 use Rattle.model.specs.declared.Span.{Span}
+use Rattle.model.specs.declared.Split.{Split}
+use Rattle.model.specs.declared.Split.the-variants as S
+use Rattle.model.specs.declared.ResolveAnswer.{ResolveAnswer}
+use Rattle.model.specs.declared.InsertAnswer.{InsertAnswer}
+use Rattle.model.specs.declared.BringAnswer.{BringAnswer}
+use Rattle.model.specs.declared.TouchAnswer.{TouchAnswer}
+use Rattle.model.specs.declared.RemoveAnswer.{RemoveAnswer}
+use Rattle.model.specs.declared.ExpireAnswer.{ExpireAnswer}
+use Rattle.model.specs.declared.LookupAnswer.{LookupAnswer}
 use Rattle.model.specs.Sizes.{maxNodes, maxWords, maxRecords, maxPins, maxMarks, maxNumbers, tableLength, pathPlaces, outPlaces, tierPlaces}
 use Rattle.model.specs.State.{State, Range, at, stallsOf, heldOf, versionOf}
 use Rattle.model.specs.Store.{Store, storeOf, noTime}
-use Rattle.model.specs.Insert.{Cut}
 use Rattle.model.specs.Refusals.{PathList, OutList, TierList}
-use Rattle.model.specs.Calls.{Answer, refused, done, Outcome, Path, InsertAnswer, LookupLists, LookupAnswer, setUp, resolveCall, insert, storeInsert, storeUsed, storeRemove, storeExpire, pinSource, lookup}
+use Rattle.model.specs.Calls.{Answer, refused, done, Outcome, LookupLists, setUp, resolveCall, insert, storeInsert, storeUsed, storeRemove, storeExpire, pinSource, lookup}
 
 -- ---- pools as they are lent: all zero
 
@@ -90,37 +98,37 @@ time n = ofInt binary64 (pos n)
 
 -- ---- the calls
 
-abbrev pub run1 : Outcome PathList Path
+abbrev pub run1 : Outcome PathList ResolveAnswer
 run1 = resolveCall fresh paths []
 
 abbrev pub run2 : Outcome PathList InsertAnswer
 run2 = insert fresh paths listA
 
-abbrev pub run3 : Outcome PathList Path
+abbrev pub run3 : Outcome PathList ResolveAnswer
 run3 = resolveCall (run2 .state) paths (11 ∷ 12 ∷ [])
 
-abbrev pub run4 : Outcome PathList Path
+abbrev pub run4 : Outcome PathList ResolveAnswer
 run4 = resolveCall (run2 .state) paths (11 ∷ 12 ∷ 13 ∷ 24 ∷ [])
 
 abbrev pub run5 : Outcome PathList InsertAnswer
 run5 = insert (run2 .state) paths listB
 
-abbrev pub run6 : Outcome OutList ℕ
+abbrev pub run6 : Outcome OutList BringAnswer
 run6 = storeInsert (run2 .state) outs 1 (span 0 5) (time 10) 0
 
-abbrev pub run7 : Outcome OutList ℕ
+abbrev pub run7 : Outcome OutList BringAnswer
 run7 = storeInsert (run2 .state) outs 0 (span 0 5) (time 10) 7
 
-abbrev pub run8 : Outcome (Unit {0}) ℕ
+abbrev pub run8 : Outcome (Unit {0}) TouchAnswer
 run8 = storeUsed (run7 .state) 0 (span 1 3 ∷ []) (time 20) true
 
-abbrev pub run9 : Outcome OutList ℕ
+abbrev pub run9 : Outcome OutList BringAnswer
 run9 = storeInsert (run8 .state) outs 0 (span 4 5) (time 30) 0
 
-abbrev pub run10 : Outcome OutList ℕ
+abbrev pub run10 : Outcome OutList ExpireAnswer
 run10 = storeExpire (run9 .state) outs 0 (time 40) (time 20)
 
-abbrev pub run11 : Outcome (List ℕ) ℕ
+abbrev pub run11 : Outcome (List ℕ) RemoveAnswer
 run11 = storeRemove (run10 .state) (blanks outPlaces) 0 (span 1 2)
 
 -- "tiers X, Y; X holds 2-4, Y holds 0-4"
@@ -136,7 +144,7 @@ run12 =
 abbrev pub one : State
 one = insert (setUp pools table (2 ∷ []) (false ∷ []) .state) paths (1 ∷ 2 ∷ 3 ∷ 4 ∷ []) .state
 
-abbrev pub run13 : Outcome OutList ℕ
+abbrev pub run13 : Outcome OutList BringAnswer
 run13 = storeInsert (pinSource (storeInsert one outs 0 (span 0 2) (time 1) 0 .state) 0 (span 0 4) .state) outs 0 (span 2 4) (time 2) 0
 
 -- ---- answers as numbers
@@ -152,17 +160,21 @@ segsOf (suc n) [] ls = []
 segsOf (suc n) (x ∷ ns) [] = []
 segsOf (suc n) (x ∷ ns) (y ∷ ls) = (x ∷ y ∷ []) ∷ segsOf n ns ls
 
-abbrev pub pathSays : Outcome PathList Path → List (List ℕ)
-pathSays o = elim (o .answer) [ refused n ↦ refusal n | done p ↦ (p .blocks ∷ []) ∷ segsOf (p .segs) (o .lists .node) (o .lists .len) ]
+abbrev pub pathSays : Outcome PathList ResolveAnswer → List (List ℕ)
+pathSays o = elim (o .answer) [ refused n ↦ refusal n | done a ↦ (a .path .blocks ∷ []) ∷ segsOf (a .path .segs) (o .lists .node) (o .lists .len) ]
 
 -- node, k and the new number of a cut
+abbrev pub cutSays : Split → List (List ℕ)
+cutSays S.No = []
+cutSays (S.At c) = (c .node ∷ c .at ∷ c .new ∷ []) ∷ []
+
 abbrev pub insertSays : Outcome PathList InsertAnswer → List (List ℕ)
 insertSays o =
     elim (o .answer) [
       | refused n ↦ refusal n
       | done a ↦
           (a .path .blocks ∷ [])
-          ∷ segsOf (a .path .segs) (o .lists .node) (o .lists .len) ++ map (λ c. c .node ∷ c .at ∷ c .new ∷ []) (a .cuts)
+          ∷ segsOf (a .path .segs) (o .lists .node) (o .lists .len) ++ cutSays (a .split)
     ]
 
 -- node, start, end, write, bytes, dead of the first n spans
@@ -174,26 +186,32 @@ outsOf (suc n) l = outsOf n l ++ ((at (l .node) n ∷ at (l .start) n ∷ at (l 
 abbrev pub figures : State → ℕ → List ℕ
 figures st s = heldOf st s ∷ versionOf st s ∷ []
 
-abbrev pub outSays : ℕ → Outcome OutList ℕ → List (List ℕ)
-outSays s o = elim (o .answer) [ refused n ↦ refusal n | done n ↦ outsOf n (o .lists) ++ (figures (o .state) s ∷ []) ]
+abbrev pub outSays : ℕ → State → OutList → ℕ → List (List ℕ)
+outSays s st l n = outsOf n l ++ (figures st s ∷ [])
+
+abbrev pub bringSays : ℕ → Outcome OutList BringAnswer → List (List ℕ)
+bringSays s o = elim (o .answer) [ refused n ↦ refusal n | done a ↦ outSays s (o .state) (o .lists) (a .outs) ]
+
+abbrev pub expireSays : ℕ → Outcome OutList ExpireAnswer → List (List ℕ)
+expireSays s o = elim (o .answer) [ refused n ↦ refusal n | done a ↦ outSays s (o .state) (o .lists) (a .outs) ]
 
 -- start, end, id and stamp of each range of store s
 abbrev pub rangesSay : State → ℕ → List (List ℕ)
 rangesSay st s = map (λ r. r .start ∷ r .end ∷ r .id ∷ r .stamp ∷ []) (storeOf st s .ranges)
 
-abbrev pub touchSays : ℕ → Outcome (Unit {0}) ℕ → List (List ℕ)
-touchSays s o = elim (o .answer) [ refused n ↦ refusal n | done n ↦ (n ∷ []) ∷ rangesSay (o .state) s ]
+abbrev pub touchSays : ℕ → Outcome (Unit {0}) TouchAnswer → List (List ℕ)
+touchSays s o = elim (o .answer) [ refused n ↦ refusal n | done a ↦ (a .bytes ∷ []) ∷ rangesSay (o .state) s ]
 
-abbrev pub removeSays : ℕ → Outcome (List ℕ) ℕ → List (List ℕ)
-removeSays s o = elim (o .answer) [ refused n ↦ refusal n | done n ↦ take n (o .lists) ∷ figures (o .state) s ∷ rangesSay (o .state) s ]
+abbrev pub removeSays : ℕ → Outcome (List ℕ) RemoveAnswer → List (List ℕ)
+removeSays s o = elim (o .answer) [ refused n ↦ refusal n | done a ↦ take (a .writes) (o .lists) ∷ figures (o .state) s ∷ rangesSay (o .state) s ]
 
--- tier, node, start, end of the first n tier spans; then the blocks for each tier
+-- tier, node, start, end of the first n tier spans; then the blocks for each of k tiers
 unfoldable pub tiersOf : ℕ → TierList → List (List ℕ)
 tiersOf zero l = []
 tiersOf (suc n) l = tiersOf n l ++ ((at (l .tier) n ∷ at (l .node) n ∷ at (l .start) n ∷ at (l .end) n ∷ []) ∷ [])
 
-abbrev pub lookupSays : Outcome LookupLists LookupAnswer → List (List ℕ)
-lookupSays o = elim (o .answer) [ refused n ↦ refusal n | done a ↦ tiersOf (a .spans) (o .lists .spans) ++ (a .blocks ∷ []) ]
+abbrev pub lookupSays : ℕ → Outcome LookupLists LookupAnswer → List (List ℕ)
+lookupSays k o = elim (o .answer) [ refused n ↦ refusal n | done a ↦ tiersOf (a .spans) (o .lists .spans) ++ (take k (a .blocks) ∷ []) ]
 
 -- ---- the table
 
@@ -215,21 +233,21 @@ rows =
     ∷ record { computed = pathSays run3; document = (2 ∷ []) ∷ (1 ∷ 2 ∷ []) ∷ [] }
     ∷ record { computed = pathSays run4; document = (3 ∷ []) ∷ (1 ∷ 3 ∷ []) ∷ [] }
     ∷ record { computed = insertSays run5; document = (5 ∷ []) ∷ (1 ∷ 3 ∷ []) ∷ (3 ∷ 2 ∷ []) ∷ (1 ∷ 3 ∷ 2 ∷ []) ∷ [] }
-    ∷ record { computed = outSays 1 run6; document = (1 ∷ 0 ∷ 5 ∷ 0 ∷ 500 ∷ 0 ∷ []) ∷ (0 ∷ 0 ∷ []) ∷ [] }
-    ∷ record { computed = outSays 0 run7; document = (1 ∷ 4 ∷ 5 ∷ 7 ∷ 100 ∷ 100 ∷ []) ∷ (4 ∷ 1 ∷ []) ∷ [] }
+    ∷ record { computed = bringSays 1 run6; document = (1 ∷ 0 ∷ 5 ∷ 0 ∷ 500 ∷ 0 ∷ []) ∷ (0 ∷ 0 ∷ []) ∷ [] }
+    ∷ record { computed = bringSays 0 run7; document = (1 ∷ 4 ∷ 5 ∷ 7 ∷ 100 ∷ 100 ∷ []) ∷ (4 ∷ 1 ∷ []) ∷ [] }
     ∷ record {
       computed = touchSays 0 run8;
       document = (200 ∷ []) ∷ (0 ∷ 1 ∷ 1 ∷ 1 ∷ []) ∷ (1 ∷ 3 ∷ 2 ∷ 2 ∷ []) ∷ (3 ∷ 4 ∷ 3 ∷ 1 ∷ []) ∷ [];
     }
-    ∷ record { computed = outSays 0 run9; document = (1 ∷ 0 ∷ 1 ∷ 7 ∷ 100 ∷ 0 ∷ []) ∷ (4 ∷ 2 ∷ []) ∷ [] }
+    ∷ record { computed = bringSays 0 run9; document = (1 ∷ 0 ∷ 1 ∷ 7 ∷ 100 ∷ 0 ∷ []) ∷ (4 ∷ 2 ∷ []) ∷ [] }
     ∷ record {
-      computed = outSays 0 run10 ++ rangesSay (run10 .state) 0;
+      computed = expireSays 0 run10 ++ rangesSay (run10 .state) 0;
       document = (1 ∷ 3 ∷ 4 ∷ 7 ∷ 100 ∷ 100 ∷ []) ∷ (3 ∷ 3 ∷ []) ∷ (1 ∷ 3 ∷ 2 ∷ 2 ∷ []) ∷ (4 ∷ 5 ∷ 4 ∷ 3 ∷ []) ∷ [];
     }
     ∷ record {
       computed = removeSays 0 run11;
       document = (7 ∷ []) ∷ (2 ∷ 4 ∷ []) ∷ (2 ∷ 3 ∷ 2 ∷ 2 ∷ []) ∷ (4 ∷ 5 ∷ 4 ∷ 3 ∷ []) ∷ [];
     }
-    ∷ record { computed = lookupSays run12; document = (1 ∷ 1 ∷ 0 ∷ 4 ∷ []) ∷ (0 ∷ 4 ∷ []) ∷ [] }
-    ∷ record { computed = outSays 0 run13 ++ ((stallsOf (run13 .state) ∷ []) ∷ []); document = (4 ∷ 0 ∷ []) ∷ (1 ∷ []) ∷ [] }
+    ∷ record { computed = lookupSays 2 run12; document = (1 ∷ 1 ∷ 0 ∷ 4 ∷ []) ∷ (0 ∷ 4 ∷ []) ∷ [] }
+    ∷ record { computed = bringSays 0 run13 ++ ((stallsOf (run13 .state) ∷ []) ∷ []); document = (4 ∷ 0 ∷ []) ∷ (1 ∷ []) ∷ [] }
     ∷ []

@@ -4,9 +4,11 @@ use mathlib.Core.Bool.{Bool, true, false, not, _&&_, _||_}
 use mathlib.Core.List.{List, [], _∷_, _++_, map}
 use lib.ListN.{length, take, drop, set}
 use lib.Dec.{ltb, leb, eqb}
-use Rattle.model.specs.State.{Tree, State, Range, Pin, at, storesOf, nextIdOf, stallsOf}
+use Rattle.model.specs.declared.Split.{Split}
+use Rattle.model.specs.declared.Split.the-variants as S
+use Rattle.model.specs.State.{Tree, State, Range, Pin, at, changed, storesOf, nextIdOf, stallsOf}
 use Rattle.model.specs.Tree.{Seg, blocks}
-use Rattle.model.specs.Store.{Store, storeOf, withRanges, withPins, withNext, layCounts, changed, ranged, lay, part, put, plus, onNode}
+use Rattle.model.specs.Store.{Store, storeOf, withRanges, withPins, withNext, layCounts, ranged, lay, part, put, plus, onNode}
 use Rattle.model.specs.Pins.{addPin, pinnedIn}
 
 -- ---- which numbers and words are free (the places that request P7 changes)
@@ -204,38 +206,33 @@ abbrev pub endsInside : Tree → List Seg → Bool
 endsInside t path = ltb (matchEnd path .len) (at (t .len) (matchEnd path .node))
 
 -- the path, and the cut: the node, k and the new number, or none
-pub record Cut : Type 0 where
-  pub node : ℕ
-  pub at : ℕ
-  pub new : ℕ
-
 pub record Inserted : Type 0 where
   pub state : State
   pub path : List Seg
-  pub cuts : List Cut
+  pub split : Split
 
 -- the state with the leaf under the match's end, and the path that goes on to it
-unfoldable pub withLeaf : List ℕ → List Seg → List Cut → State → Inserted
+unfoldable pub withLeaf : List ℕ → List Seg → Split → State → Inserted
 unfolding addLeaf blocks lastSeg withTree
-withLeaf hs path cuts st =
+withLeaf hs path split st =
     let rest = drop (blocks path) hs in
     record {
       state = withTree (addLeaf (matchEnd path .node) (blocks path) rest (st .tree)) st;
       path = path ++ (record { node = nextNode (st .tree); len = length rest } ∷ []);
-      cuts = cuts;
+      split = split;
     }
 
 -- "if the match ends inside a node at k, cut it"
 abbrev pub cutFirst : Bool → List ℕ → List Seg → State → Inserted
 cutFirst true hs path st =
     let e = matchEnd path in
-    withLeaf hs path (record { node = e .node; at = e .len; new = nextNode (st .tree) } ∷ []) (cut (e .node) (e .len) st)
-cutFirst false hs path st = withLeaf hs path [] st
+    withLeaf hs path (S.At (record { node = e .node; at = e .len; new = nextNode (st .tree) })) (cut (e .node) (e .len) st)
+cutFirst false hs path st = withLeaf hs path S.No st
 
 -- "nothing changes if all matched, the empty list included"
 abbrev pub grow : Bool → List ℕ → List Seg → State → Inserted
 grow true hs path st = cutFirst (endsInside (st .tree) path) hs path st
-grow false hs path st = record { state = st; path = path; cuts = [] }
+grow false hs path st = record { state = st; path = path; split = S.No }
 
 unfoldable pub insertPath : List ℕ → List Seg → State → Inserted
 unfolding withLeaf cut blocks lastSeg

@@ -1,5 +1,5 @@
 -- Document 01, "Sizes". Assumes nothing.
-use Prim.Native.Nat.{ℕ, _-_, _^_}
+use Prim.Native.Nat.{ℕ, _+_, _-_, _*_, _^_}
 
 -- nodes 0 to 255, 0 is the root
 abbrev pub maxNodes : ℕ
@@ -46,7 +46,7 @@ maxMarks = 2048
 
 -- five numbers of the whole, then the stores'
 abbrev pub maxNumbers : ℕ
-maxNumbers = 69
+maxNumbers = 5 + storeNumbers * maxStores
 
 abbrev pub maxPinned : ℕ
 maxPinned = 1000000

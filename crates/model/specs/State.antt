@@ -123,6 +123,20 @@ bookFrom l =
       pinned = at l 7;
     }
 
+-- as a rule changes them
+abbrev pub changed : Book → ℕ → ℕ → ℕ → ℕ → ℕ → ℕ → Book
+changed b records held stamp version entries pinned =
+    record {
+      capacity = b .capacity;
+      policy = b .policy;
+      records = records;
+      held = held;
+      stamp = stamp;
+      version = version;
+      entries = entries;
+      pinned = pinned;
+    }
+
 unfoldable pub bookIn : List ℕ → ℕ → Book
 bookIn l s = bookFrom (take storeNumbers (drop (storeNumbers * s) (partsIn l)))
 

@@ -8,7 +8,7 @@ use lib.IntN.{pos}
 use lib.Ieee.{Float, nan, fin}
 use Rattle.model.specs.declared.Book.{Book}
 use Rattle.model.specs.Sizes.{storeRecords, storePins, storeMarks, storeNumbers}
-use Rattle.model.specs.State.{Ranges, Pins, State, Range, Pin, at, rangeAt, pinAt, whole, nodesIn, usedIn, storesIn, nextIdIn, stallsIn, partsIn, numbers, bookOf, recordsOf, entriesOf}
+use Rattle.model.specs.State.{Ranges, Pins, State, Range, Pin, at, rangeAt, pinAt, whole, nodesIn, usedIn, storesIn, nextIdIn, stallsIn, partsIn, numbers, changed, bookOf, recordsOf, entriesOf}
 
 pub record Store : Type 0 where
   pub book : Book
@@ -123,19 +123,6 @@ withNext next stalls st =
     }
 
 -- ---- a store's own numbers, as a rule changes them
-
-abbrev pub changed : Book → ℕ → ℕ → ℕ → ℕ → ℕ → ℕ → Book
-changed b records held stamp version entries pinned =
-    record {
-      capacity = b .capacity;
-      policy = b .policy;
-      records = records;
-      held = held;
-      stamp = stamp;
-      version = version;
-      entries = entries;
-      pinned = pinned;
-    }
 
 -- so many ranges, the blocks they hold, a stamp and a version; so many pin entries and the blocks they pin
 abbrev pub ranged : Book → ℕ → ℕ → ℕ → ℕ → Book

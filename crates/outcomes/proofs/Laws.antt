@@ -1,29 +1,42 @@
--- A contract that is an equation with the definitions' outcome settles the call: a state has one set of columns and small numbers, an answer's number and
--- values have one case, and the definitions' outcome is refused exactly where a condition holds. Assumes nothing.
+-- A contract that is an equation with the definitions' outcome settles the call: a state has one set of columns, an answer's number and values have one
+-- case, and the definitions' outcome is refused exactly where a condition holds. Assumes nothing.
 use Prim.Native.Nat.{ℕ}
 use mathlib.Core.Path.{_≡_, refl, sym, ap, _∙_}
-use mathlib.Core.List.{List, [], _∷_}
-use native.Mathlib.Omega.{arith}
-use Rattle.model.specs.State.{State, storesOf, nextIdOf, stallsOf}
+use mathlib.Core.List.{List}
+use Rattle.model.specs.declared.ResolveAnswer.{ResolveAnswer}
+use Rattle.model.specs.declared.InsertAnswer.{InsertAnswer}
+use Rattle.model.specs.declared.BringAnswer.{BringAnswer}
+use Rattle.model.specs.declared.TouchAnswer.{TouchAnswer}
+use Rattle.model.specs.declared.RemoveAnswer.{RemoveAnswer}
+use Rattle.model.specs.declared.ExpireAnswer.{ExpireAnswer}
+use Rattle.model.specs.declared.LookupAnswer.{LookupAnswer}
+use Rattle.model.specs.State.{State, at}
 use Rattle.model.specs.Refusals.{Condition}
-use Rattle.model.specs.Insert.{Cut as CutAt}
-use Rattle.model.specs.Calls.{Outcome, Answer, InsertAnswer}
+use Rattle.model.specs.Calls.{Outcome, Answer, refused, done, NoValue}
 use Rattle.sure.specs.Refused.{KeptWhenRefused}
-use Rattle.lent.specs.declared.Small.{Small}
 use Rattle.answers.specs.declared.Plain.{Plain}
-use Rattle.answers.specs.declared.Plain.the-variants as P
+use Rattle.answers.specs.declared.Plain.the-variants as PlainIs
 use Rattle.answers.specs.declared.Count.{Count}
-use Rattle.answers.specs.declared.Count.the-variants as C
+use Rattle.answers.specs.declared.Count.the-variants as CountIs
 use Rattle.answers.specs.declared.Resolved.{Resolved}
-use Rattle.answers.specs.declared.Resolved.the-variants as R
+use Rattle.answers.specs.declared.Resolved.the-variants as ResolvedIs
 use Rattle.answers.specs.declared.Inserted.{Inserted}
-use Rattle.answers.specs.declared.Inserted.the-variants as I
-use Rattle.answers.specs.declared.Path.{Path}
-use Rattle.answers.specs.declared.Cut.{Cut}
-use Rattle.answers.specs.Answers.{outcome, plainOf, countOf, pathFrom, cutFrom, resolvedOf, insertedOf}
+use Rattle.answers.specs.declared.Inserted.the-variants as InsertedIs
+use Rattle.answers.specs.declared.StoreInserted.{StoreInserted}
+use Rattle.answers.specs.declared.StoreInserted.the-variants as StoreInsertedIs
+use Rattle.answers.specs.declared.StoreUsed.{StoreUsed}
+use Rattle.answers.specs.declared.StoreUsed.the-variants as StoreUsedIs
+use Rattle.answers.specs.declared.StoreRemoved.{StoreRemoved}
+use Rattle.answers.specs.declared.StoreRemoved.the-variants as StoreRemovedIs
+use Rattle.answers.specs.declared.StoreExpired.{StoreExpired}
+use Rattle.answers.specs.declared.StoreExpired.the-variants as StoreExpiredIs
+use Rattle.answers.specs.declared.EachTier.{EachTier}
+use Rattle.answers.specs.declared.Looked.{Looked}
+use Rattle.answers.specs.declared.Looked.the-variants as LookedIs
+use Rattle.answers.specs.Answers.{outcome, plainOf, countOf, resolvedOf, insertedOf, storeInsertedOf, storeUsedOf, storeRemovedOf, storeExpiredOf, lookedOf}
 use Rattle.outcomes.specs.Settled.{Pools, World, Left, stateIn, Settled}
 
--- ---- a state's columns and small numbers
+-- ---- a state's columns
 
 poolsOf : State → Pools
 poolsOf s =
@@ -46,85 +59,150 @@ poolsOf s =
       pinCount = s .pins .count;
       marks = s .marks;
       bytes = s .bytes;
+      books = s .books;
     }
 
-smallOf : State → Small
-smallOf s = record { books = s .books }
-
 worldOf : {L : Type 0} → State → L → World L
-worldOf s l = record { pools = poolsOf s; small = smallOf s; lists = l }
+worldOf s l = record { pools = poolsOf s; lists = l }
 
 -- ---- the answers: one case for a number and values
 
-pub plain-one : (a b : Plain) → plainOf a ≡ plainOf b → a ≡ b
-plain-one (P.Refused m) (P.Refused n) e = ap P.Refused (cc)
-plain-one (P.Refused m) P.Done e = absurd (let z : _≡_ {A = ℕ} 0 1 = cc in omega arith)
-plain-one P.Done (P.Refused n) e = absurd (let z : _≡_ {A = ℕ} 0 1 = cc in omega arith)
-plain-one P.Done P.Done e = refl
+abbrev Apart : {A B : Type 0} → (B → Answer A) → Type 0
+Apart {A} {B} f = (a b : B) → f a ≡ f b → a ≡ b
 
-pub count-one : (a b : Count) → countOf a ≡ countOf b → a ≡ b
-count-one (C.Refused m) (C.Refused n) e = ap C.Refused (cc)
-count-one (C.Refused m) (C.Done k) e = absurd (let z : _≡_ {A = ℕ} 0 1 = cc in omega arith)
-count-one (C.Done k) (C.Refused n) e = absurd (let z : _≡_ {A = ℕ} 0 1 = cc in omega arith)
-count-one (C.Done j) (C.Done k) e = ap C.Done (cc)
+-- an answer that is read back from its number and values
+apart : {A B : Type 0} (f : B → Answer A) (back : Answer A → B) → ((b : B) → back (f b) ≡ b) → Apart f
+apart f back same a b e = sym (same a) ∙ ap back e ∙ same b
 
-pub path-one : (p q : Path) → pathFrom p ≡ pathFrom q → p ≡ q
-path-one p q e = ap (λ r. record { segs = r .segs; blocks = r .blocks }) e
+pub plain-one : Apart plainOf
+plain-one = apart plainOf back same
+  where
+    back : Answer NoValue → Plain
+    back (refused n) = PlainIs.Refused n
+    back (done v) = PlainIs.Done
 
-cut-one : (p q : Cut) → cutFrom p ≡ cutFrom q → p ≡ q
-cut-one p q e = ap (λ r. record { node = r .node; at = r .at; new = r .new }) e
+    same : (r : Plain) → back (plainOf r) ≡ r
+    same (PlainIs.Refused n) = refl
+    same PlainIs.Done = refl
 
-pub resolved-one : (a b : Resolved) → resolvedOf a ≡ resolvedOf b → a ≡ b
-resolved-one (R.Refused m) (R.Refused n) e = ap R.Refused (cc)
-resolved-one (R.Refused m) (R.Done q) e = absurd (let z : _≡_ {A = ℕ} 0 1 = cc in omega arith)
-resolved-one (R.Done p) (R.Refused n) e = absurd (let z : _≡_ {A = ℕ} 0 1 = cc in omega arith)
-resolved-one (R.Done p) (R.Done q) e = ap R.Done (path-one p q (cc))
+pub count-one : Apart countOf
+count-one = apart countOf back same
+  where
+    back : Answer ℕ → Count
+    back (refused n) = CountIs.Refused n
+    back (done v) = CountIs.Done v
 
-whole : Path → List CutAt → InsertAnswer
-whole p cuts = record { path = pathFrom p; cuts = cuts }
+    same : (r : Count) → back (countOf r) ≡ r
+    same (CountIs.Refused n) = refl
+    same (CountIs.Done v) = refl
 
-pub inserted-one : (a b : Inserted) → insertedOf a ≡ insertedOf b → a ≡ b
-unfolding whole
-inserted-one (I.Refused m) (I.Refused n) e = ap I.Refused (cc)
-inserted-one (I.Refused m) (I.Whole q) e = absurd (let z : _≡_ {A = ℕ} 0 1 = cc in omega arith)
-inserted-one (I.Refused m) (I.Split q d) e = absurd (let z : _≡_ {A = ℕ} 0 1 = cc in omega arith)
-inserted-one (I.Whole p) (I.Refused n) e = absurd (let z : _≡_ {A = ℕ} 0 1 = cc in omega arith)
-inserted-one (I.Whole p) (I.Whole q) e =
-    let v : whole p [] ≡ whole q [] = cc in
-    ap I.Whole (path-one p q (ap (λ a. a .path) v))
-inserted-one (I.Whole p) (I.Split q d) e =
-    let v : whole p [] ≡ whole q (cutFrom d ∷ []) = cc in
-    let cuts : [] ≡ cutFrom d ∷ [] = ap (λ a. a .cuts) v in
-    absurd (let z : _≡_ {A = ℕ} 0 1 = cc in omega arith)
-inserted-one (I.Split p c) (I.Refused n) e = absurd (let z : _≡_ {A = ℕ} 0 1 = cc in omega arith)
-inserted-one (I.Split p c) (I.Whole q) e =
-    let v : whole p (cutFrom c ∷ []) ≡ whole q [] = cc in
-    let cuts : cutFrom c ∷ [] ≡ [] = ap (λ a. a .cuts) v in
-    absurd (let z : _≡_ {A = ℕ} 0 1 = cc in omega arith)
-inserted-one (I.Split p c) (I.Split q d) e =
-    let v : whole p (cutFrom c ∷ []) ≡ whole q (cutFrom d ∷ []) = cc in
-    let cuts : cutFrom c ∷ [] ≡ cutFrom d ∷ [] = ap (λ a. a .cuts) v in
-    let f : p ≡ q = path-one p q (ap (λ a. a .path) v) in
-    let g : c ≡ d = cut-one c d (cc) in
-    rw (f, g)
+pub resolved-one : Apart resolvedOf
+resolved-one = apart resolvedOf back same
+  where
+    back : Answer ResolveAnswer → Resolved
+    back (refused n) = ResolvedIs.Refused n
+    back (done v) = ResolvedIs.Done v
+
+    same : (r : Resolved) → back (resolvedOf r) ≡ r
+    same (ResolvedIs.Refused n) = refl
+    same (ResolvedIs.Done v) = refl
+
+pub inserted-one : Apart insertedOf
+inserted-one = apart insertedOf back same
+  where
+    back : Answer InsertAnswer → Inserted
+    back (refused n) = InsertedIs.Refused n
+    back (done v) = InsertedIs.Done v
+
+    same : (r : Inserted) → back (insertedOf r) ≡ r
+    same (InsertedIs.Refused n) = refl
+    same (InsertedIs.Done v) = refl
+
+pub storeInserted-one : Apart storeInsertedOf
+storeInserted-one = apart storeInsertedOf back same
+  where
+    back : Answer BringAnswer → StoreInserted
+    back (refused n) = StoreInsertedIs.Refused n
+    back (done v) = StoreInsertedIs.Done v
+
+    same : (r : StoreInserted) → back (storeInsertedOf r) ≡ r
+    same (StoreInsertedIs.Refused n) = refl
+    same (StoreInsertedIs.Done v) = refl
+
+pub storeUsed-one : Apart storeUsedOf
+storeUsed-one = apart storeUsedOf back same
+  where
+    back : Answer TouchAnswer → StoreUsed
+    back (refused n) = StoreUsedIs.Refused n
+    back (done v) = StoreUsedIs.Done v
+
+    same : (r : StoreUsed) → back (storeUsedOf r) ≡ r
+    same (StoreUsedIs.Refused n) = refl
+    same (StoreUsedIs.Done v) = refl
+
+pub storeRemoved-one : Apart storeRemovedOf
+storeRemoved-one = apart storeRemovedOf back same
+  where
+    back : Answer RemoveAnswer → StoreRemoved
+    back (refused n) = StoreRemovedIs.Refused n
+    back (done v) = StoreRemovedIs.Done v
+
+    same : (r : StoreRemoved) → back (storeRemovedOf r) ≡ r
+    same (StoreRemovedIs.Refused n) = refl
+    same (StoreRemovedIs.Done v) = refl
+
+pub storeExpired-one : Apart storeExpiredOf
+storeExpired-one = apart storeExpiredOf back same
+  where
+    back : Answer ExpireAnswer → StoreExpired
+    back (refused n) = StoreExpiredIs.Refused n
+    back (done v) = StoreExpiredIs.Done v
+
+    same : (r : StoreExpired) → back (storeExpiredOf r) ≡ r
+    same (StoreExpiredIs.Refused n) = refl
+    same (StoreExpiredIs.Done v) = refl
+
+pub looked-one : Apart lookedOf
+looked-one = apart lookedOf back same
+  where
+    each : List ℕ → EachTier
+    each l =
+        record {
+          first = at l 0;
+          second = at l 1;
+          third = at l 2;
+          fourth = at l 3;
+          fifth = at l 4;
+          sixth = at l 5;
+          seventh = at l 6;
+          eighth = at l 7;
+        }
+
+    back : Answer LookupAnswer → Looked
+    back (refused n) = LookedIs.Refused n
+    back (done v) = LookedIs.Done (record { path = v .path; spans = v .spans; blocks = each (v .blocks); bytes = each (v .bytes) })
+
+    same : (r : Looked) → back (lookedOf r) ≡ r
+    same (LookedIs.Refused n) = refl
+    same (LookedIs.Done a) = refl
 
 -- ---- the contract
 
-module _ {L A B : Type 0} (f : B → Answer A) (apart : (a b : B) → f a ≡ f b → a ≡ b) where
+module _ {L A B : Type 0} (f : B → Answer A) (one : Apart f) where
   left-one : (a b : Left L B)
       → outcome (stateIn (a .world)) (a .world .lists) (f (a .answer)) ≡ outcome (stateIn (b .world)) (b .world .lists) (f (b .answer))
       → a ≡ b
-  unfolding worldOf poolsOf smallOf
+  unfolding worldOf poolsOf
   left-one a b e =
       let w : a .world ≡ b .world = ap (λ o. worldOf (o .state) (o .lists)) e in
-      let r : a .answer ≡ b .answer = apart (a .answer) (b .answer) (ap (λ o. o .answer) e) in
+      let r : a .answer ≡ b .answer = one (a .answer) (b .answer) (ap (λ o. o .answer) e) in
       ap (λ z. left z (a .answer)) w ∙ ap (λ z. left (b .world) z) r
     where
       left : World L → B → Left L B
       left w r = record { world = w; answer = r }
 
   pub settled : (cs : List Condition) (lent : World L) (o : Outcome L A) → KeptWhenRefused cs (stateIn lent) (lent .lists) o → Settled f cs lent o
-  unfolding worldOf poolsOf smallOf
+  unfolding worldOf poolsOf
   settled cs lent o k =
       record {
         one = λ {a} {b} p q. left-one a b (p ∙ sym q);

@@ -13,7 +13,7 @@ use Rattle.model.specs.Bring.{bringNeed}
 use Rattle.model.specs.Refusals.{pathFits, outFits, tierFits, nodeNeed, newBlocks, cutRecords, cutEntries, cutIds, touchSpan}
 use Rattle.model.specs.Calls.{Outcome, Answer, refused, done, setUp, resolveCall, insert, storeInsert, storeUsed, storeRemove, storeExpire, pinSource, unpinSource, lookup, heldCall, capacityCall, pinnedCall, availableCall, versionCall, stallsCall}
 use Rattle.model.specs.Examples.{multiples, run3, run5, run7, run8, run10, run11, run12}
-use Rattle.answers.specs.Answers.{plainOf, countOf, resolvedOf, insertedOf, lookedOf}
+use Rattle.answers.specs.Answers.{plainOf, countOf, resolvedOf, insertedOf, storeInsertedOf, storeUsedOf, storeRemovedOf, storeExpiredOf, lookedOf}
 use Rattle.outcomes.specs.Rejected.{Rejected, given, number, run0, runPin, runUnpin, runHeld, runCapacity, runVersion, runPinned, runAvailable, runStalls}
 
 -- a contract whose outcome is done, and shows k, rules out a refusal and whatever shows another number
@@ -34,9 +34,9 @@ unfolding bookIn multiples setUp setUpFits
 setUp-wrong = rejected plainOf run0 (λ o. storesOf (o .state)) 0 2 refl refl (λ e. omega arith)
 
 -- two blocks of the list are stored, not none
-pub resolve-wrong : Rejected resolvedOf run3 (λ o. given (λ p. p .blocks) (o .answer)) 0
+pub resolve-wrong : Rejected resolvedOf run3 (λ o. given (λ a. a .path .blocks) (o .answer)) 0
 unfolding bookIn multiples setUp resolveCall insert any sound setUpFits pathFits nodeNeed newBlocks cutRecords cutEntries cutIds
-resolve-wrong = rejected resolvedOf run3 (λ o. given (λ p. p .blocks) (o .answer)) 0 2 refl refl (λ e. omega arith)
+resolve-wrong = rejected resolvedOf run3 (λ o. given (λ a. a .path .blocks) (o .answer)) 0 2 refl refl (λ e. omega arith)
 
 -- a cut and a leaf make two nodes more: the two that there were are not all
 pub insert-wrong : Rejected insertedOf run5 (λ o. o .state .tree .nodes) 2
@@ -44,24 +44,24 @@ unfolding bookIn multiples setUp insert any sound setUpFits pathFits nodeNeed ne
 insert-wrong = rejected insertedOf run5 (λ o. o .state .tree .nodes) 2 4 refl refl (λ e. omega arith)
 
 -- the range's tail, from 4, is given out, and not its head
-pub storeInsert-wrong : Rejected countOf run7 (λ o. at (o .lists .start) 0) 0
+pub storeInsert-wrong : Rejected storeInsertedOf run7 (λ o. at (o .lists .start) 0) 0
 unfolding bookIn multiples setUp insert storeInsert any sound setUpFits bringNeed pathFits outFits nodeNeed newBlocks cutRecords cutEntries cutIds lt sub add neg sum round size units span climb odd trailingZeros ofInt
-storeInsert-wrong = rejected countOf run7 (λ o. at (o .lists .start) 0) 0 4 refl refl (λ e. omega arith)
+storeInsert-wrong = rejected storeInsertedOf run7 (λ o. at (o .lists .start) 0) 0 4 refl refl (λ e. omega arith)
 
 -- 200 bytes are read, not none
-pub storeUsed-wrong : Rejected countOf run8 number 0
+pub storeUsed-wrong : Rejected storeUsedOf run8 (λ o. given (λ a. a .bytes) (o .answer)) 0
 unfolding bookIn multiples setUp insert storeInsert storeUsed any sound setUpFits bringNeed pathFits outFits nodeNeed newBlocks cutRecords cutEntries cutIds touchSpan lt sub add neg sum round size units span climb odd trailingZeros ofInt
-storeUsed-wrong = rejected countOf run8 number 0 200 refl refl (λ e. omega arith)
+storeUsed-wrong = rejected storeUsedOf run8 (λ o. given (λ a. a .bytes) (o .answer)) 0 200 refl refl (λ e. omega arith)
 
 -- one range is past its seconds: the one at exactly 20 stays
-pub storeExpire-wrong : Rejected countOf run10 (λ o. given (λ k. k) (o .answer)) 2
+pub storeExpire-wrong : Rejected storeExpiredOf run10 (λ o. given (λ a. a .outs) (o .answer)) 2
 unfolding bookIn multiples setUp insert storeInsert storeUsed storeExpire any sound setUpFits bringNeed pathFits outFits nodeNeed newBlocks cutRecords cutEntries cutIds touchSpan lt sub add neg sum round size units span climb odd trailingZeros ofInt
-storeExpire-wrong = rejected countOf run10 (λ o. given (λ k. k) (o .answer)) 2 1 refl refl (λ e. omega arith)
+storeExpire-wrong = rejected storeExpiredOf run10 (λ o. given (λ a. a .outs) (o .answer)) 2 1 refl refl (λ e. omega arith)
 
 -- a block went: not all three are held still
-pub storeRemove-wrong : Rejected countOf run11 (λ o. heldOf (o .state) 0) 3
+pub storeRemove-wrong : Rejected storeRemovedOf run11 (λ o. heldOf (o .state) 0) 3
 unfolding bookIn multiples setUp insert storeInsert storeUsed storeExpire storeRemove any sound setUpFits bringNeed pathFits outFits nodeNeed newBlocks cutRecords cutEntries cutIds touchSpan lt sub add neg sum round size units span climb odd trailingZeros ofInt
-storeRemove-wrong = rejected countOf run11 (λ o. heldOf (o .state) 0) 3 2 refl refl (λ e. omega arith)
+storeRemove-wrong = rejected storeRemovedOf run11 (λ o. heldOf (o .state) 0) 3 2 refl refl (λ e. omega arith)
 
 -- the span has an entry afterwards
 pub pin-wrong : Rejected plainOf runPin (λ o. entriesOf (o .state) 0) 0
@@ -74,9 +74,9 @@ unfolding bookIn multiples setUp insert storeInsert pinSource unpinSource any so
 unpin-wrong = rejected plainOf runUnpin (λ o. heldOf (o .state) 0) 2 4 refl refl (λ e. omega arith)
 
 -- one tier answers in one span: not each block's nearest tier in two
-pub lookup-wrong : Rejected (lookedOf 2) run12 (λ o. given (λ a. a .spans) (o .answer)) 2
+pub lookup-wrong : Rejected lookedOf run12 (λ o. given (λ a. a .spans) (o .answer)) 2
 unfolding bookIn multiples setUp insert storeInsert lookup any sound setUpFits bringNeed pathFits outFits tierFits nodeNeed newBlocks cutRecords cutEntries cutIds lt sub add neg sum round size units span climb odd trailingZeros ofInt
-lookup-wrong = rejected (lookedOf 2) run12 (λ o. given (λ a. a .spans) (o .answer)) 2 1 refl refl (λ e. omega arith)
+lookup-wrong = rejected lookedOf run12 (λ o. given (λ a. a .spans) (o .answer)) 2 1 refl refl (λ e. omega arith)
 
 -- ---- the counters
 

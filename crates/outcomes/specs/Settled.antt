@@ -7,7 +7,6 @@ use Rattle.model.specs.State.{State}
 use Rattle.model.specs.Refusals.{Condition, First}
 use Rattle.model.specs.Calls.{Outcome, Answer, refused}
 use Rattle.sure.specs.Refused.{SomeHolds}
-use Rattle.lent.specs.declared.Small.{Small}
 use Rattle.answers.specs.Answers.{stateFrom, outcome}
 
 -- every column that is lent
@@ -30,11 +29,11 @@ pub record Pools : Type 0 where
   pub pinCount : List ℕ
   pub marks : List ℕ
   pub bytes : List ℕ
+  pub books : List ℕ
 
--- the columns, the small numbers and the answer lists
+-- the columns and the answer lists
 pub record World (L : Type 0) : Type 0 where
   pub pools : Pools
-  pub small : Small
   pub lists : L
 
 -- the same as a call leaves it, and its answer
@@ -42,13 +41,13 @@ pub record Left (L B : Type 0) : Type 0 where
   pub world : World L
   pub answer : B
 
-abbrev pub stateAt : Pools → Small → State
-stateAt p x =
+abbrev pub stateAt : Pools → State
+stateAt p =
     stateFrom (p .parent) (p .depth) (p .len) (p .run) (p .words) (p .node) (p .start) (p .end) (p .id) (p .stamp) (p .touched) (p .write) (p .pinNode)
-    (p .pinStart) (p .pinEnd) (p .pinCount) (p .marks) (p .bytes) x
+    (p .pinStart) (p .pinEnd) (p .pinCount) (p .marks) (p .bytes) (p .books)
 
 abbrev pub stateIn : {L : Type 0} → World L → State
-stateIn w = stateAt (w .pools) (w .small)
+stateIn w = stateAt (w .pools)
 
 -- The contract of a call whose outcome by the definitions is o, on what the call leaves. f gives 01's number and values for each case of the answer
 abbrev pub Allows : {L A B : Type 0} → (B → Answer A) → Outcome L A → Left L B → Type 0

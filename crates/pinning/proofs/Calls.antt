@@ -278,8 +278,8 @@ module _ {st : State} (h : Sound st) where
   pub nodes-in : st .tree .nodes ≤ length (st .tree .len)
   nodes-in = omega (arith, h .counts .nodes, h .lent .tree .len)
 
-  pub in-books : {s : ℕ} → s < storesOf st → s < 8
-  in-books {s} less = omega (arith, h .counts .stores)
+  pub in-books : {s : ℕ} → s < storesOf st → (s < 8) × (69 ≤ length (st .books))
+  in-books {s} less = (omega (arith, h .counts .stores), h .lent .books)
 
   pub limits : {s : ℕ} → s < storesOf st → (entriesOf st s ≤ 32) × (pinnedOf st s ≤ 1000000)
   limits {s} less = (h .counts .each s zero-le less .entries, h .counts .each s zero-le less .pinned)

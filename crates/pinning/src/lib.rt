@@ -1,6 +1,4 @@
 use answers::Plain;
-use answers::Plainly;
-use lent::Small;
 use model::Span;
 ghost use mathlib.Core.Path.{_≡_};
 ghost use mathlib.Core.Bool.{true, not, _||_};
@@ -221,46 +219,33 @@ pub fn pin_source(
     pin_count: &mut [u64],
     marks: &[usize],
     bytes: &[u64],
-    x: Small,
+    books: &mut [u64],
     s: usize,
     sp: Span,
-) -> Plainly
-    requires { ⌜ Sound (stateFrom (now parent) (now depth) (now len) (now run) (now words) (now node) (now start) (now end) (now id) (now stamp) (now touched) (now write) (now «pin_node») (now «pin_start») (now «pin_end») (now «pin_count») (now marks) (now bytes) x) ⌝ }
-    ensures { λ r. ⌜ outcome (stateFrom (now (parent .entry)) (now (depth .entry)) (now (len .entry)) (now (run .entry)) (now (words .entry)) (now (node .entry)) (now (start .entry)) (now (end .entry)) (now (id .entry)) (now (stamp .entry)) (now (touched .entry)) (now (write .entry)) (now («pin_node» .exit)) (now («pin_start» .exit)) (now («pin_end» .exit)) (now («pin_count» .exit)) (now (marks .entry)) (now (bytes .entry)) (r .small)) tt (plainOf (r .answer)) ≡ pinSource (stateFrom (now (parent .entry)) (now (depth .entry)) (now (len .entry)) (now (run .entry)) (now (words .entry)) (now (node .entry)) (now (start .entry)) (now (end .entry)) (now (id .entry)) (now (stamp .entry)) (now (touched .entry)) (now (write .entry)) (now («pin_node» .entry)) (now («pin_start» .entry)) (now («pin_end» .entry)) (now («pin_count» .entry)) (now (marks .entry)) (now (bytes .entry)) x) s sp ⌝ }
+) -> Plain
+    requires { ⌜ Sound (stateFrom (now parent) (now depth) (now len) (now run) (now words) (now node) (now start) (now end) (now id) (now stamp) (now touched) (now write) (now «pin_node») (now «pin_start») (now «pin_end») (now «pin_count») (now marks) (now bytes) (now books)) ⌝ }
+    ensures { λ r. ⌜ outcome (stateFrom (now (parent .entry)) (now (depth .entry)) (now (len .entry)) (now (run .entry)) (now (words .entry)) (now (node .entry)) (now (start .entry)) (now (end .entry)) (now (id .entry)) (now (stamp .entry)) (now (touched .entry)) (now (write .entry)) (now («pin_node» .exit)) (now («pin_start» .exit)) (now («pin_end» .exit)) (now («pin_count» .exit)) (now (marks .entry)) (now (bytes .entry)) (now (books .exit))) tt (plainOf r) ≡ pinSource (stateFrom (now (parent .entry)) (now (depth .entry)) (now (len .entry)) (now (run .entry)) (now (words .entry)) (now (node .entry)) (now (start .entry)) (now (end .entry)) (now (id .entry)) (now (stamp .entry)) (now (touched .entry)) (now (write .entry)) (now («pin_node» .entry)) (now («pin_start» .entry)) (now («pin_end» .entry)) (now («pin_count» .entry)) (now (marks .entry)) (now (bytes .entry)) (now (books .entry))) s sp ⌝ }
 {
-    let stores = x.books[2] as usize;
+    let stores = books[2] as usize;
     if stores <= s {
-        return Plainly {
-            small: x,
-            answer: Plain::Refused(2),
-        };
+        return Plain::Refused(2);
     }
-    let nodes = x.books[0] as usize;
+    let nodes = books[0] as usize;
     if !refuse::span_in(len, nodes, sp) {
-        return Plainly {
-            small: x,
-            answer: Plain::Refused(4),
-        };
+        return Plain::Refused(4);
     }
-    let mut b = books::book_of(&x.books, s);
+    let mut b = books::book_of(books, s);
     let n = b.entries;
     let place = place_of(pin_node, pin_start, pin_end, s, n, sp);
     let pinned = b.pinned;
     let blocks = sp.end - sp.start;
     if too_many(place.there, n, pinned, blocks) {
-        return Plainly {
-            small: x,
-            answer: Plain::Refused(9),
-        };
+        return Plain::Refused(9);
     }
     b.entries = pin_at(pin_node, pin_start, pin_end, pin_count, s, n, place, sp);
     b.pinned = pinned + blocks as u64;
-    let mut y = x;
-    books::put_book(&mut y.books, s, b);
-    Plainly {
-        small: y,
-        answer: Plain::Done,
-    }
+    books::put_book(books, s, b);
+    Plain::Done
 }
 
 // Unpin: 1 off the entry of exactly that span of store s. It never trims.
@@ -283,44 +268,31 @@ pub fn unpin_source(
     pin_count: &mut [u64],
     marks: &[usize],
     bytes: &[u64],
-    x: Small,
+    books: &mut [u64],
     s: usize,
     sp: Span,
-) -> Plainly
-    requires { ⌜ Sound (stateFrom (now parent) (now depth) (now len) (now run) (now words) (now node) (now start) (now end) (now id) (now stamp) (now touched) (now write) (now «pin_node») (now «pin_start») (now «pin_end») (now «pin_count») (now marks) (now bytes) x) ⌝ }
-    ensures { λ r. ⌜ outcome (stateFrom (now (parent .entry)) (now (depth .entry)) (now (len .entry)) (now (run .entry)) (now (words .entry)) (now (node .entry)) (now (start .entry)) (now (end .entry)) (now (id .entry)) (now (stamp .entry)) (now (touched .entry)) (now (write .entry)) (now («pin_node» .exit)) (now («pin_start» .exit)) (now («pin_end» .exit)) (now («pin_count» .exit)) (now (marks .entry)) (now (bytes .entry)) (r .small)) tt (plainOf (r .answer)) ≡ unpinSource (stateFrom (now (parent .entry)) (now (depth .entry)) (now (len .entry)) (now (run .entry)) (now (words .entry)) (now (node .entry)) (now (start .entry)) (now (end .entry)) (now (id .entry)) (now (stamp .entry)) (now (touched .entry)) (now (write .entry)) (now («pin_node» .entry)) (now («pin_start» .entry)) (now («pin_end» .entry)) (now («pin_count» .entry)) (now (marks .entry)) (now (bytes .entry)) x) s sp ⌝ }
+) -> Plain
+    requires { ⌜ Sound (stateFrom (now parent) (now depth) (now len) (now run) (now words) (now node) (now start) (now end) (now id) (now stamp) (now touched) (now write) (now «pin_node») (now «pin_start») (now «pin_end») (now «pin_count») (now marks) (now bytes) (now books)) ⌝ }
+    ensures { λ r. ⌜ outcome (stateFrom (now (parent .entry)) (now (depth .entry)) (now (len .entry)) (now (run .entry)) (now (words .entry)) (now (node .entry)) (now (start .entry)) (now (end .entry)) (now (id .entry)) (now (stamp .entry)) (now (touched .entry)) (now (write .entry)) (now («pin_node» .exit)) (now («pin_start» .exit)) (now («pin_end» .exit)) (now («pin_count» .exit)) (now (marks .entry)) (now (bytes .entry)) (now (books .exit))) tt (plainOf r) ≡ unpinSource (stateFrom (now (parent .entry)) (now (depth .entry)) (now (len .entry)) (now (run .entry)) (now (words .entry)) (now (node .entry)) (now (start .entry)) (now (end .entry)) (now (id .entry)) (now (stamp .entry)) (now (touched .entry)) (now (write .entry)) (now («pin_node» .entry)) (now («pin_start» .entry)) (now («pin_end» .entry)) (now («pin_count» .entry)) (now (marks .entry)) (now (bytes .entry)) (now (books .entry))) s sp ⌝ }
 {
-    let stores = x.books[2] as usize;
+    let stores = books[2] as usize;
     if stores <= s {
-        return Plainly {
-            small: x,
-            answer: Plain::Refused(2),
-        };
+        return Plain::Refused(2);
     }
-    let nodes = x.books[0] as usize;
+    let nodes = books[0] as usize;
     if !refuse::span_in(len, nodes, sp) {
-        return Plainly {
-            small: x,
-            answer: Plain::Refused(4),
-        };
+        return Plain::Refused(4);
     }
-    let mut b = books::book_of(&x.books, s);
+    let mut b = books::book_of(books, s);
     let n = b.entries;
     let place = place_of(pin_node, pin_start, pin_end, s, n, sp);
     let pinned = b.pinned;
     let blocks = sp.end - sp.start;
     if !place.there {
-        return Plainly {
-            small: x,
-            answer: Plain::Refused(10),
-        };
+        return Plain::Refused(10);
     }
     b.entries = unpin_at(pin_node, pin_start, pin_end, pin_count, s, n, place, sp);
     b.pinned = pinned - blocks as u64;
-    let mut y = x;
-    books::put_book(&mut y.books, s, b);
-    Plainly {
-        small: y,
-        answer: Plain::Done,
-    }
+    books::put_book(books, s, b);
+    Plain::Done
 }

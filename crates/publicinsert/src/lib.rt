@@ -1,7 +1,5 @@
 // The public call that inserts a list: the tests for 1 and 14, then the call that a caller with a sound state uses.
 use answers::Inserted;
-use answers::Insertion;
-use lent::Small;
 ghost use mathlib.Core.Path.{_≡_};
 ghost use Rattle.model.specs.Calls.{insert as insertCall};
 ghost use Rattle.tree.specs.Walk.{pathListOf};
@@ -27,12 +25,12 @@ pub fn insert(
     pin_count: &mut [u64],
     marks: &mut [usize],
     bytes: &[u64],
+    books: &mut [u64],
     path_node: &mut [usize],
     path_len: &mut [usize],
-    x: Small,
     hashes: &[u64],
-) -> Insertion
-    ensures { λ r. ⌜ outcome (stateFrom (now (parent .exit)) (now (depth .exit)) (now (len .exit)) (now (run .exit)) (now (words .exit)) (now (node .exit)) (now (start .exit)) (now (end .exit)) (now (id .exit)) (now (stamp .exit)) (now (touched .exit)) (now (write .exit)) (now («pin_node» .exit)) (now («pin_start» .exit)) (now («pin_end» .exit)) (now («pin_count» .exit)) (now (marks .exit)) (now (bytes .entry)) (r .small)) (pathListOf (now («path_node» .exit)) (now («path_len» .exit))) (insertedOf (r .answer)) ≡ insertCall (stateFrom (now (parent .entry)) (now (depth .entry)) (now (len .entry)) (now (run .entry)) (now (words .entry)) (now (node .entry)) (now (start .entry)) (now (end .entry)) (now (id .entry)) (now (stamp .entry)) (now (touched .entry)) (now (write .entry)) (now («pin_node» .entry)) (now («pin_start» .entry)) (now («pin_end» .entry)) (now («pin_count» .entry)) (now (marks .entry)) (now (bytes .entry)) x) (pathListOf (now («path_node» .entry)) (now («path_len» .entry))) (now (hashes .entry)) ⌝ }
+) -> Inserted
+    ensures { λ r. ⌜ outcome (stateFrom (now (parent .exit)) (now (depth .exit)) (now (len .exit)) (now (run .exit)) (now (words .exit)) (now (node .exit)) (now (start .exit)) (now (end .exit)) (now (id .exit)) (now (stamp .exit)) (now (touched .exit)) (now (write .exit)) (now («pin_node» .exit)) (now («pin_start» .exit)) (now («pin_end» .exit)) (now («pin_count» .exit)) (now (marks .exit)) (now (bytes .entry)) (now (books .exit))) (pathListOf (now («path_node» .exit)) (now («path_len» .exit))) (insertedOf r) ≡ insertCall (stateFrom (now (parent .entry)) (now (depth .entry)) (now (len .entry)) (now (run .entry)) (now (words .entry)) (now (node .entry)) (now (start .entry)) (now (end .entry)) (now (id .entry)) (now (stamp .entry)) (now (touched .entry)) (now (write .entry)) (now («pin_node» .entry)) (now («pin_start» .entry)) (now («pin_end» .entry)) (now («pin_count» .entry)) (now (marks .entry)) (now (bytes .entry)) (now (books .entry))) (pathListOf (now («path_node» .entry)) (now («path_len» .entry))) (now (hashes .entry)) ⌝ }
 {
     if !sound::sound_state(
         parent,
@@ -53,18 +51,12 @@ pub fn insert(
         pin_count,
         marks,
         bytes,
-        x,
+        books,
     ) {
-        return Insertion {
-            small: x,
-            answer: Inserted::Refused(1),
-        };
+        return Inserted::Refused(1);
     }
     if !lists::path_fits(path_node, path_len) {
-        return Insertion {
-            small: x,
-            answer: Inserted::Refused(14),
-        };
+        return Inserted::Refused(14);
     }
     inserting::insert(
         parent,
@@ -85,9 +77,9 @@ pub fn insert(
         pin_count,
         marks,
         bytes,
+        books,
         path_node,
         path_len,
-        x,
         hashes,
     )
 }

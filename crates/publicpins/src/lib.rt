@@ -1,7 +1,5 @@
 // The public calls of the pins: the test for 1, then the call that a caller with a sound state uses.
 use answers::Plain;
-use answers::Plainly;
-use lent::Small;
 use model::Span;
 ghost use mathlib.Core.Path.{_≡_};
 ghost use Rattle.model.specs.Calls.{pinSource, unpinSource};
@@ -27,11 +25,11 @@ pub fn pin_source(
     pin_count: &mut [u64],
     marks: &[usize],
     bytes: &[u64],
-    x: Small,
+    books: &mut [u64],
     s: usize,
     sp: Span,
-) -> Plainly
-    ensures { λ r. ⌜ outcome (stateFrom (now (parent .entry)) (now (depth .entry)) (now (len .entry)) (now (run .entry)) (now (words .entry)) (now (node .entry)) (now (start .entry)) (now (end .entry)) (now (id .entry)) (now (stamp .entry)) (now (touched .entry)) (now (write .entry)) (now («pin_node» .exit)) (now («pin_start» .exit)) (now («pin_end» .exit)) (now («pin_count» .exit)) (now (marks .entry)) (now (bytes .entry)) (r .small)) tt (plainOf (r .answer)) ≡ pinSource (stateFrom (now (parent .entry)) (now (depth .entry)) (now (len .entry)) (now (run .entry)) (now (words .entry)) (now (node .entry)) (now (start .entry)) (now (end .entry)) (now (id .entry)) (now (stamp .entry)) (now (touched .entry)) (now (write .entry)) (now («pin_node» .entry)) (now («pin_start» .entry)) (now («pin_end» .entry)) (now («pin_count» .entry)) (now (marks .entry)) (now (bytes .entry)) x) s sp ⌝ }
+) -> Plain
+    ensures { λ r. ⌜ outcome (stateFrom (now (parent .entry)) (now (depth .entry)) (now (len .entry)) (now (run .entry)) (now (words .entry)) (now (node .entry)) (now (start .entry)) (now (end .entry)) (now (id .entry)) (now (stamp .entry)) (now (touched .entry)) (now (write .entry)) (now («pin_node» .exit)) (now («pin_start» .exit)) (now («pin_end» .exit)) (now («pin_count» .exit)) (now (marks .entry)) (now (bytes .entry)) (now (books .exit))) tt (plainOf r) ≡ pinSource (stateFrom (now (parent .entry)) (now (depth .entry)) (now (len .entry)) (now (run .entry)) (now (words .entry)) (now (node .entry)) (now (start .entry)) (now (end .entry)) (now (id .entry)) (now (stamp .entry)) (now (touched .entry)) (now (write .entry)) (now («pin_node» .entry)) (now («pin_start» .entry)) (now («pin_end» .entry)) (now («pin_count» .entry)) (now (marks .entry)) (now (bytes .entry)) (now (books .entry))) s sp ⌝ }
 {
     if !sound::sound_state(
         parent,
@@ -52,12 +50,9 @@ pub fn pin_source(
         pin_count,
         marks,
         bytes,
-        x,
+        books,
     ) {
-        return Plainly {
-            small: x,
-            answer: Plain::Refused(1),
-        };
+        return Plain::Refused(1);
     }
     pinning::pin_source(
         parent,
@@ -78,7 +73,7 @@ pub fn pin_source(
         pin_count,
         marks,
         bytes,
-        x,
+        books,
         s,
         sp,
     )
@@ -104,11 +99,11 @@ pub fn unpin_source(
     pin_count: &mut [u64],
     marks: &[usize],
     bytes: &[u64],
-    x: Small,
+    books: &mut [u64],
     s: usize,
     sp: Span,
-) -> Plainly
-    ensures { λ r. ⌜ outcome (stateFrom (now (parent .entry)) (now (depth .entry)) (now (len .entry)) (now (run .entry)) (now (words .entry)) (now (node .entry)) (now (start .entry)) (now (end .entry)) (now (id .entry)) (now (stamp .entry)) (now (touched .entry)) (now (write .entry)) (now («pin_node» .exit)) (now («pin_start» .exit)) (now («pin_end» .exit)) (now («pin_count» .exit)) (now (marks .entry)) (now (bytes .entry)) (r .small)) tt (plainOf (r .answer)) ≡ unpinSource (stateFrom (now (parent .entry)) (now (depth .entry)) (now (len .entry)) (now (run .entry)) (now (words .entry)) (now (node .entry)) (now (start .entry)) (now (end .entry)) (now (id .entry)) (now (stamp .entry)) (now (touched .entry)) (now (write .entry)) (now («pin_node» .entry)) (now («pin_start» .entry)) (now («pin_end» .entry)) (now («pin_count» .entry)) (now (marks .entry)) (now (bytes .entry)) x) s sp ⌝ }
+) -> Plain
+    ensures { λ r. ⌜ outcome (stateFrom (now (parent .entry)) (now (depth .entry)) (now (len .entry)) (now (run .entry)) (now (words .entry)) (now (node .entry)) (now (start .entry)) (now (end .entry)) (now (id .entry)) (now (stamp .entry)) (now (touched .entry)) (now (write .entry)) (now («pin_node» .exit)) (now («pin_start» .exit)) (now («pin_end» .exit)) (now («pin_count» .exit)) (now (marks .entry)) (now (bytes .entry)) (now (books .exit))) tt (plainOf r) ≡ unpinSource (stateFrom (now (parent .entry)) (now (depth .entry)) (now (len .entry)) (now (run .entry)) (now (words .entry)) (now (node .entry)) (now (start .entry)) (now (end .entry)) (now (id .entry)) (now (stamp .entry)) (now (touched .entry)) (now (write .entry)) (now («pin_node» .entry)) (now («pin_start» .entry)) (now («pin_end» .entry)) (now («pin_count» .entry)) (now (marks .entry)) (now (bytes .entry)) (now (books .entry))) s sp ⌝ }
 {
     if !sound::sound_state(
         parent,
@@ -129,12 +124,9 @@ pub fn unpin_source(
         pin_count,
         marks,
         bytes,
-        x,
+        books,
     ) {
-        return Plainly {
-            small: x,
-            answer: Plain::Refused(1),
-        };
+        return Plain::Refused(1);
     }
     pinning::unpin_source(
         parent,
@@ -155,7 +147,7 @@ pub fn unpin_source(
         pin_count,
         marks,
         bytes,
-        x,
+        books,
         s,
         sp,
     )

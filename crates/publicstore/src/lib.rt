@@ -1,12 +1,12 @@
 // The public calls that bring in and give out: the tests for 1 and 14, then the call that a caller with a sound state uses.
-use answers::Count;
-use answers::Counted;
-use lent::Small;
+use answers::StoreExpired;
+use answers::StoreInserted;
+use answers::StoreRemoved;
 use model::Span;
 ghost use mathlib.Core.Path.{_≡_};
 ghost use Rattle.model.specs.Calls.{storeInsert, storeExpire, storeRemove};
 ghost use Rattle.evicted.specs.Evicted.{outList};
-ghost use Rattle.answers.specs.Answers.{stateFrom, outcome, countOf};
+ghost use Rattle.answers.specs.Answers.{stateFrom, outcome, storeExpiredOf, storeInsertedOf, storeRemovedOf};
 
 // Brings a span into store s, and lists what is given out.
 pub fn store_insert(
@@ -28,19 +28,19 @@ pub fn store_insert(
     pin_count: &[u64],
     marks: &mut [usize],
     bytes: &[u64],
+    books: &mut [u64],
     out_node: &mut [usize],
     out_start: &mut [usize],
     out_end: &mut [usize],
     out_write: &mut [u32],
     out_bytes: &mut [u64],
     out_dead: &mut [u64],
-    x: Small,
     s: usize,
     sp: Span,
     time: f64,
     w: u32,
-) -> Counted
-    ensures { λ r. ⌜ outcome (stateFrom (now (parent .entry)) (now (depth .entry)) (now (len .entry)) (now (run .entry)) (now (words .entry)) (now (node .exit)) (now (start .exit)) (now (end .exit)) (now (id .exit)) (now (stamp .exit)) (now (touched .exit)) (now (write .exit)) (now («pin_node» .entry)) (now («pin_start» .entry)) (now («pin_end» .entry)) (now («pin_count» .entry)) (now (marks .exit)) (now (bytes .entry)) (r .small)) (outList (now («out_node» .exit)) (now («out_start» .exit)) (now («out_end» .exit)) (now («out_write» .exit)) (now («out_bytes» .exit)) (now («out_dead» .exit))) (countOf (r .answer)) ≡ storeInsert (stateFrom (now (parent .entry)) (now (depth .entry)) (now (len .entry)) (now (run .entry)) (now (words .entry)) (now (node .entry)) (now (start .entry)) (now (end .entry)) (now (id .entry)) (now (stamp .entry)) (now (touched .entry)) (now (write .entry)) (now («pin_node» .entry)) (now («pin_start» .entry)) (now («pin_end» .entry)) (now («pin_count» .entry)) (now (marks .entry)) (now (bytes .entry)) x) (outList (now («out_node» .entry)) (now («out_start» .entry)) (now («out_end» .entry)) (now («out_write» .entry)) (now («out_bytes» .entry)) (now («out_dead» .entry))) s sp time w ⌝ }
+) -> StoreInserted
+    ensures { λ r. ⌜ outcome (stateFrom (now (parent .entry)) (now (depth .entry)) (now (len .entry)) (now (run .entry)) (now (words .entry)) (now (node .exit)) (now (start .exit)) (now (end .exit)) (now (id .exit)) (now (stamp .exit)) (now (touched .exit)) (now (write .exit)) (now («pin_node» .entry)) (now («pin_start» .entry)) (now («pin_end» .entry)) (now («pin_count» .entry)) (now (marks .exit)) (now (bytes .entry)) (now (books .exit))) (outList (now («out_node» .exit)) (now («out_start» .exit)) (now («out_end» .exit)) (now («out_write» .exit)) (now («out_bytes» .exit)) (now («out_dead» .exit))) (storeInsertedOf r) ≡ storeInsert (stateFrom (now (parent .entry)) (now (depth .entry)) (now (len .entry)) (now (run .entry)) (now (words .entry)) (now (node .entry)) (now (start .entry)) (now (end .entry)) (now (id .entry)) (now (stamp .entry)) (now (touched .entry)) (now (write .entry)) (now («pin_node» .entry)) (now («pin_start» .entry)) (now («pin_end» .entry)) (now («pin_count» .entry)) (now (marks .entry)) (now (bytes .entry)) (now (books .entry))) (outList (now («out_node» .entry)) (now («out_start» .entry)) (now («out_end» .entry)) (now («out_write» .entry)) (now («out_bytes» .entry)) (now («out_dead» .entry))) s sp time w ⌝ }
 {
     if !sound::sound_state(
         parent,
@@ -61,18 +61,12 @@ pub fn store_insert(
         pin_count,
         marks,
         bytes,
-        x,
+        books,
     ) {
-        return Counted {
-            small: x,
-            answer: Count::Refused(1),
-        };
+        return StoreInserted::Refused(1);
     }
     if !lists::outs_fit(out_node, out_start, out_end, out_write, out_bytes, out_dead) {
-        return Counted {
-            small: x,
-            answer: Count::Refused(14),
-        };
+        return StoreInserted::Refused(14);
     }
     storeinsert::store_insert(
         parent,
@@ -93,13 +87,13 @@ pub fn store_insert(
         pin_count,
         marks,
         bytes,
+        books,
         out_node,
         out_start,
         out_end,
         out_write,
         out_bytes,
         out_dead,
-        x,
         s,
         sp,
         time,
@@ -127,18 +121,18 @@ pub fn store_expire(
     pin_count: &[u64],
     marks: &mut [usize],
     bytes: &[u64],
+    books: &mut [u64],
     out_node: &mut [usize],
     out_start: &mut [usize],
     out_end: &mut [usize],
     out_write: &mut [u32],
     out_bytes: &mut [u64],
     out_dead: &mut [u64],
-    x: Small,
     s: usize,
     time: f64,
     seconds: f64,
-) -> Counted
-    ensures { λ r. ⌜ outcome (stateFrom (now (parent .entry)) (now (depth .entry)) (now (len .entry)) (now (run .entry)) (now (words .entry)) (now (node .exit)) (now (start .exit)) (now (end .exit)) (now (id .exit)) (now (stamp .exit)) (now (touched .exit)) (now (write .exit)) (now («pin_node» .entry)) (now («pin_start» .entry)) (now («pin_end» .entry)) (now («pin_count» .entry)) (now (marks .exit)) (now (bytes .entry)) (r .small)) (outList (now («out_node» .exit)) (now («out_start» .exit)) (now («out_end» .exit)) (now («out_write» .exit)) (now («out_bytes» .exit)) (now («out_dead» .exit))) (countOf (r .answer)) ≡ storeExpire (stateFrom (now (parent .entry)) (now (depth .entry)) (now (len .entry)) (now (run .entry)) (now (words .entry)) (now (node .entry)) (now (start .entry)) (now (end .entry)) (now (id .entry)) (now (stamp .entry)) (now (touched .entry)) (now (write .entry)) (now («pin_node» .entry)) (now («pin_start» .entry)) (now («pin_end» .entry)) (now («pin_count» .entry)) (now (marks .entry)) (now (bytes .entry)) x) (outList (now («out_node» .entry)) (now («out_start» .entry)) (now («out_end» .entry)) (now («out_write» .entry)) (now («out_bytes» .entry)) (now («out_dead» .entry))) s time seconds ⌝ }
+) -> StoreExpired
+    ensures { λ r. ⌜ outcome (stateFrom (now (parent .entry)) (now (depth .entry)) (now (len .entry)) (now (run .entry)) (now (words .entry)) (now (node .exit)) (now (start .exit)) (now (end .exit)) (now (id .exit)) (now (stamp .exit)) (now (touched .exit)) (now (write .exit)) (now («pin_node» .entry)) (now («pin_start» .entry)) (now («pin_end» .entry)) (now («pin_count» .entry)) (now (marks .exit)) (now (bytes .entry)) (now (books .exit))) (outList (now («out_node» .exit)) (now («out_start» .exit)) (now («out_end» .exit)) (now («out_write» .exit)) (now («out_bytes» .exit)) (now («out_dead» .exit))) (storeExpiredOf r) ≡ storeExpire (stateFrom (now (parent .entry)) (now (depth .entry)) (now (len .entry)) (now (run .entry)) (now (words .entry)) (now (node .entry)) (now (start .entry)) (now (end .entry)) (now (id .entry)) (now (stamp .entry)) (now (touched .entry)) (now (write .entry)) (now («pin_node» .entry)) (now («pin_start» .entry)) (now («pin_end» .entry)) (now («pin_count» .entry)) (now (marks .entry)) (now (bytes .entry)) (now (books .entry))) (outList (now («out_node» .entry)) (now («out_start» .entry)) (now («out_end» .entry)) (now («out_write» .entry)) (now («out_bytes» .entry)) (now («out_dead» .entry))) s time seconds ⌝ }
 {
     if !sound::sound_state(
         parent,
@@ -159,18 +153,12 @@ pub fn store_expire(
         pin_count,
         marks,
         bytes,
-        x,
+        books,
     ) {
-        return Counted {
-            small: x,
-            answer: Count::Refused(1),
-        };
+        return StoreExpired::Refused(1);
     }
     if !lists::outs_fit(out_node, out_start, out_end, out_write, out_bytes, out_dead) {
-        return Counted {
-            small: x,
-            answer: Count::Refused(14),
-        };
+        return StoreExpired::Refused(14);
     }
     storeexpire::store_expire(
         parent,
@@ -191,13 +179,13 @@ pub fn store_expire(
         pin_count,
         marks,
         bytes,
+        books,
         out_node,
         out_start,
         out_end,
         out_write,
         out_bytes,
         out_dead,
-        x,
         s,
         time,
         seconds,
@@ -224,12 +212,12 @@ pub fn store_remove(
     pin_count: &[u64],
     marks: &mut [usize],
     bytes: &[u64],
+    books: &mut [u64],
     list: &mut [u32],
-    x: Small,
     s: usize,
     sp: Span,
-) -> Counted
-    ensures { λ r. ⌜ outcome (stateFrom (now (parent .entry)) (now (depth .entry)) (now (len .entry)) (now (run .entry)) (now (words .entry)) (now (node .exit)) (now (start .exit)) (now (end .exit)) (now (id .exit)) (now (stamp .exit)) (now (touched .exit)) (now (write .exit)) (now («pin_node» .entry)) (now («pin_start» .entry)) (now («pin_end» .entry)) (now («pin_count» .entry)) (now (marks .exit)) (now (bytes .entry)) (r .small)) (now (list .exit)) (countOf (r .answer)) ≡ storeRemove (stateFrom (now (parent .entry)) (now (depth .entry)) (now (len .entry)) (now (run .entry)) (now (words .entry)) (now (node .entry)) (now (start .entry)) (now (end .entry)) (now (id .entry)) (now (stamp .entry)) (now (touched .entry)) (now (write .entry)) (now («pin_node» .entry)) (now («pin_start» .entry)) (now («pin_end» .entry)) (now («pin_count» .entry)) (now (marks .entry)) (now (bytes .entry)) x) (now (list .entry)) s sp ⌝ }
+) -> StoreRemoved
+    ensures { λ r. ⌜ outcome (stateFrom (now (parent .entry)) (now (depth .entry)) (now (len .entry)) (now (run .entry)) (now (words .entry)) (now (node .exit)) (now (start .exit)) (now (end .exit)) (now (id .exit)) (now (stamp .exit)) (now (touched .exit)) (now (write .exit)) (now («pin_node» .entry)) (now («pin_start» .entry)) (now («pin_end» .entry)) (now («pin_count» .entry)) (now (marks .exit)) (now (bytes .entry)) (now (books .exit))) (now (list .exit)) (storeRemovedOf r) ≡ storeRemove (stateFrom (now (parent .entry)) (now (depth .entry)) (now (len .entry)) (now (run .entry)) (now (words .entry)) (now (node .entry)) (now (start .entry)) (now (end .entry)) (now (id .entry)) (now (stamp .entry)) (now (touched .entry)) (now (write .entry)) (now («pin_node» .entry)) (now («pin_start» .entry)) (now («pin_end» .entry)) (now («pin_count» .entry)) (now (marks .entry)) (now (bytes .entry)) (now (books .entry))) (now (list .entry)) s sp ⌝ }
 {
     if !sound::sound_state(
         parent,
@@ -250,18 +238,12 @@ pub fn store_remove(
         pin_count,
         marks,
         bytes,
-        x,
+        books,
     ) {
-        return Counted {
-            small: x,
-            answer: Count::Refused(1),
-        };
+        return StoreRemoved::Refused(1);
     }
     if !lists::writes_fit(list) {
-        return Counted {
-            small: x,
-            answer: Count::Refused(14),
-        };
+        return StoreRemoved::Refused(14);
     }
     storeremove::store_remove(
         parent,
@@ -282,8 +264,8 @@ pub fn store_remove(
         pin_count,
         marks,
         bytes,
+        books,
         list,
-        x,
         s,
         sp,
     )

@@ -1,6 +1,5 @@
 // The public calls of the tree: the tests for 1 and 14, then the call that a caller with a sound state uses.
 use answers::Resolved;
-use lent::Small;
 ghost use mathlib.Core.Path.{_≡_};
 ghost use Rattle.model.specs.Calls.{resolveCall};
 ghost use Rattle.tree.specs.Walk.{pathListOf};
@@ -26,12 +25,12 @@ pub fn resolve(
     pin_count: &[u64],
     marks: &[usize],
     bytes: &[u64],
+    books: &[u64],
     path_node: &mut [usize],
     path_len: &mut [usize],
-    x: Small,
     hashes: &[u64],
 ) -> Resolved
-    ensures { λ r. ⌜ outcome (stateFrom (now (parent .entry)) (now (depth .entry)) (now (len .entry)) (now (run .entry)) (now (words .entry)) (now (node .entry)) (now (start .entry)) (now (end .entry)) (now (id .entry)) (now (stamp .entry)) (now (touched .entry)) (now (write .entry)) (now («pin_node» .entry)) (now («pin_start» .entry)) (now («pin_end» .entry)) (now («pin_count» .entry)) (now (marks .entry)) (now (bytes .entry)) x) (pathListOf (now («path_node» .exit)) (now («path_len» .exit))) (resolvedOf r) ≡ resolveCall (stateFrom (now (parent .entry)) (now (depth .entry)) (now (len .entry)) (now (run .entry)) (now (words .entry)) (now (node .entry)) (now (start .entry)) (now (end .entry)) (now (id .entry)) (now (stamp .entry)) (now (touched .entry)) (now (write .entry)) (now («pin_node» .entry)) (now («pin_start» .entry)) (now («pin_end» .entry)) (now («pin_count» .entry)) (now (marks .entry)) (now (bytes .entry)) x) (pathListOf (now («path_node» .entry)) (now («path_len» .entry))) (now (hashes .entry)) ⌝ }
+    ensures { λ r. ⌜ outcome (stateFrom (now (parent .entry)) (now (depth .entry)) (now (len .entry)) (now (run .entry)) (now (words .entry)) (now (node .entry)) (now (start .entry)) (now (end .entry)) (now (id .entry)) (now (stamp .entry)) (now (touched .entry)) (now (write .entry)) (now («pin_node» .entry)) (now («pin_start» .entry)) (now («pin_end» .entry)) (now («pin_count» .entry)) (now (marks .entry)) (now (bytes .entry)) (now (books .entry))) (pathListOf (now («path_node» .exit)) (now («path_len» .exit))) (resolvedOf r) ≡ resolveCall (stateFrom (now (parent .entry)) (now (depth .entry)) (now (len .entry)) (now (run .entry)) (now (words .entry)) (now (node .entry)) (now (start .entry)) (now (end .entry)) (now (id .entry)) (now (stamp .entry)) (now (touched .entry)) (now (write .entry)) (now («pin_node» .entry)) (now («pin_start» .entry)) (now («pin_end» .entry)) (now («pin_count» .entry)) (now (marks .entry)) (now (bytes .entry)) (now (books .entry))) (pathListOf (now («path_node» .entry)) (now («path_len» .entry))) (now (hashes .entry)) ⌝ }
 {
     if !sound::sound_state(
         parent,
@@ -52,7 +51,7 @@ pub fn resolve(
         pin_count,
         marks,
         bytes,
-        x,
+        books,
     ) {
         return Resolved::Refused(1);
     }
@@ -78,9 +77,9 @@ pub fn resolve(
         pin_count,
         marks,
         bytes,
+        books,
         path_node,
         path_len,
-        x,
         hashes,
     )
 }

@@ -1,10 +1,9 @@
 // The public call that touches the spans of a lent list: the test for 1 and the tests that need no span, a pass that looks at the spans, a pass of turns, and the answer.
-use answers::Counted;
-use lent::Small;
+use answers::StoreUsed;
 use model::Span;
 ghost use mathlib.Core.Path.{_≡_};
 ghost use Rattle.model.specs.Calls.{storeUsed};
-ghost use Rattle.answers.specs.Answers.{stateFrom, outcome, countOf};
+ghost use Rattle.answers.specs.Answers.{stateFrom, outcome, storeUsedOf};
 
 // Touches the spans in store s, in turn, and answers the bytes read; or refuses all of them.
 pub fn store_used(
@@ -26,13 +25,13 @@ pub fn store_used(
     pin_count: &[u64],
     marks: &mut [usize],
     bytes: &[u64],
-    x: Small,
+    books: &mut [u64],
     s: usize,
     spans: &[Span],
     time: f64,
     counted: bool,
-) -> Counted
-    ensures { λ r. ⌜ outcome (stateFrom (now (parent .entry)) (now (depth .entry)) (now (len .entry)) (now (run .entry)) (now (words .entry)) (now (node .exit)) (now (start .exit)) (now (end .exit)) (now (id .exit)) (now (stamp .exit)) (now (touched .exit)) (now (write .exit)) (now («pin_node» .entry)) (now («pin_start» .entry)) (now («pin_end» .entry)) (now («pin_count» .entry)) (now (marks .exit)) (now (bytes .entry)) (r .small)) tt (countOf (r .answer)) ≡ storeUsed (stateFrom (now (parent .entry)) (now (depth .entry)) (now (len .entry)) (now (run .entry)) (now (words .entry)) (now (node .entry)) (now (start .entry)) (now (end .entry)) (now (id .entry)) (now (stamp .entry)) (now (touched .entry)) (now (write .entry)) (now («pin_node» .entry)) (now («pin_start» .entry)) (now («pin_end» .entry)) (now («pin_count» .entry)) (now (marks .entry)) (now (bytes .entry)) x) s (now (spans .entry)) time counted ⌝ }
+) -> StoreUsed
+    ensures { λ r. ⌜ outcome (stateFrom (now (parent .entry)) (now (depth .entry)) (now (len .entry)) (now (run .entry)) (now (words .entry)) (now (node .exit)) (now (start .exit)) (now (end .exit)) (now (id .exit)) (now (stamp .exit)) (now (touched .exit)) (now (write .exit)) (now («pin_node» .entry)) (now («pin_start» .entry)) (now («pin_end» .entry)) (now («pin_count» .entry)) (now (marks .exit)) (now (bytes .entry)) (now (books .exit))) tt (storeUsedOf r) ≡ storeUsed (stateFrom (now (parent .entry)) (now (depth .entry)) (now (len .entry)) (now (run .entry)) (now (words .entry)) (now (node .entry)) (now (start .entry)) (now (end .entry)) (now (id .entry)) (now (stamp .entry)) (now (touched .entry)) (now (write .entry)) (now («pin_node» .entry)) (now («pin_start» .entry)) (now («pin_end» .entry)) (now («pin_count» .entry)) (now (marks .entry)) (now (bytes .entry)) (now (books .entry))) s (now (spans .entry)) time counted ⌝ }
 {
     let n = spans.len();
     let y = usedlist::start_touch(
@@ -54,7 +53,7 @@ pub fn store_used(
         pin_count,
         marks,
         bytes,
-        x,
+        books,
         s,
         n,
         time,
@@ -75,5 +74,5 @@ pub fn store_used(
         bytes,
         z,
     );
-    usedspan::finish(x, w)
+    usedspan::finish(books, w)
 }

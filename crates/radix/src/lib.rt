@@ -1,18 +1,27 @@
 // The block tree, its stores and their rules: the public calls, under the source's names. Each makes all the tests that document 01 has for it, in 01's
 // order, and asks nothing of its caller.
 pub use answers::Count;
-pub use answers::Counted;
-pub use answers::Cut;
+pub use answers::EachTier;
 pub use answers::Inserted;
-pub use answers::Insertion;
 pub use answers::Looked;
-pub use answers::Path;
 pub use answers::Plain;
-pub use answers::Plainly;
 pub use answers::Reading;
 pub use answers::Resolved;
-pub use lent::Small;
+pub use answers::StoreExpired;
+pub use answers::StoreInserted;
+pub use answers::StoreRemoved;
+pub use answers::StoreUsed;
+pub use books::books_size;
+pub use model::BringAnswer;
+pub use model::Cut;
+pub use model::ExpireAnswer;
+pub use model::InsertAnswer;
+pub use model::Path;
+pub use model::RemoveAnswer;
+pub use model::ResolveAnswer;
 pub use model::Span;
+pub use model::Split;
+pub use model::TouchAnswer;
 pub use publiccount::pin_stalls;
 pub use publiccount::source_version;
 pub use publiccount::store_available_for_stage;

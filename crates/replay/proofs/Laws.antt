@@ -10,25 +10,31 @@ use lib.Dec.{ltb}
 use lib.Ieee.{Float}
 use lib.ListN.{length}
 use Rattle.model.specs.declared.Span.{Span}
+use Rattle.model.specs.declared.LookupAnswer.{LookupAnswer}
 use Rattle.model.specs.State.{State}
 use Rattle.model.specs.Sound.{Sound}
 use Rattle.model.specs.Refusals.{PathList, OutList}
-use Rattle.model.specs.Calls.{Outcome, Answer, done, NoList, LookupLists, LookupAnswer, setUp, resolveCall, insert, storeInsert, storeUsed, storeRemove, storeExpire, pinSource, unpinSource, lookup}
+use Rattle.model.specs.Calls.{Outcome, Answer, done, NoList, LookupLists, setUp, resolveCall, insert, storeInsert, storeUsed, storeRemove, storeExpire, pinSource, unpinSource, lookup}
 use Rattle.answers.specs.declared.Plain.{Plain}
-use Rattle.answers.specs.declared.Plain.the-variants as P
-use Rattle.answers.specs.declared.Count.{Count}
-use Rattle.answers.specs.declared.Count.the-variants as C
+use Rattle.answers.specs.declared.Plain.the-variants as PlainIs
 use Rattle.answers.specs.declared.Resolved.{Resolved}
-use Rattle.answers.specs.declared.Resolved.the-variants as R
+use Rattle.answers.specs.declared.Resolved.the-variants as ResolvedIs
 use Rattle.answers.specs.declared.Inserted.{Inserted}
-use Rattle.answers.specs.declared.Inserted.the-variants as I
-use Rattle.answers.specs.declared.Reading.{Reading}
-use Rattle.answers.specs.declared.Reading.the-variants as L
-use Rattle.answers.specs.Answers.{outcome, plainOf, countOf, resolvedOf, insertedOf, readingOf}
+use Rattle.answers.specs.declared.Inserted.the-variants as InsertedIs
+use Rattle.answers.specs.declared.StoreInserted.{StoreInserted}
+use Rattle.answers.specs.declared.StoreInserted.the-variants as StoreInsertedIs
+use Rattle.answers.specs.declared.StoreUsed.{StoreUsed}
+use Rattle.answers.specs.declared.StoreRemoved.{StoreRemoved}
+use Rattle.answers.specs.declared.StoreRemoved.the-variants as StoreRemovedIs
+use Rattle.answers.specs.declared.StoreExpired.{StoreExpired}
+use Rattle.answers.specs.declared.StoreExpired.the-variants as StoreExpiredIs
+use Rattle.answers.specs.declared.Looked.{Looked}
+use Rattle.answers.specs.declared.Looked.the-variants as LookedIs
+use Rattle.answers.specs.Answers.{outcome, plainOf, resolvedOf, insertedOf, storeInsertedOf, storeUsedOf, storeRemovedOf, storeExpiredOf, lookedOf}
 use Rattle.sure.proofs.Refused.{setUp-kept, lookup-kept}
 use Rattle.keptcalls.proofs.Calls.{setUp-sound, insert-sound, storeInsert-sound, storeUsed-sound, storeRemove-sound, storeExpire-sound, pin-sound, unpin-sound}
 use Rattle.keptcalls.proofs.Fits.{resolve-fits, insert-fits, storeInsert-fits, storeRemove-fits, storeExpire-fits, lookup-fits}
-use Rattle.statetext.specs.Text.{PathIn, InsertIn, CountIn, ReadingIn}
+use Rattle.statetext.specs.Text.{PathIn, InsertIn, BringIn, ExpireIn, RemoveIn, LookupIn}
 use Rattle.replay.specs.Replay.{Ready}
 
 -- the state of an outcome
@@ -43,10 +49,10 @@ ready-yes false st e h = let z : _≡_ {A = ℕ} 0 1 = cc in absurd (omega arith
 -- ---- set-up
 
 module _ (pools st : State) (table capacity : List ℕ) (refreshes : List Bool) (a : Plain) (e : outcome {L = NoList} st tt (plainOf a) ≡ setUp pools table capacity refreshes) where
-  pub set-up-done : a ≡ P.Done → Sound st
+  pub set-up-done : a ≡ PlainIs.Done → Sound st
   set-up-done q = keeps e (setUp-sound pools table capacity refreshes (sym (ap (λ o. o .answer) e) ∙ ap plainOf q))
 
-  pub set-up-refused : (n : ℕ) (on : Bool) → a ≡ P.Refused n → Ready on pools → Ready on st
+  pub set-up-refused : (n : ℕ) (on : Bool) → a ≡ PlainIs.Refused n → Ready on pools → Ready on st
   set-up-refused n on q h =
       let k = setUp-kept pools table capacity refreshes .keeps n (sym (ap (λ o. o .answer) e) ∙ ap plainOf q) in
       subst (Ready on) (sym (ap (λ o. o .state) e ∙ k .state)) h
@@ -54,13 +60,12 @@ module _ (pools st : State) (table capacity : List ℕ) (refreshes : List Bool) 
 -- ---- the tree
 
 pub resolve-in : (st st′ : State) (l l′ : PathList) (hs : List ℕ) (a : Resolved) → outcome st′ l′ (resolvedOf a) ≡ resolveCall st l hs → PathIn a
-resolve-in st st′ l l′ hs (R.Refused n) e = tt
-resolve-in st st′ l l′ hs (R.Done p) e = resolve-fits st l hs _ (sym (ap (λ o. o .answer) e))
+resolve-in st st′ l l′ hs (ResolvedIs.Refused n) e = tt
+resolve-in st st′ l l′ hs (ResolvedIs.Done d) e = resolve-fits st l hs _ (sym (ap (λ o. o .answer) e))
 
 pub insert-in : (st st′ : State) (l l′ : PathList) (hs : List ℕ) (a : Inserted) → outcome st′ l′ (insertedOf a) ≡ insert st l hs → InsertIn a
-insert-in st st′ l l′ hs (I.Refused n) e = tt
-insert-in st st′ l l′ hs (I.Whole p) e = insert-fits st l hs _ (sym (ap (λ o. o .answer) e))
-insert-in st st′ l l′ hs (I.Split p c) e = insert-fits st l hs _ (sym (ap (λ o. o .answer) e))
+insert-in st st′ l l′ hs (InsertedIs.Refused n) e = tt
+insert-in st st′ l l′ hs (InsertedIs.Done d) e = insert-fits st l hs _ (sym (ap (λ o. o .answer) e))
 
 pub insert-keeps : (st st′ : State) (l l′ : PathList) (hs : List ℕ) (a : Inserted) → outcome st′ l′ (insertedOf a) ≡ insert st l hs → Sound st → Sound st′
 insert-keeps st st′ l l′ hs a e h = keeps e (insert-sound st l hs h)
@@ -75,36 +80,36 @@ module _ (st st′ : State) (s : ℕ) (sp : Span) where
   unpin-keeps a e h = keeps e (unpin-sound st s sp h)
 
   module _ (l l′ : OutList) (time : Float) (write : ℕ) where
-    pub bring-in : (a : Count) → outcome st′ l′ (countOf a) ≡ storeInsert st l s sp time write → CountIn a
-    bring-in (C.Refused n) e = tt
-    bring-in (C.Done n) e = storeInsert-fits st l s sp time write n (sym (ap (λ o. o .answer) e))
+    pub bring-in : (a : StoreInserted) → outcome st′ l′ (storeInsertedOf a) ≡ storeInsert st l s sp time write → BringIn a
+    bring-in (StoreInsertedIs.Refused n) e = tt
+    bring-in (StoreInsertedIs.Done d) e = storeInsert-fits st l s sp time write d (sym (ap (λ o. o .answer) e))
 
-    pub bring-keeps : (a : Count) → outcome st′ l′ (countOf a) ≡ storeInsert st l s sp time write → Sound st → Sound st′
+    pub bring-keeps : (a : StoreInserted) → outcome st′ l′ (storeInsertedOf a) ≡ storeInsert st l s sp time write → Sound st → Sound st′
     bring-keeps a e h = keeps e (storeInsert-sound st l s sp time write h)
 
   module _ (l l′ : List ℕ) where
-    pub remove-in : (a : Count) → outcome st′ l′ (countOf a) ≡ storeRemove st l s sp → CountIn a
-    remove-in (C.Refused n) e = tt
-    remove-in (C.Done n) e = storeRemove-fits st l s sp n (sym (ap (λ o. o .answer) e))
+    pub remove-in : (a : StoreRemoved) → outcome st′ l′ (storeRemovedOf a) ≡ storeRemove st l s sp → RemoveIn a
+    remove-in (StoreRemovedIs.Refused n) e = tt
+    remove-in (StoreRemovedIs.Done d) e = storeRemove-fits st l s sp d (sym (ap (λ o. o .answer) e))
 
-    pub remove-keeps : (a : Count) → outcome st′ l′ (countOf a) ≡ storeRemove st l s sp → Sound st → Sound st′
+    pub remove-keeps : (a : StoreRemoved) → outcome st′ l′ (storeRemovedOf a) ≡ storeRemove st l s sp → Sound st → Sound st′
     remove-keeps a e h = keeps e (storeRemove-sound st l s sp h)
 
 module _ (st st′ : State) (s : ℕ) (l l′ : OutList) (time seconds : Float) where
-  pub expire-in : (a : Count) → outcome st′ l′ (countOf a) ≡ storeExpire st l s time seconds → CountIn a
-  expire-in (C.Refused n) e = tt
-  expire-in (C.Done n) e = storeExpire-fits st l s time seconds n (sym (ap (λ o. o .answer) e))
+  pub expire-in : (a : StoreExpired) → outcome st′ l′ (storeExpiredOf a) ≡ storeExpire st l s time seconds → ExpireIn a
+  expire-in (StoreExpiredIs.Refused n) e = tt
+  expire-in (StoreExpiredIs.Done d) e = storeExpire-fits st l s time seconds d (sym (ap (λ o. o .answer) e))
 
-  pub expire-keeps : (a : Count) → outcome st′ l′ (countOf a) ≡ storeExpire st l s time seconds → Sound st → Sound st′
+  pub expire-keeps : (a : StoreExpired) → outcome st′ l′ (storeExpiredOf a) ≡ storeExpire st l s time seconds → Sound st → Sound st′
   expire-keeps a e h = keeps e (storeExpire-sound st l s time seconds h)
 
-pub touch-keeps : (st st′ : State) (s : ℕ) (sps : List Span) (time : Float) (counted : Bool) (a : Count)
-    → outcome {L = NoList} st′ tt (countOf a) ≡ storeUsed st s sps time counted → Sound st → Sound st′
+pub touch-keeps : (st st′ : State) (s : ℕ) (sps : List Span) (time : Float) (counted : Bool) (a : StoreUsed)
+    → outcome {L = NoList} st′ tt (storeUsedOf a) ≡ storeUsed st s sps time counted → Sound st → Sound st′
 touch-keeps st st′ s sps time counted a e h = keeps e (storeUsed-sound st s sps time counted h)
 
 -- ---- lookup: no more than eight tiers where it is accepted
 
-module _ (st st′ : State) (l l′ : LookupLists) (ts hs blocks bytes : List ℕ) where
+module _ (st st′ : State) (l l′ : LookupLists) (ts hs : List ℕ) where
   few : (p : LookupAnswer) → lookup st l ts hs .answer ≡ done p → length ts ≤ 8
   few p e = go (ltb 8 (length ts)) refl
     where
@@ -119,9 +124,9 @@ module _ (st st′ : State) (l l′ : LookupLists) (ts hs blocks bytes : List �
       go true e = absurd (no (ltb-true _ _ e))
       go false e = ltb-false _ _ e
 
-  pub lookup-in : (n : ℕ) → length ts ≡ n → (a : Reading) → outcome st′ l′ (readingOf (length ts) blocks bytes a) ≡ lookup st l ts hs → ReadingIn n a
-  lookup-in n q (L.Refused m) e = tt
-  lookup-in n q (L.Done p k) e =
+  pub lookup-in : (n : ℕ) → length ts ≡ n → (a : Looked) → outcome st′ l′ (lookedOf a) ≡ lookup st l ts hs → LookupIn n a
+  lookup-in n q (LookedIs.Refused m) e = tt
+  lookup-in n q (LookedIs.Done d) e =
       let w = sym (ap (λ o. o .answer) e) in
       let f = lookup-fits st l ts hs _ w in
       (f .path, f .spans, omega (arith, few _ w))

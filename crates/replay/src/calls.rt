@@ -1,6 +1,5 @@
 // One function for each call: it makes the call on the state and writes the answer. A sound state stays sound.
 use answers::Plain;
-use lent::Small;
 use model::Span;
 ghost use Prim.Native.Nat.{_≤_};
 ghost use lib.ListN.{length};
@@ -8,15 +7,11 @@ ghost use Rattle.model.specs.Sound.{Sound};
 ghost use Rattle.answers.specs.Answers.{stateFrom};
 ghost use Rattle.replay.specs.Replay.{Ready};
 
-// The small numbers after a call, and the place past its answer.
-pub struct After {
-    pub small: Small,
-    pub at: usize,
-}
+// How long the list of small numbers is.
+pub const NUMBERS: usize = 69;
 
-// The same, and whether a set-up was accepted.
+// The place past an answer, and whether a set-up was accepted.
 pub struct Step {
-    pub small: Small,
     pub at: usize,
     pub on: bool,
 }
@@ -41,18 +36,18 @@ pub fn set_up(
     pin_count: &[u64; 256],
     marks: &mut [usize; 2048],
     bytes: &mut [u64; 1025],
+    books: &mut [u64; NUMBERS],
     out: &mut [u8; 1048576],
     at: usize,
     list: &[u64],
     capacity: &[u64],
     refreshes: &[bool],
-    x: Small,
     on: bool,
     k: usize,
     n: usize,
 ) -> Step
-    requires { ⌜ Ready on (stateFrom (now parent) (now depth) (now len) (now run) (now words) (now node) (now start) (now end) (now id) (now stamp) (now touched) (now write) (now «pin_node») (now «pin_start») (now «pin_end») (now «pin_count») (now marks) (now bytes) x) × (at ≤ 500000) × (k ≤ length (now list)) × (n ≤ length (now capacity)) × (n ≤ length (now refreshes)) ⌝ }
-    ensures { λ r. ⌜ Ready (r .on) (stateFrom (now (parent .exit)) (now (depth .exit)) (now (len .exit)) (now (run .exit)) (now (words .entry)) (now (node .entry)) (now (start .entry)) (now (end .entry)) (now (id .entry)) (now (stamp .entry)) (now (touched .entry)) (now (write .entry)) (now («pin_node» .entry)) (now («pin_start» .entry)) (now («pin_end» .entry)) (now («pin_count» .entry)) (now (marks .exit)) (now (bytes .exit)) (r .small)) × (r .at ≤ 1048576) ⌝ }
+    requires { ⌜ Ready on (stateFrom (now parent) (now depth) (now len) (now run) (now words) (now node) (now start) (now end) (now id) (now stamp) (now touched) (now write) (now «pin_node») (now «pin_start») (now «pin_end») (now «pin_count») (now marks) (now bytes) (now books)) × (at ≤ 500000) × (k ≤ length (now list)) × (n ≤ length (now capacity)) × (n ≤ length (now refreshes)) ⌝ }
+    ensures { λ r. ⌜ Ready (r .on) (stateFrom (now (parent .exit)) (now (depth .exit)) (now (len .exit)) (now (run .exit)) (now (words .entry)) (now (node .entry)) (now (start .entry)) (now (end .entry)) (now (id .entry)) (now (stamp .entry)) (now (touched .entry)) (now (write .entry)) (now («pin_node» .entry)) (now («pin_start» .entry)) (now («pin_end» .entry)) (now («pin_count» .entry)) (now (marks .exit)) (now (bytes .exit)) (now (books .exit))) × (r .at ≤ 1048576) ⌝ }
 {
     let r = known::set_up(
         parent,
@@ -73,29 +68,19 @@ pub fn set_up(
         pin_count,
         marks,
         bytes,
-        x,
+        books,
         &list[..k],
         &capacity[..n],
         &refreshes[..n],
     );
-    let small = r.small;
-    let a = r.answer;
-    match a {
+    match r {
         Plain::Refused(m) => {
             let next = statetext::put_refused(out, at, m);
-            Step {
-                small,
-                at: next,
-                on,
-            }
+            Step { at: next, on }
         }
         Plain::Done => {
             let next = statetext::put_line(out, at, b"ok");
-            Step {
-                small,
-                at: next,
-                on: true,
-            }
+            Step { at: next, on: true }
         }
     }
 }
@@ -120,14 +105,14 @@ pub fn pin(
     pin_count: &mut [u64; 256],
     marks: &[usize; 2048],
     bytes: &[u64; 1025],
+    books: &mut [u64; NUMBERS],
     out: &mut [u8; 1048576],
     at: usize,
-    x: Small,
     s: usize,
     sp: Span,
-) -> After
-    requires { ⌜ Sound (stateFrom (now parent) (now depth) (now len) (now run) (now words) (now node) (now start) (now end) (now id) (now stamp) (now touched) (now write) (now «pin_node») (now «pin_start») (now «pin_end») (now «pin_count») (now marks) (now bytes) x) × (at ≤ 500000) ⌝ }
-    ensures { λ r. ⌜ Sound (stateFrom (now (parent .entry)) (now (depth .entry)) (now (len .entry)) (now (run .entry)) (now (words .entry)) (now (node .entry)) (now (start .entry)) (now (end .entry)) (now (id .entry)) (now (stamp .entry)) (now (touched .entry)) (now (write .entry)) (now («pin_node» .exit)) (now («pin_start» .exit)) (now («pin_end» .exit)) (now («pin_count» .exit)) (now (marks .entry)) (now (bytes .entry)) (r .small)) × (r .at ≤ 1048576) ⌝ }
+) -> usize
+    requires { ⌜ Sound (stateFrom (now parent) (now depth) (now len) (now run) (now words) (now node) (now start) (now end) (now id) (now stamp) (now touched) (now write) (now «pin_node») (now «pin_start») (now «pin_end») (now «pin_count») (now marks) (now bytes) (now books)) × (at ≤ 500000) ⌝ }
+    ensures { λ r. ⌜ Sound (stateFrom (now (parent .entry)) (now (depth .entry)) (now (len .entry)) (now (run .entry)) (now (words .entry)) (now (node .entry)) (now (start .entry)) (now (end .entry)) (now (id .entry)) (now (stamp .entry)) (now (touched .entry)) (now (write .entry)) (now («pin_node» .exit)) (now («pin_start» .exit)) (now («pin_end» .exit)) (now («pin_count» .exit)) (now (marks .entry)) (now (bytes .entry)) (now (books .exit))) × (r ≤ 1048576) ⌝ }
 {
     let r = known::pin_source(
         parent,
@@ -148,14 +133,11 @@ pub fn pin(
         pin_count,
         marks,
         bytes,
-        x,
+        books,
         s,
         sp,
     );
-    let small = r.small;
-    let a = r.answer;
-    let next = statetext::put_plain(out, at, a);
-    After { small, at: next }
+    statetext::put_plain(out, at, r)
 }
 
 // `unpin`
@@ -178,14 +160,14 @@ pub fn unpin(
     pin_count: &mut [u64; 256],
     marks: &[usize; 2048],
     bytes: &[u64; 1025],
+    books: &mut [u64; NUMBERS],
     out: &mut [u8; 1048576],
     at: usize,
-    x: Small,
     s: usize,
     sp: Span,
-) -> After
-    requires { ⌜ Sound (stateFrom (now parent) (now depth) (now len) (now run) (now words) (now node) (now start) (now end) (now id) (now stamp) (now touched) (now write) (now «pin_node») (now «pin_start») (now «pin_end») (now «pin_count») (now marks) (now bytes) x) × (at ≤ 500000) ⌝ }
-    ensures { λ r. ⌜ Sound (stateFrom (now (parent .entry)) (now (depth .entry)) (now (len .entry)) (now (run .entry)) (now (words .entry)) (now (node .entry)) (now (start .entry)) (now (end .entry)) (now (id .entry)) (now (stamp .entry)) (now (touched .entry)) (now (write .entry)) (now («pin_node» .exit)) (now («pin_start» .exit)) (now («pin_end» .exit)) (now («pin_count» .exit)) (now (marks .entry)) (now (bytes .entry)) (r .small)) × (r .at ≤ 1048576) ⌝ }
+) -> usize
+    requires { ⌜ Sound (stateFrom (now parent) (now depth) (now len) (now run) (now words) (now node) (now start) (now end) (now id) (now stamp) (now touched) (now write) (now «pin_node») (now «pin_start») (now «pin_end») (now «pin_count») (now marks) (now bytes) (now books)) × (at ≤ 500000) ⌝ }
+    ensures { λ r. ⌜ Sound (stateFrom (now (parent .entry)) (now (depth .entry)) (now (len .entry)) (now (run .entry)) (now (words .entry)) (now (node .entry)) (now (start .entry)) (now (end .entry)) (now (id .entry)) (now (stamp .entry)) (now (touched .entry)) (now (write .entry)) (now («pin_node» .exit)) (now («pin_start» .exit)) (now («pin_end» .exit)) (now («pin_count» .exit)) (now (marks .entry)) (now (bytes .entry)) (now (books .exit))) × (r ≤ 1048576) ⌝ }
 {
     let r = known::unpin_source(
         parent,
@@ -206,14 +188,11 @@ pub fn unpin(
         pin_count,
         marks,
         bytes,
-        x,
+        books,
         s,
         sp,
     );
-    let small = r.small;
-    let a = r.answer;
-    let next = statetext::put_plain(out, at, a);
-    After { small, at: next }
+    statetext::put_plain(out, at, r)
 }
 
 // `resolve`
@@ -236,13 +215,13 @@ pub fn resolve(
     pin_count: &[u64; 256],
     marks: &[usize; 2048],
     bytes: &[u64; 1025],
+    books: &[u64; NUMBERS],
     out: &mut [u8; 1048576],
     at: usize,
     list: &[u64],
-    x: Small,
     n: usize,
 ) -> usize
-    requires { ⌜ Sound (stateFrom (now parent) (now depth) (now len) (now run) (now words) (now node) (now start) (now end) (now id) (now stamp) (now touched) (now write) (now «pin_node») (now «pin_start») (now «pin_end») (now «pin_count») (now marks) (now bytes) x) × (at ≤ 500000) × (n ≤ length (now list)) ⌝ }
+    requires { ⌜ Sound (stateFrom (now parent) (now depth) (now len) (now run) (now words) (now node) (now start) (now end) (now id) (now stamp) (now touched) (now write) (now «pin_node») (now «pin_start») (now «pin_end») (now «pin_count») (now marks) (now bytes) (now books)) × (at ≤ 500000) × (n ≤ length (now list)) ⌝ }
     ensures { λ r. ⌜ r ≤ 1048576 ⌝ }
 {
     let mut path_node = [0usize; 255];
@@ -266,9 +245,9 @@ pub fn resolve(
         pin_count,
         marks,
         bytes,
+        books,
         &mut path_node,
         &mut path_len,
-        x,
         &list[..n],
     );
     statetext::put_resolved(out, at, &path_node, &path_len, r)
@@ -294,14 +273,14 @@ pub fn insert(
     pin_count: &mut [u64; 256],
     marks: &mut [usize; 2048],
     bytes: &[u64; 1025],
+    books: &mut [u64; NUMBERS],
     out: &mut [u8; 1048576],
     at: usize,
     list: &[u64],
-    x: Small,
     n: usize,
-) -> After
-    requires { ⌜ Sound (stateFrom (now parent) (now depth) (now len) (now run) (now words) (now node) (now start) (now end) (now id) (now stamp) (now touched) (now write) (now «pin_node») (now «pin_start») (now «pin_end») (now «pin_count») (now marks) (now bytes) x) × (at ≤ 500000) × (n ≤ length (now list)) ⌝ }
-    ensures { λ r. ⌜ Sound (stateFrom (now (parent .exit)) (now (depth .exit)) (now (len .exit)) (now (run .exit)) (now (words .exit)) (now (node .exit)) (now (start .exit)) (now (end .exit)) (now (id .exit)) (now (stamp .exit)) (now (touched .exit)) (now (write .exit)) (now («pin_node» .exit)) (now («pin_start» .exit)) (now («pin_end» .exit)) (now («pin_count» .exit)) (now (marks .exit)) (now (bytes .entry)) (r .small)) × (r .at ≤ 1048576) ⌝ }
+) -> usize
+    requires { ⌜ Sound (stateFrom (now parent) (now depth) (now len) (now run) (now words) (now node) (now start) (now end) (now id) (now stamp) (now touched) (now write) (now «pin_node») (now «pin_start») (now «pin_end») (now «pin_count») (now marks) (now bytes) (now books)) × (at ≤ 500000) × (n ≤ length (now list)) ⌝ }
+    ensures { λ r. ⌜ Sound (stateFrom (now (parent .exit)) (now (depth .exit)) (now (len .exit)) (now (run .exit)) (now (words .exit)) (now (node .exit)) (now (start .exit)) (now (end .exit)) (now (id .exit)) (now (stamp .exit)) (now (touched .exit)) (now (write .exit)) (now («pin_node» .exit)) (now («pin_start» .exit)) (now («pin_end» .exit)) (now («pin_count» .exit)) (now (marks .exit)) (now (bytes .entry)) (now (books .exit))) × (r ≤ 1048576) ⌝ }
 {
     let mut path_node = [0usize; 255];
     let mut path_len = [0usize; 255];
@@ -324,15 +303,12 @@ pub fn insert(
         pin_count,
         marks,
         bytes,
+        books,
         &mut path_node,
         &mut path_len,
-        x,
         &list[..n],
     );
-    let small = r.small;
-    let a = r.answer;
-    let next = statetext::put_inserted(out, at, &path_node, &path_len, a);
-    After { small, at: next }
+    statetext::put_inserted(out, at, &path_node, &path_len, r)
 }
 
 // `bring`
@@ -355,16 +331,16 @@ pub fn bring(
     pin_count: &[u64; 256],
     marks: &mut [usize; 2048],
     bytes: &[u64; 1025],
+    books: &mut [u64; NUMBERS],
     out: &mut [u8; 1048576],
     at: usize,
-    x: Small,
     s: usize,
     sp: Span,
     time: f64,
     w: u32,
-) -> After
-    requires { ⌜ Sound (stateFrom (now parent) (now depth) (now len) (now run) (now words) (now node) (now start) (now end) (now id) (now stamp) (now touched) (now write) (now «pin_node») (now «pin_start») (now «pin_end») (now «pin_count») (now marks) (now bytes) x) × (at ≤ 500000) ⌝ }
-    ensures { λ r. ⌜ Sound (stateFrom (now (parent .entry)) (now (depth .entry)) (now (len .entry)) (now (run .entry)) (now (words .entry)) (now (node .exit)) (now (start .exit)) (now (end .exit)) (now (id .exit)) (now (stamp .exit)) (now (touched .exit)) (now (write .exit)) (now («pin_node» .entry)) (now («pin_start» .entry)) (now («pin_end» .entry)) (now («pin_count» .entry)) (now (marks .exit)) (now (bytes .entry)) (r .small)) × (r .at ≤ 1048576) ⌝ }
+) -> usize
+    requires { ⌜ Sound (stateFrom (now parent) (now depth) (now len) (now run) (now words) (now node) (now start) (now end) (now id) (now stamp) (now touched) (now write) (now «pin_node») (now «pin_start») (now «pin_end») (now «pin_count») (now marks) (now bytes) (now books)) × (at ≤ 500000) ⌝ }
+    ensures { λ r. ⌜ Sound (stateFrom (now (parent .entry)) (now (depth .entry)) (now (len .entry)) (now (run .entry)) (now (words .entry)) (now (node .exit)) (now (start .exit)) (now (end .exit)) (now (id .exit)) (now (stamp .exit)) (now (touched .exit)) (now (write .exit)) (now («pin_node» .entry)) (now («pin_start» .entry)) (now («pin_end» .entry)) (now («pin_count» .entry)) (now (marks .exit)) (now (bytes .entry)) (now (books .exit))) × (r ≤ 1048576) ⌝ }
 {
     let mut out_node = [0usize; 128];
     let mut out_start = [0usize; 128];
@@ -391,21 +367,19 @@ pub fn bring(
         pin_count,
         marks,
         bytes,
+        books,
         &mut out_node,
         &mut out_start,
         &mut out_end,
         &mut out_write,
         &mut out_bytes,
         &mut out_dead,
-        x,
         s,
         sp,
         time,
         w,
     );
-    let small = r.small;
-    let a = r.answer;
-    let next = statetext::put_given_out(
+    statetext::put_brought(
         out,
         at,
         &out_node,
@@ -414,9 +388,8 @@ pub fn bring(
         &out_write,
         &out_bytes,
         &out_dead,
-        a,
-    );
-    After { small, at: next }
+        r,
+    )
 }
 
 // `expire`
@@ -439,15 +412,15 @@ pub fn expire(
     pin_count: &[u64; 256],
     marks: &mut [usize; 2048],
     bytes: &[u64; 1025],
+    books: &mut [u64; NUMBERS],
     out: &mut [u8; 1048576],
     at: usize,
-    x: Small,
     s: usize,
     time: f64,
     seconds: f64,
-) -> After
-    requires { ⌜ Sound (stateFrom (now parent) (now depth) (now len) (now run) (now words) (now node) (now start) (now end) (now id) (now stamp) (now touched) (now write) (now «pin_node») (now «pin_start») (now «pin_end») (now «pin_count») (now marks) (now bytes) x) × (at ≤ 500000) ⌝ }
-    ensures { λ r. ⌜ Sound (stateFrom (now (parent .entry)) (now (depth .entry)) (now (len .entry)) (now (run .entry)) (now (words .entry)) (now (node .exit)) (now (start .exit)) (now (end .exit)) (now (id .exit)) (now (stamp .exit)) (now (touched .exit)) (now (write .exit)) (now («pin_node» .entry)) (now («pin_start» .entry)) (now («pin_end» .entry)) (now («pin_count» .entry)) (now (marks .exit)) (now (bytes .entry)) (r .small)) × (r .at ≤ 1048576) ⌝ }
+) -> usize
+    requires { ⌜ Sound (stateFrom (now parent) (now depth) (now len) (now run) (now words) (now node) (now start) (now end) (now id) (now stamp) (now touched) (now write) (now «pin_node») (now «pin_start») (now «pin_end») (now «pin_count») (now marks) (now bytes) (now books)) × (at ≤ 500000) ⌝ }
+    ensures { λ r. ⌜ Sound (stateFrom (now (parent .entry)) (now (depth .entry)) (now (len .entry)) (now (run .entry)) (now (words .entry)) (now (node .exit)) (now (start .exit)) (now (end .exit)) (now (id .exit)) (now (stamp .exit)) (now (touched .exit)) (now (write .exit)) (now («pin_node» .entry)) (now («pin_start» .entry)) (now («pin_end» .entry)) (now («pin_count» .entry)) (now (marks .exit)) (now (bytes .entry)) (now (books .exit))) × (r ≤ 1048576) ⌝ }
 {
     let mut out_node = [0usize; 128];
     let mut out_start = [0usize; 128];
@@ -474,20 +447,18 @@ pub fn expire(
         pin_count,
         marks,
         bytes,
+        books,
         &mut out_node,
         &mut out_start,
         &mut out_end,
         &mut out_write,
         &mut out_bytes,
         &mut out_dead,
-        x,
         s,
         time,
         seconds,
     );
-    let small = r.small;
-    let a = r.answer;
-    let next = statetext::put_given_out(
+    statetext::put_expired(
         out,
         at,
         &out_node,
@@ -496,9 +467,8 @@ pub fn expire(
         &out_write,
         &out_bytes,
         &out_dead,
-        a,
-    );
-    After { small, at: next }
+        r,
+    )
 }
 
 // `remove`
@@ -521,14 +491,14 @@ pub fn remove(
     pin_count: &[u64; 256],
     marks: &mut [usize; 2048],
     bytes: &[u64; 1025],
+    books: &mut [u64; NUMBERS],
     out: &mut [u8; 1048576],
     at: usize,
-    x: Small,
     s: usize,
     sp: Span,
-) -> After
-    requires { ⌜ Sound (stateFrom (now parent) (now depth) (now len) (now run) (now words) (now node) (now start) (now end) (now id) (now stamp) (now touched) (now write) (now «pin_node») (now «pin_start») (now «pin_end») (now «pin_count») (now marks) (now bytes) x) × (at ≤ 500000) ⌝ }
-    ensures { λ r. ⌜ Sound (stateFrom (now (parent .entry)) (now (depth .entry)) (now (len .entry)) (now (run .entry)) (now (words .entry)) (now (node .exit)) (now (start .exit)) (now (end .exit)) (now (id .exit)) (now (stamp .exit)) (now (touched .exit)) (now (write .exit)) (now («pin_node» .entry)) (now («pin_start» .entry)) (now («pin_end» .entry)) (now («pin_count» .entry)) (now (marks .exit)) (now (bytes .entry)) (r .small)) × (r .at ≤ 1048576) ⌝ }
+) -> usize
+    requires { ⌜ Sound (stateFrom (now parent) (now depth) (now len) (now run) (now words) (now node) (now start) (now end) (now id) (now stamp) (now touched) (now write) (now «pin_node») (now «pin_start») (now «pin_end») (now «pin_count») (now marks) (now bytes) (now books)) × (at ≤ 500000) ⌝ }
+    ensures { λ r. ⌜ Sound (stateFrom (now (parent .entry)) (now (depth .entry)) (now (len .entry)) (now (run .entry)) (now (words .entry)) (now (node .exit)) (now (start .exit)) (now (end .exit)) (now (id .exit)) (now (stamp .exit)) (now (touched .exit)) (now (write .exit)) (now («pin_node» .entry)) (now («pin_start» .entry)) (now («pin_end» .entry)) (now («pin_count» .entry)) (now (marks .exit)) (now (bytes .entry)) (now (books .exit))) × (r ≤ 1048576) ⌝ }
 {
     let mut writes = [0u32; 128];
     let r = known::store_remove(
@@ -550,15 +520,12 @@ pub fn remove(
         pin_count,
         marks,
         bytes,
+        books,
         &mut writes,
-        x,
         s,
         sp,
     );
-    let small = r.small;
-    let a = r.answer;
-    let next = statetext::put_removed(out, at, &writes, a);
-    After { small, at: next }
+    statetext::put_removed(out, at, &writes, r)
 }
 
 // The refusal of a touch of more than 64 spans.
@@ -608,22 +575,21 @@ pub fn touch(
     pin_count: &[u64; 256],
     marks: &mut [usize; 2048],
     bytes: &[u64; 1025],
+    books: &mut [u64; NUMBERS],
     out: &mut [u8; 1048576],
     at: usize,
     spans: &[usize; 192],
-    x: Small,
     s: usize,
     time: f64,
     counted: bool,
     n: usize,
-) -> After
-    requires { ⌜ Sound (stateFrom (now parent) (now depth) (now len) (now run) (now words) (now node) (now start) (now end) (now id) (now stamp) (now touched) (now write) (now «pin_node») (now «pin_start») (now «pin_end») (now «pin_count») (now marks) (now bytes) x) × (at ≤ 500000) × (n ≤ 65) ⌝ }
-    ensures { λ r. ⌜ Sound (stateFrom (now (parent .entry)) (now (depth .entry)) (now (len .entry)) (now (run .entry)) (now (words .entry)) (now (node .exit)) (now (start .exit)) (now (end .exit)) (now (id .exit)) (now (stamp .exit)) (now (touched .exit)) (now (write .exit)) (now («pin_node» .entry)) (now («pin_start» .entry)) (now («pin_end» .entry)) (now («pin_count» .entry)) (now (marks .exit)) (now (bytes .entry)) (r .small)) × (r .at ≤ 1048576) ⌝ }
+) -> usize
+    requires { ⌜ Sound (stateFrom (now parent) (now depth) (now len) (now run) (now words) (now node) (now start) (now end) (now id) (now stamp) (now touched) (now write) (now «pin_node») (now «pin_start») (now «pin_end») (now «pin_count») (now marks) (now bytes) (now books)) × (at ≤ 500000) × (n ≤ 65) ⌝ }
+    ensures { λ r. ⌜ Sound (stateFrom (now (parent .entry)) (now (depth .entry)) (now (len .entry)) (now (run .entry)) (now (words .entry)) (now (node .exit)) (now (start .exit)) (now (end .exit)) (now (id .exit)) (now (stamp .exit)) (now (touched .exit)) (now (write .exit)) (now («pin_node» .entry)) (now («pin_start» .entry)) (now («pin_end» .entry)) (now («pin_count» .entry)) (now (marks .exit)) (now (bytes .entry)) (now (books .exit))) × (r ≤ 1048576) ⌝ }
 {
     if 64 < n {
-        let stores = x.books[2] as usize;
-        let next = statetext::put_refused(out, at, too_many(stores, s));
-        return After { small: x, at: next };
+        let stores = books[2] as usize;
+        return statetext::put_refused(out, at, too_many(stores, s));
     }
     let sps = spans_of(spans);
     let r = known::store_used_array(
@@ -645,17 +611,14 @@ pub fn touch(
         pin_count,
         marks,
         bytes,
-        x,
+        books,
         s,
         sps,
         n,
         time,
         counted,
     );
-    let small = r.small;
-    let a = r.answer;
-    let next = statetext::put_bytes_read(out, at, a);
-    After { small, at: next }
+    statetext::put_bytes_read(out, at, r)
 }
 
 // `lookup`
@@ -678,15 +641,15 @@ pub fn lookup(
     pin_count: &[u64; 256],
     marks: &[usize; 2048],
     bytes: &[u64; 1025],
+    books: &[u64; NUMBERS],
     out: &mut [u8; 1048576],
     at: usize,
     list: &[u64],
     tiers: &[usize],
-    x: Small,
     k: usize,
     n: usize,
 ) -> usize
-    requires { ⌜ Sound (stateFrom (now parent) (now depth) (now len) (now run) (now words) (now node) (now start) (now end) (now id) (now stamp) (now touched) (now write) (now «pin_node») (now «pin_start») (now «pin_end») (now «pin_count») (now marks) (now bytes) x) × (at ≤ 500000) × (k ≤ length (now tiers)) × (n ≤ length (now list)) ⌝ }
+    requires { ⌜ Sound (stateFrom (now parent) (now depth) (now len) (now run) (now words) (now node) (now start) (now end) (now id) (now stamp) (now touched) (now write) (now «pin_node») (now «pin_start») (now «pin_end») (now «pin_count») (now marks) (now bytes) (now books)) × (at ≤ 500000) × (k ≤ length (now tiers)) × (n ≤ length (now list)) ⌝ }
     ensures { λ r. ⌜ r ≤ 1048576 ⌝ }
 {
     let mut path_node = [0usize; 255];
@@ -714,19 +677,16 @@ pub fn lookup(
         pin_count,
         marks,
         bytes,
+        books,
         &mut path_node,
         &mut path_len,
         &mut span_tier,
         &mut span_node,
         &mut span_start,
         &mut span_end,
-        x,
         &tiers[..k],
         &list[..n],
     );
-    let a = r.answer;
-    let blocks = r.blocks;
-    let sums = r.bytes;
     statetext::put_looked_up(
         out,
         at,
@@ -736,9 +696,7 @@ pub fn lookup(
         &span_node,
         &span_start,
         &span_end,
-        a,
-        blocks,
-        sums,
+        r,
         k,
     )
 }

@@ -1,13 +1,12 @@
 // Reads the lines of the replay form on standard input and writes an answer line for each. docs/REPLAY.md has the form.
 //
-// The state is 18 arrays and the small numbers by value. Once a set-up was accepted it is sound, and each line keeps it so.
+// The state is 19 arrays. Once a set-up was accepted it is sound, and each line keeps it so.
 mod calls;
 mod input;
 
-use calls::After;
+use calls::NUMBERS;
 use calls::Step;
 use input::Cursor;
-use lent::Small;
 use lines::Op;
 ghost use Prim.Native.Nat.{_≤_};
 ghost use lib.ListN.{length};
@@ -36,14 +35,14 @@ fn only_read(
     pin_count: &[u64; 256],
     marks: &[usize; 2048],
     bytes: &[u64; 1025],
+    books: &[u64; NUMBERS],
     out: &mut [u8; 1048576],
     at: usize,
     list: &[u64; 1026],
     tiers: &[usize; 9],
-    x: Small,
     op: Op,
 ) -> usize
-    requires { ⌜ Filled op × Sound (stateFrom (now parent) (now depth) (now len) (now run) (now words) (now node) (now start) (now end) (now id) (now stamp) (now touched) (now write) (now «pin_node») (now «pin_start») (now «pin_end») (now «pin_count») (now marks) (now bytes) x) × (at ≤ 500000) ⌝ }
+    requires { ⌜ Filled op × Sound (stateFrom (now parent) (now depth) (now len) (now run) (now words) (now node) (now start) (now end) (now id) (now stamp) (now touched) (now write) (now «pin_node») (now «pin_start») (now «pin_end») (now «pin_count») (now marks) (now bytes) (now books)) × (at ≤ 500000) ⌝ }
     ensures { λ r. ⌜ r ≤ 1048576 ⌝ }
 {
     match op {
@@ -66,10 +65,10 @@ fn only_read(
             pin_count,
             marks,
             bytes,
+            books,
             out,
             at,
             list,
-            x,
             n,
         ),
         Op::Lookup(k, n) => calls::lookup(
@@ -91,11 +90,11 @@ fn only_read(
             pin_count,
             marks,
             bytes,
+            books,
             out,
             at,
             list,
             tiers,
-            x,
             k,
             n,
         ),
@@ -120,7 +119,7 @@ fn only_read(
             pin_count,
             marks,
             bytes,
-            x,
+            books,
         ),
         Op::Unreadable => statetext::put_line(out, at, b"unreadable"),
         _ => at,
@@ -147,15 +146,15 @@ fn read_or_pin(
     pin_count: &mut [u64; 256],
     marks: &[usize; 2048],
     bytes: &[u64; 1025],
+    books: &mut [u64; NUMBERS],
     out: &mut [u8; 1048576],
     at: usize,
     list: &[u64; 1026],
     tiers: &[usize; 9],
-    x: Small,
     op: Op,
-) -> After
-    requires { ⌜ Filled op × Sound (stateFrom (now parent) (now depth) (now len) (now run) (now words) (now node) (now start) (now end) (now id) (now stamp) (now touched) (now write) (now «pin_node») (now «pin_start») (now «pin_end») (now «pin_count») (now marks) (now bytes) x) × (at ≤ 500000) ⌝ }
-    ensures { λ r. ⌜ Sound (stateFrom (now (parent .entry)) (now (depth .entry)) (now (len .entry)) (now (run .entry)) (now (words .entry)) (now (node .entry)) (now (start .entry)) (now (end .entry)) (now (id .entry)) (now (stamp .entry)) (now (touched .entry)) (now (write .entry)) (now («pin_node» .exit)) (now («pin_start» .exit)) (now («pin_end» .exit)) (now («pin_count» .exit)) (now (marks .entry)) (now (bytes .entry)) (r .small)) × (r .at ≤ 1048576) ⌝ }
+) -> usize
+    requires { ⌜ Filled op × Sound (stateFrom (now parent) (now depth) (now len) (now run) (now words) (now node) (now start) (now end) (now id) (now stamp) (now touched) (now write) (now «pin_node») (now «pin_start») (now «pin_end») (now «pin_count») (now marks) (now bytes) (now books)) × (at ≤ 500000) ⌝ }
+    ensures { λ r. ⌜ Sound (stateFrom (now (parent .entry)) (now (depth .entry)) (now (len .entry)) (now (run .entry)) (now (words .entry)) (now (node .entry)) (now (start .entry)) (now (end .entry)) (now (id .entry)) (now (stamp .entry)) (now (touched .entry)) (now (write .entry)) (now («pin_node» .exit)) (now («pin_start» .exit)) (now («pin_end» .exit)) (now («pin_count» .exit)) (now (marks .entry)) (now (bytes .entry)) (now (books .exit))) × (r ≤ 1048576) ⌝ }
 {
     match op {
         Op::Pin(s, sp) => calls::pin(
@@ -177,9 +176,9 @@ fn read_or_pin(
             pin_count,
             marks,
             bytes,
+            books,
             out,
             at,
-            x,
             s,
             sp,
         ),
@@ -202,41 +201,38 @@ fn read_or_pin(
             pin_count,
             marks,
             bytes,
+            books,
             out,
             at,
-            x,
             s,
             sp,
         ),
-        _ => {
-            let next = only_read(
-                parent,
-                depth,
-                len,
-                run,
-                words,
-                node,
-                start,
-                end,
-                id,
-                stamp,
-                touched,
-                write,
-                &*pin_node,
-                &*pin_start,
-                &*pin_end,
-                &*pin_count,
-                marks,
-                bytes,
-                out,
-                at,
-                list,
-                tiers,
-                x,
-                op,
-            );
-            After { small: x, at: next }
-        }
+        _ => only_read(
+            parent,
+            depth,
+            len,
+            run,
+            words,
+            node,
+            start,
+            end,
+            id,
+            stamp,
+            touched,
+            write,
+            &*pin_node,
+            &*pin_start,
+            &*pin_end,
+            &*pin_count,
+            marks,
+            bytes,
+            &*books,
+            out,
+            at,
+            list,
+            tiers,
+            op,
+        ),
     }
 }
 
@@ -260,14 +256,14 @@ fn change_store(
     pin_count: &[u64; 256],
     marks: &mut [usize; 2048],
     bytes: &[u64; 1025],
+    books: &mut [u64; NUMBERS],
     out: &mut [u8; 1048576],
     at: usize,
     spans: &[usize; 192],
-    x: Small,
     op: Op,
-) -> After
-    requires { ⌜ Filled op × Sound (stateFrom (now parent) (now depth) (now len) (now run) (now words) (now node) (now start) (now end) (now id) (now stamp) (now touched) (now write) (now «pin_node») (now «pin_start») (now «pin_end») (now «pin_count») (now marks) (now bytes) x) × (at ≤ 500000) ⌝ }
-    ensures { λ r. ⌜ Sound (stateFrom (now (parent .entry)) (now (depth .entry)) (now (len .entry)) (now (run .entry)) (now (words .entry)) (now (node .exit)) (now (start .exit)) (now (end .exit)) (now (id .exit)) (now (stamp .exit)) (now (touched .exit)) (now (write .exit)) (now («pin_node» .entry)) (now («pin_start» .entry)) (now («pin_end» .entry)) (now («pin_count» .entry)) (now (marks .exit)) (now (bytes .entry)) (r .small)) × (r .at ≤ 1048576) ⌝ }
+) -> usize
+    requires { ⌜ Filled op × Sound (stateFrom (now parent) (now depth) (now len) (now run) (now words) (now node) (now start) (now end) (now id) (now stamp) (now touched) (now write) (now «pin_node») (now «pin_start») (now «pin_end») (now «pin_count») (now marks) (now bytes) (now books)) × (at ≤ 500000) ⌝ }
+    ensures { λ r. ⌜ Sound (stateFrom (now (parent .entry)) (now (depth .entry)) (now (len .entry)) (now (run .entry)) (now (words .entry)) (now (node .exit)) (now (start .exit)) (now (end .exit)) (now (id .exit)) (now (stamp .exit)) (now (touched .exit)) (now (write .exit)) (now («pin_node» .entry)) (now («pin_start» .entry)) (now («pin_end» .entry)) (now («pin_count» .entry)) (now (marks .exit)) (now (bytes .entry)) (now (books .exit))) × (r ≤ 1048576) ⌝ }
 {
     match op {
         Op::Bring(s, sp, time, w) => calls::bring(
@@ -289,9 +285,9 @@ fn change_store(
             pin_count,
             marks,
             bytes,
+            books,
             out,
             at,
-            x,
             s,
             sp,
             time,
@@ -316,10 +312,10 @@ fn change_store(
             pin_count,
             marks,
             bytes,
+            books,
             out,
             at,
             spans,
-            x,
             s,
             time,
             counted,
@@ -344,9 +340,9 @@ fn change_store(
             pin_count,
             marks,
             bytes,
+            books,
             out,
             at,
-            x,
             s,
             sp,
         ),
@@ -369,14 +365,14 @@ fn change_store(
             pin_count,
             marks,
             bytes,
+            books,
             out,
             at,
-            x,
             s,
             time,
             seconds,
         ),
-        _ => After { small: x, at },
+        _ => at,
     }
 }
 
@@ -400,16 +396,16 @@ fn store_or_read(
     pin_count: &mut [u64; 256],
     marks: &mut [usize; 2048],
     bytes: &[u64; 1025],
+    books: &mut [u64; NUMBERS],
     out: &mut [u8; 1048576],
     at: usize,
     list: &[u64; 1026],
     spans: &[usize; 192],
     tiers: &[usize; 9],
-    x: Small,
     op: Op,
-) -> After
-    requires { ⌜ Filled op × Sound (stateFrom (now parent) (now depth) (now len) (now run) (now words) (now node) (now start) (now end) (now id) (now stamp) (now touched) (now write) (now «pin_node») (now «pin_start») (now «pin_end») (now «pin_count») (now marks) (now bytes) x) × (at ≤ 500000) ⌝ }
-    ensures { λ r. ⌜ Sound (stateFrom (now (parent .entry)) (now (depth .entry)) (now (len .entry)) (now (run .entry)) (now (words .entry)) (now (node .exit)) (now (start .exit)) (now (end .exit)) (now (id .exit)) (now (stamp .exit)) (now (touched .exit)) (now (write .exit)) (now («pin_node» .exit)) (now («pin_start» .exit)) (now («pin_end» .exit)) (now («pin_count» .exit)) (now (marks .exit)) (now (bytes .entry)) (r .small)) × (r .at ≤ 1048576) ⌝ }
+) -> usize
+    requires { ⌜ Filled op × Sound (stateFrom (now parent) (now depth) (now len) (now run) (now words) (now node) (now start) (now end) (now id) (now stamp) (now touched) (now write) (now «pin_node») (now «pin_start») (now «pin_end») (now «pin_count») (now marks) (now bytes) (now books)) × (at ≤ 500000) ⌝ }
+    ensures { λ r. ⌜ Sound (stateFrom (now (parent .entry)) (now (depth .entry)) (now (len .entry)) (now (run .entry)) (now (words .entry)) (now (node .exit)) (now (start .exit)) (now (end .exit)) (now (id .exit)) (now (stamp .exit)) (now (touched .exit)) (now (write .exit)) (now («pin_node» .exit)) (now («pin_start» .exit)) (now («pin_end» .exit)) (now («pin_count» .exit)) (now (marks .exit)) (now (bytes .entry)) (now (books .exit))) × (r ≤ 1048576) ⌝ }
 {
     if changes_store(op) {
         return change_store(
@@ -431,10 +427,10 @@ fn store_or_read(
             &*pin_count,
             marks,
             bytes,
+            books,
             out,
             at,
             spans,
-            x,
             op,
         );
     }
@@ -457,11 +453,11 @@ fn store_or_read(
         pin_count,
         &*marks,
         bytes,
+        books,
         out,
         at,
         list,
         tiers,
-        x,
         op,
     )
 }
@@ -486,16 +482,16 @@ fn on_sound(
     pin_count: &mut [u64; 256],
     marks: &mut [usize; 2048],
     bytes: &[u64; 1025],
+    books: &mut [u64; NUMBERS],
     out: &mut [u8; 1048576],
     at: usize,
     list: &[u64; 1026],
     spans: &[usize; 192],
     tiers: &[usize; 9],
-    x: Small,
     op: Op,
-) -> After
-    requires { ⌜ Filled op × Sound (stateFrom (now parent) (now depth) (now len) (now run) (now words) (now node) (now start) (now end) (now id) (now stamp) (now touched) (now write) (now «pin_node») (now «pin_start») (now «pin_end») (now «pin_count») (now marks) (now bytes) x) × (at ≤ 500000) ⌝ }
-    ensures { λ r. ⌜ Sound (stateFrom (now (parent .exit)) (now (depth .exit)) (now (len .exit)) (now (run .exit)) (now (words .exit)) (now (node .exit)) (now (start .exit)) (now (end .exit)) (now (id .exit)) (now (stamp .exit)) (now (touched .exit)) (now (write .exit)) (now («pin_node» .exit)) (now («pin_start» .exit)) (now («pin_end» .exit)) (now («pin_count» .exit)) (now (marks .exit)) (now (bytes .entry)) (r .small)) × (r .at ≤ 1048576) ⌝ }
+) -> usize
+    requires { ⌜ Filled op × Sound (stateFrom (now parent) (now depth) (now len) (now run) (now words) (now node) (now start) (now end) (now id) (now stamp) (now touched) (now write) (now «pin_node») (now «pin_start») (now «pin_end») (now «pin_count») (now marks) (now bytes) (now books)) × (at ≤ 500000) ⌝ }
+    ensures { λ r. ⌜ Sound (stateFrom (now (parent .exit)) (now (depth .exit)) (now (len .exit)) (now (run .exit)) (now (words .exit)) (now (node .exit)) (now (start .exit)) (now (end .exit)) (now (id .exit)) (now (stamp .exit)) (now (touched .exit)) (now (write .exit)) (now («pin_node» .exit)) (now («pin_start» .exit)) (now («pin_end» .exit)) (now («pin_count» .exit)) (now (marks .exit)) (now (bytes .entry)) (now (books .exit))) × (r ≤ 1048576) ⌝ }
 {
     if let Op::Insert(n) = op {
         return calls::insert(
@@ -517,10 +513,10 @@ fn on_sound(
             pin_count,
             marks,
             bytes,
+            books,
             out,
             at,
             list,
-            x,
             n,
         );
     }
@@ -543,12 +539,12 @@ fn on_sound(
         pin_count,
         marks,
         bytes,
+        books,
         out,
         at,
         list,
         spans,
         tiers,
-        x,
         op,
     )
 }
@@ -596,6 +592,7 @@ fn turn(
     pin_count: &mut [u64; 256],
     marks: &mut [usize; 2048],
     bytes: &mut [u64; 1025],
+    books: &mut [u64; NUMBERS],
     out: &mut [u8; 1048576],
     at: usize,
     list: &[u64; 1026],
@@ -603,12 +600,11 @@ fn turn(
     tiers: &[usize; 9],
     capacity: &[u64; 9],
     refreshes: &[bool; 9],
-    x: Small,
     on: bool,
     op: Op,
 ) -> Step
-    requires { ⌜ Filled op × Ready on (stateFrom (now parent) (now depth) (now len) (now run) (now words) (now node) (now start) (now end) (now id) (now stamp) (now touched) (now write) (now «pin_node») (now «pin_start») (now «pin_end») (now «pin_count») (now marks) (now bytes) x) × (at ≤ 500000) ⌝ }
-    ensures { λ r. ⌜ Ready (r .on) (stateFrom (now (parent .exit)) (now (depth .exit)) (now (len .exit)) (now (run .exit)) (now (words .exit)) (now (node .exit)) (now (start .exit)) (now (end .exit)) (now (id .exit)) (now (stamp .exit)) (now (touched .exit)) (now (write .exit)) (now («pin_node» .exit)) (now («pin_start» .exit)) (now («pin_end» .exit)) (now («pin_count» .exit)) (now (marks .exit)) (now (bytes .exit)) (r .small)) × (r .at ≤ 1048576) ⌝ }
+    requires { ⌜ Filled op × Ready on (stateFrom (now parent) (now depth) (now len) (now run) (now words) (now node) (now start) (now end) (now id) (now stamp) (now touched) (now write) (now «pin_node») (now «pin_start») (now «pin_end») (now «pin_count») (now marks) (now bytes) (now books)) × (at ≤ 500000) ⌝ }
+    ensures { λ r. ⌜ Ready (r .on) (stateFrom (now (parent .exit)) (now (depth .exit)) (now (len .exit)) (now (run .exit)) (now (words .exit)) (now (node .exit)) (now (start .exit)) (now (end .exit)) (now (id .exit)) (now (stamp .exit)) (now (touched .exit)) (now (write .exit)) (now («pin_node» .exit)) (now («pin_start» .exit)) (now («pin_end» .exit)) (now («pin_count» .exit)) (now (marks .exit)) (now (bytes .exit)) (now (books .exit))) × (r .at ≤ 1048576) ⌝ }
 {
     if let Op::SetUp(k, n) = op {
         return calls::set_up(
@@ -630,12 +626,12 @@ fn turn(
             &*pin_count,
             marks,
             bytes,
+            books,
             out,
             at,
             list,
             capacity,
             refreshes,
-            x,
             on,
             k,
             n,
@@ -644,12 +640,11 @@ fn turn(
     if !on {
         let next = before_set_up(out, at, op);
         return Step {
-            small: x,
             at: next,
             on: false,
         };
     }
-    let a = on_sound(
+    let next = on_sound(
         parent,
         depth,
         len,
@@ -668,20 +663,15 @@ fn turn(
         pin_count,
         marks,
         &*bytes,
+        books,
         out,
         at,
         list,
         spans,
         tiers,
-        x,
         op,
     );
-    let small = a.small;
-    Step {
-        small,
-        at: a.at,
-        on: true,
-    }
+    Step { at: next, on: true }
 }
 
 fn write_front(out: &[u8], n: usize)
@@ -700,10 +690,6 @@ fn flush(out: &[u8; 1048576], at: usize, most: usize) -> usize
     }
     write_front(out, at);
     0
-}
-
-fn nothing() -> Small {
-    Small { books: [0; 69] }
 }
 
 // A proved loop has to end, and nothing says that the input does: the turns are counted down from a number that no run uses up.
@@ -726,6 +712,7 @@ fn all_lines(
     pin_count: &mut [u64; 256],
     marks: &mut [usize; 2048],
     bytes: &mut [u64; 1025],
+    books: &mut [u64; NUMBERS],
     list: &mut [u64; 1026],
     spans: &mut [usize; 192],
     tiers: &mut [usize; 9],
@@ -734,7 +721,6 @@ fn all_lines(
     buf: &mut [u8; 131072],
     out: &mut [u8; 1048576],
 ) {
-    let mut x = nothing();
     let mut on = false;
     let mut at: usize = 0;
     let mut c = Cursor {
@@ -770,6 +756,7 @@ fn all_lines(
             pin_count,
             marks,
             bytes,
+            books,
             out,
             at,
             &*list,
@@ -777,11 +764,9 @@ fn all_lines(
             &*tiers,
             &*capacity,
             &*refreshes,
-            x,
             on,
             op,
         );
-        x = t.small;
         on = t.on;
         at = flush(&*out, t.at, 500000);
         c = n.cursor;
@@ -808,6 +793,7 @@ fn main() {
     let mut pin_count = [0u64; 256];
     let mut marks = [0usize; 2048];
     let mut bytes = [0u64; 1025];
+    let mut books = [0u64; NUMBERS];
     let mut list = [0u64; 1026];
     let mut spans = [0usize; 192];
     let mut tiers = [0usize; 9];
@@ -834,6 +820,7 @@ fn main() {
         &mut pin_count,
         &mut marks,
         &mut bytes,
+        &mut books,
         &mut list,
         &mut spans,
         &mut tiers,

@@ -21,7 +21,7 @@ module _ (st : State) (l : PathList) (hs : List ℕ) (sound : Sound st) (fits : 
   many-is h = rw (first-is (resolveRefusals st l hs) (resolve-exact st l hs) 3 (inr (λ n. n sound, inr (λ n. n fits, inl (h, refl)))))
 
   pub resolved-is : {l′ : PathList} {m : Match} → length hs ≤ 1024 → Resolved (st .tree) hs l l′ m
-      → outcome st l′ (done (record { segs = m .segs; blocks = m .blocks })) ≡ resolveCall st l hs
+      → outcome st l′ (done (record { path = record { segs = m .segs; blocks = m .blocks } })) ≡ resolveCall st l hs
   unfolding resolveCall resolve blocks
   resolved-is {l′} {m} h r =
       rw (first-is (resolveRefusals st l hs) (resolve-exact st l hs) 0 (inr (λ n. n sound, inr (λ n. n fits, inr (λ n. omega arith, refl)))), r .answer, r .lists)

@@ -1,6 +1,6 @@
-use answers::Path;
 use answers::Resolved;
-use lent::Small;
+use model::Path;
+use model::ResolveAnswer;
 ghost use mathlib.Core.Path.{_≡_};
 ghost use Rattle.model.specs.Sound.{Sound};
 ghost use Rattle.model.specs.Refusals.{PathFits};
@@ -28,13 +28,13 @@ pub fn resolve(
     pin_count: &[u64],
     marks: &[usize],
     bytes: &[u64],
+    books: &[u64],
     path_node: &mut [usize],
     path_len: &mut [usize],
-    x: Small,
     hashes: &[u64],
 ) -> Resolved
-    requires { ⌜ Sound (stateFrom (now parent) (now depth) (now len) (now run) (now words) (now node) (now start) (now end) (now id) (now stamp) (now touched) (now write) (now «pin_node») (now «pin_start») (now «pin_end») (now «pin_count») (now marks) (now bytes) x) × PathFits (pathListOf (now «path_node») (now «path_len»)) ⌝ }
-    ensures { λ r. ⌜ outcome (stateFrom (now (parent .entry)) (now (depth .entry)) (now (len .entry)) (now (run .entry)) (now (words .entry)) (now (node .entry)) (now (start .entry)) (now (end .entry)) (now (id .entry)) (now (stamp .entry)) (now (touched .entry)) (now (write .entry)) (now («pin_node» .entry)) (now («pin_start» .entry)) (now («pin_end» .entry)) (now («pin_count» .entry)) (now (marks .entry)) (now (bytes .entry)) x) (pathListOf (now («path_node» .exit)) (now («path_len» .exit))) (resolvedOf r) ≡ resolveCall (stateFrom (now (parent .entry)) (now (depth .entry)) (now (len .entry)) (now (run .entry)) (now (words .entry)) (now (node .entry)) (now (start .entry)) (now (end .entry)) (now (id .entry)) (now (stamp .entry)) (now (touched .entry)) (now (write .entry)) (now («pin_node» .entry)) (now («pin_start» .entry)) (now («pin_end» .entry)) (now («pin_count» .entry)) (now (marks .entry)) (now (bytes .entry)) x) (pathListOf (now («path_node» .entry)) (now («path_len» .entry))) (now (hashes .entry)) ⌝ }
+    requires { ⌜ Sound (stateFrom (now parent) (now depth) (now len) (now run) (now words) (now node) (now start) (now end) (now id) (now stamp) (now touched) (now write) (now «pin_node») (now «pin_start») (now «pin_end») (now «pin_count») (now marks) (now bytes) (now books)) × PathFits (pathListOf (now «path_node») (now «path_len»)) ⌝ }
+    ensures { λ r. ⌜ outcome (stateFrom (now (parent .entry)) (now (depth .entry)) (now (len .entry)) (now (run .entry)) (now (words .entry)) (now (node .entry)) (now (start .entry)) (now (end .entry)) (now (id .entry)) (now (stamp .entry)) (now (touched .entry)) (now (write .entry)) (now («pin_node» .entry)) (now («pin_start» .entry)) (now («pin_end» .entry)) (now («pin_count» .entry)) (now (marks .entry)) (now (bytes .entry)) (now (books .entry))) (pathListOf (now («path_node» .exit)) (now («path_len» .exit))) (resolvedOf r) ≡ resolveCall (stateFrom (now (parent .entry)) (now (depth .entry)) (now (len .entry)) (now (run .entry)) (now (words .entry)) (now (node .entry)) (now (start .entry)) (now (end .entry)) (now (id .entry)) (now (stamp .entry)) (now (touched .entry)) (now (write .entry)) (now («pin_node» .entry)) (now («pin_start» .entry)) (now («pin_end» .entry)) (now («pin_count» .entry)) (now (marks .entry)) (now (bytes .entry)) (now (books .entry))) (pathListOf (now («path_node» .entry)) (now («path_len» .entry))) (now (hashes .entry)) ⌝ }
 {
     if 1024 < hashes.len() {
         return Resolved::Refused(3);
@@ -44,13 +44,15 @@ pub fn resolve(
         len,
         run,
         words,
-        x.books[0] as usize,
+        books[0] as usize,
         hashes,
         path_node,
         path_len,
     );
-    Resolved::Done(Path {
-        segs: m.segs,
-        blocks: m.blocks,
+    Resolved::Done(ResolveAnswer {
+        path: Path {
+            segs: m.segs,
+            blocks: m.blocks,
+        },
     })
 }

@@ -198,7 +198,7 @@ segment st ts s =
     went st ts (s .node) (s .len) (s .len) 0 (firstTier st 0 ts (s .node) 0 (s .len)) (omega arith) (omega arith)
     (found st 0 ts (s .node) 0 (s .len) (omega arith))
 
-pub path-tiers : (st : State) (ts : List ℕ) (path : List Seg) → All (TierBelow (length ts)) (lookupPath st ts path)
+path-tiers : (st : State) (ts : List ℕ) (path : List Seg) → All (TierBelow (length ts)) (lookupPath st ts path)
 unfolding lookupPath All
 path-tiers st ts [] = tt
 path-tiers st ts (s ∷ ss) = go (eqb (l .stop) (s .len)) (segment st ts s .tiers) (path-tiers st ts ss)
@@ -283,10 +283,21 @@ none-sums i zero = refl
 none-sums i (suc n) = let h = none-sums (suc i) n in omega arith
 
 -- the tiers' sums come to the blocks of all spans
-pub sums-all : (n : ℕ) (ss : List TierSpan) → All (TierBelow n) ss → sumOf (tierSums spanBlocks 0 n ss) ≡ inAll ss
+sums-all : (n : ℕ) (ss : List TierSpan) → All (TierBelow n) ss → sumOf (tierSums spanBlocks 0 n ss) ≡ inAll ss
 unfolding All inAll
 sums-all n [] h = none-sums 0 n
 sums-all n (s ∷ ss) h =
     let k = sums-all n ss (h .1) in
     let o = only-one (spanBlocks s) (s .tier) 0 n (omega arith) (omega (arith, h .0)) in
     sums-more s ss 0 n ∙ rw (o, k) refl
+
+all-below : (m n : ℕ) → m ≤ n → (ss : List TierSpan) → All (TierBelow m) ss → All (TierBelow n) ss
+unfolding All
+all-below m n l [] h = tt
+all-below m n l (s ∷ ss) h = (omega (arith, h .0), all-below m n l ss (h .1))
+
+-- and so they do along a path, where there are no fewer sums than tiers
+pub path-sums : (st : State) (ts : List ℕ) (n : ℕ) → length ts ≤ n → (path : List Seg)
+    → sumOf (tierSums spanBlocks 0 n (lookupPath st ts path)) ≡ inAll (lookupPath st ts path)
+path-sums st ts n few path =
+    sums-all n (lookupPath st ts path) (all-below (length ts) n few (lookupPath st ts path) (path-tiers st ts path))

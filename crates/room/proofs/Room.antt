@@ -11,6 +11,8 @@ use lib.ListN.{length}
 use lib.Ieee.{Float}
 use Rattle.model.specs.declared.Span.{Span}
 use Rattle.model.specs.declared.Book.{Book}
+use Rattle.model.specs.declared.BringAnswer.{BringAnswer}
+use Rattle.model.specs.declared.LookupAnswer.{LookupAnswer}
 use Rattle.model.specs.Words.{Some}
 use Rattle.model.specs.Sizes.{maxStores, maxHashes, maxTiers, maxNumbers, storeRecords, storePins}
 use Rattle.model.specs.State.{Tree, State, at, storesOf, nextIdOf, bookOf, capacityOf, recordsOf}
@@ -21,7 +23,7 @@ use Rattle.model.specs.Store.{Store, ranges, pins, storeOf, layBook}
 use Rattle.model.specs.Trim.{trim}
 use Rattle.model.specs.Bring.{gaps, fill, keep, bring, bringNeed}
 use Rattle.model.specs.Refusals.{Condition, firstOf, OutList, PathList, TierList, storeInsertRefusals, lookupRefusals}
-use Rattle.model.specs.Calls.{Answer, refused, done, unless, brought, bringIn, storeInsert, LookupLists, LookupAnswer, lookup, pathOf, layPath, layTiers}
+use Rattle.model.specs.Calls.{Answer, refused, done, unless, brought, bringIn, storeInsert, LookupLists, lookup, pathOf, layPath, layTiers}
 use Rattle.model.specs.Lookup.{lookupPath, tierSums, spanBlocks, spanBytes}
 use Rattle.sure.proofs.Says.{true-says}
 use Rattle.sure.proofs.Sound.{sound-says}
@@ -34,7 +36,7 @@ use Rattle.kepttouch.proofs.Holds.{Holds}
 use Rattle.laid.proofs.Books.{book-read, book-other}
 use Rattle.room.specs.Room.{resized, withCapacity, ButCapacity, Alike, sumOf, blocksIn, MoreRoom}
 use Rattle.room.proofs.Trim.{Sub, trim-room}
-use Rattle.room.proofs.Lookup.{Richer, path-tiers, path-more, sums-all}
+use Rattle.room.proofs.Lookup.{Richer, path-more, path-sums}
 use Rattle.room.proofs.After.{Taken, own, others, tree-stays, stores-stay}
 
 -- ---- one store
@@ -155,8 +157,8 @@ pub record Brings (st : State) (l : OutList) (s : ℕ) (sp : Span) (time : Float
   pub took : Taken st s sp time
   pub left : storeInsert st l s sp time write .state ≡ bringIn st s sp time write
 
-pub brings : (st : State) (l : OutList) (s : ℕ) (sp : Span) (time : Float) (write v : ℕ) → Sound st → storeInsert st l s sp time write .answer ≡ done v
-    → Brings st l s sp time write
+pub brings : (st : State) (l : OutList) (s : ℕ) (sp : Span) (time : Float) (write : ℕ) (v : BringAnswer) → Sound st
+    → storeInsert st l s sp time write .answer ≡ done v → Brings st l s sp time write
 unfolding storeInsert
 brings st l s sp time write v h e =
     let d = unless-done _ _ _ (storeInsert-kept st l s sp time write) v e in record { took = taken st l s sp time h (d .none); left = d .state }
@@ -193,25 +195,26 @@ module _ (x y : State) (h : Beside x y) (l : LookupLists) (ts hs : List ℕ) whe
   tiers (unsound, (short, (shortTiers, (noTier, rest)))) =
       all-each (Richer x y) ts (λ i less. h .richer (at ts i) (let g : storesOf x ≤ at ts i → ⊥ = λ k. noTier (i, less, k) in omega arith))
 
+  fewTiers : NoneHolds (lookupRefusals x (l .path) (l .spans) ts hs) → length ts ≤ maxTiers
+  fewTiers (unsound, (short, (shortTiers, (noTier, (manyHashes, (manyTiers, end)))))) = omega arith
+
   none-held : firstOf (lookupRefusals x (l .path) (l .spans) ts hs) ≡ 0 → NoneHolds (lookupRefusals x (l .path) (l .spans) ts hs)
   unfolding lookup
   none-held e = unless-done _ _ _ (lookup-kept x l ts hs) _ (accepts (firstOf (lookupRefusals x (l .path) (l .spans) ts hs)) x _ l _ _ e) .none
 
-  sums-over : All (Richer x y) ts → (path : List Seg)
-      → sumOf (tierSums spanBlocks 0 (length ts) (lookupPath x ts path)) ≤ sumOf (tierSums spanBlocks 0 (length ts) (lookupPath y ts path))
-  sums-over r path =
-      rw (sums-all (length ts) (lookupPath x ts path) (path-tiers x ts path), sums-all (length ts) (lookupPath y ts path) (path-tiers y ts path))
-      (path-more x y ts r path)
+  sums-over : All (Richer x y) ts → length ts ≤ maxTiers → (path : List Seg)
+      → sumOf (tierSums spanBlocks 0 maxTiers (lookupPath x ts path)) ≤ sumOf (tierSums spanBlocks 0 maxTiers (lookupPath y ts path))
+  sums-over r few path = rw (path-sums x ts maxTiers few path, path-sums y ts maxTiers few path) (path-more x y ts r path)
 
-  sums-more : All (Richer x y) ts
-      → sumOf (tierSums spanBlocks 0 (length ts) (lookupPath x ts (resolve (x .tree) hs)))
-      ≤ sumOf (tierSums spanBlocks 0 (length ts) (lookupPath y ts (resolve (y .tree) hs)))
-  sums-more r =
+  sums-more : All (Richer x y) ts → length ts ≤ maxTiers
+      → sumOf (tierSums spanBlocks 0 maxTiers (lookupPath x ts (resolve (x .tree) hs)))
+      ≤ sumOf (tierSums spanBlocks 0 maxTiers (lookupPath y ts (resolve (y .tree) hs)))
+  sums-more r few =
       subst
       (λ t.
-      sumOf (tierSums spanBlocks 0 (length ts) (lookupPath x ts (resolve (x .tree) hs)))
-      ≤ sumOf (tierSums spanBlocks 0 (length ts) (lookupPath y ts (resolve t hs))))
-      (h .tree) (sums-over r (resolve (x .tree) hs))
+      sumOf (tierSums spanBlocks 0 maxTiers (lookupPath x ts (resolve (x .tree) hs)))
+      ≤ sumOf (tierSums spanBlocks 0 maxTiers (lookupPath y ts (resolve t hs))))
+      (h .tree) (sums-over r few (resolve (x .tree) hs))
 
   pub reads : blocksIn (lookup x l ts hs .answer) ≤ blocksIn (lookup y l ts hs .answer)
   unfolding lookup
@@ -225,8 +228,8 @@ module _ (x y : State) (h : Beside x y) (l : LookupLists) (ts hs : List ℕ) whe
           record {
             path = pathOf (path st);
             spans = length (lookupPath st ts (path st));
-            blocks = tierSums spanBlocks 0 (length ts) (lookupPath st ts (path st));
-            bytes = tierSums (spanBytes st) 0 (length ts) (lookupPath st ts (path st));
+            blocks = tierSums spanBlocks 0 maxTiers (lookupPath st ts (path st));
+            bytes = tierSums (spanBytes st) 0 maxTiers (lookupPath st ts (path st));
           }
 
       lists : State → LookupLists
@@ -235,7 +238,7 @@ module _ (x y : State) (h : Beside x y) (l : LookupLists) (ts hs : List ℕ) whe
       go : (n m : ℕ) → firstOf (lookupRefusals x (l .path) (l .spans) ts hs) ≡ n → n ≡ m
           → blocksIn (unless n x l (record { state = x; lists = lists x; answer = done (answer x) }) .answer)
           ≤ blocksIn (unless m y l (record { state = y; lists = lists y; answer = done (answer y) }) .answer)
-      go zero zero e f = sums-more (tiers (none-held e))
+      go zero zero e f = sums-more (tiers (none-held e)) (fewTiers (none-held e))
       go zero (suc m) e f = absurd (omega arith)
       go (suc n) zero e f = absurd (omega arith)
       go (suc n) (suc m) e f = zero-le
@@ -268,18 +271,21 @@ module _ (a : State) (s D : ℕ) (l : OutList) (sp : Span) (time : Float) (write
   unfolding storeInsert
   answers-alike = rw first-alike (unless-alike (firstOf (storeInsertRefusals c l s sp time)) a c _ _ l l _ _ _ _)
 
-  module _ (v : ℕ) (e : storeInsert a l s sp time write .answer ≡ done v) where
+  module _ (v : BringAnswer) (e : storeInsert a l s sp time write .answer ≡ done v) where
     brings-a : Brings a l s sp time write
     brings-a = brings a l s sp time write v ha e
 
-    second : storeInsert c l s sp time write .answer ≡ done (length (brought c s sp time write .outs))
+    abbrev told : BringAnswer
+    told = record { outs = length (brought c s sp time write .outs) }
+
+    second : storeInsert c l s sp time write .answer ≡ done told
     unfolding storeInsert
     second =
-        accepts (firstOf (storeInsertRefusals c l s sp time)) c _ l _ (length (brought c s sp time write .outs))
+        accepts (firstOf (storeInsertRefusals c l s sp time)) c _ l _ told
         (sym first-alike ∙ unless-zero (firstOf (storeInsertRefusals a l s sp time)) a _ l _ _ v e)
 
     brings-c : Brings c l s sp time write
-    brings-c = brings c l s sp time write (length (brought c s sp time write .outs)) hb second
+    brings-c = brings c l s sp time write told hb second
 
     own-more : Sub (brought a s sp time write .store .ranges) (brought c s sp time write .store .ranges)
     unfolding brought withCapacity layBook

@@ -3,13 +3,15 @@ use Prim.Native.Nat.{ℕ, _+_, _≤_}
 use mathlib.Core.Path.{_≡_}
 use mathlib.Core.List.{List, [], _∷_}
 use lib.ListN.{drop}
-use Rattle.model.specs.declared.Book.{Book}
-use Rattle.model.specs.State.{State, numbers, bookFrom, bookOf, capacityOf}
 use lib.Ieee.{Float}
 use Rattle.model.specs.declared.Span.{Span}
+use Rattle.model.specs.declared.Book.{Book}
+use Rattle.model.specs.declared.BringAnswer.{BringAnswer}
+use Rattle.model.specs.declared.LookupAnswer.{LookupAnswer}
+use Rattle.model.specs.State.{State, numbers, bookFrom, bookOf, capacityOf}
 use Rattle.model.specs.Store.{storeOf, layBook}
 use Rattle.model.specs.Refusals.{OutList}
-use Rattle.model.specs.Calls.{Outcome, Answer, refused, done, storeInsert, LookupLists, LookupAnswer, lookup}
+use Rattle.model.specs.Calls.{Outcome, Answer, refused, done, storeInsert, LookupLists, lookup}
 use Rattle.kepttouch.proofs.Holds.{Holds}
 
 -- a store's own numbers with capacity c, and all else as it is
@@ -52,10 +54,10 @@ blocksIn (refused n) = 0
 blocksIn (done a) = sumOf (a .blocks)
 
 -- "make the same insertion into that store", under C and under D
-abbrev pub underC : State → OutList → ℕ → Span → Float → ℕ → Outcome OutList ℕ
+abbrev pub underC : State → OutList → ℕ → Span → Float → ℕ → Outcome OutList BringAnswer
 underC st l s sp time write = storeInsert st l s sp time write
 
-abbrev pub underD : State → OutList → ℕ → Span → Float → ℕ → Outcome OutList ℕ
+abbrev pub underD : State → OutList → ℕ → Span → Float → ℕ → Outcome OutList BringAnswer
 underD st l s sp time write = storeInsert st l s sp time write
 
 -- "afterwards any hash list looked up through any one tier list", under C and under D
@@ -70,14 +72,14 @@ readD st l ts hs = lookup st l ts hs
 pub record MoreRoom (a b : State) (l : OutList) (s : ℕ) (sp : Span) (time : Float) (write : ℕ) : Type 0 where
   pub alike : Alike (underC a l s sp time write .answer) (underD b l s sp time write .answer)
   pub kept :
-      (v : ℕ) → underC a l s sp time write .answer ≡ done v
+      (v : BringAnswer) → underC a l s sp time write .answer ≡ done v
       → (n o : ℕ) → Holds (storeOf (underC a l s sp time write .state) s .ranges) n o
       → Holds (storeOf (underD b l s sp time write .state) s .ranges) n o
   pub readsAlike :
-      (v : ℕ) → underC a l s sp time write .answer ≡ done v
+      (v : BringAnswer) → underC a l s sp time write .answer ≡ done v
       → (k : LookupLists) (ts hs : List ℕ)
       → Alike (readC (underC a l s sp time write .state) k ts hs .answer) (readD (underD b l s sp time write .state) k ts hs .answer)
   pub reads :
-      (v : ℕ) → underC a l s sp time write .answer ≡ done v
+      (v : BringAnswer) → underC a l s sp time write .answer ≡ done v
       → (k : LookupLists) (ts hs : List ℕ)
       → blocksIn (readC (underC a l s sp time write .state) k ts hs .answer) ≤ blocksIn (readD (underD b l s sp time write .state) k ts hs .answer)

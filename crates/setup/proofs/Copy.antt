@@ -1,12 +1,11 @@
 -- A loop that puts a list in front of another, element by element: what stands there after i turns. Assumes nothing.
-use Prim.Native.Nat.{ℕ, zero, suc, _+_, _-_, _≤_, _<_}
+use Prim.Native.Nat.{ℕ, suc, _+_, _≤_, _<_}
 use mathlib.Core.Path.{_≡_, refl, sym, ap, _∙_}
 use mathlib.Core.List.{List, _++_}
 use native.Mathlib.Omega.{arith}
-use native.Mathlib.Nat.{sub-zero}
 use native.Mathlib.Numerals.{add-one}
-use lib.ListN.{length, getD, set, take, drop, replicate, length-set}
-use lib.Seq.{take-suc, take-length, drop-cons, drop-nil, append-snoc, set-at, length-take-le}
+use lib.ListN.{length, getD, set, take, drop, length-set}
+use lib.Seq.{take-suc, take-length, drop-cons, append-snoc, set-at, length-take-le}
 use Rattle.model.specs.Calls.{front}
 
 module _ {A : Type 0} where
@@ -43,14 +42,3 @@ module _ {A : Type 0} where
   copied-all {xs} {d} {l} {i} h le =
       let e : i ≡ length xs = omega (arith, h .within) in
       h .so ∙ rw (e, take-length)
-
-  pub drop-blanks : (n k : ℕ) (a : A) → drop n (replicate k a) ≡ replicate (k - n) a
-  drop-blanks zero k a = ap (λ j. replicate j a) (sym (sub-zero k))
-  drop-blanks (suc n) zero a = drop-nil (suc n) ∙ sym (ap (λ j. replicate j a) none)
-    where
-      none : 0 - suc n ≡ 0
-      none = omega arith
-  drop-blanks (suc n) (suc k) a = drop-blanks n k a ∙ ap (λ j. replicate j a) same
-    where
-      same : k - n ≡ suc k - suc n
-      same = omega arith

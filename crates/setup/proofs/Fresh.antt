@@ -1,69 +1,58 @@
--- The small numbers as set-up writes them, store by store: those of the first s stores, then blanks. Assumes nothing.
-use Prim.Native.Nat.{ℕ, zero, suc, _+_, _-_, _*_, _≤_, _<_}
+-- The small numbers as set-up writes them, store by store: those of the first s stores, then what was lent. Assumes nothing.
+use Prim.Native.Nat.{ℕ, zero, suc, _+_, _*_, _≤_, _<_}
 use mathlib.Core.Path.{_≡_, refl, sym, ap, _∙_}
 use mathlib.Core.Bool.{Bool, false}
-use mathlib.Core.List.{List, _∷_, _++_, append-assoc, append-nil}
+use mathlib.Core.List.{List, [], _∷_, _++_, append-assoc}
 use native.Mathlib.Omega.{arith}
 use native.Mathlib.Nat.{add-zero, zero-add}
-use lib.ListN.{length, getD, set, take, drop, replicate, length-drop, drop-of-length-le, List·getD-eq-default}
+use lib.ListN.{length, getD, set, take, drop, length-append, List·getD-eq-default}
 use lib.Seq.{take-at, drop-at, drop-drop}
 use Rattle.model.specs.declared.Book.{Book}
-use Rattle.model.specs.Sizes.{maxStores, maxNumbers, storeNumbers}
-use Rattle.model.specs.State.{at, partsIn, numbers}
-use Rattle.model.specs.Store.{lay, layBook}
+use Rattle.model.specs.Sizes.{maxStores, storeNumbers}
+use Rattle.model.specs.State.{at, whole, partsIn, numbers, bookFrom}
+use Rattle.model.specs.Store.{lay, layBook, layCounts, layNext}
 use Rattle.model.specs.SetUp.{policy, newBook, newNumbers}
-use Rattle.lent.specs.declared.Small.{Small}
-use Rattle.setup.specs.Fresh.{freshWith, freshSmall}
-use Rattle.setup.proofs.Copy.{drop-blanks}
+use Rattle.setup.specs.Fresh.{freshBooks}
 
-abbrev small : List ℕ → Small
-small l = record { books = l }
-
--- the numbers of the first s stores, then blanks
-abbrev filled : List ℕ → List Bool → ℕ → List ℕ
-filled capacity refreshes s = newNumbers capacity refreshes 0 s ++ replicate (storeNumbers * (maxStores - s)) 0
-
-pub record Filled (capacity : List ℕ) (refreshes : List Bool) (s : ℕ) (l : List ℕ) : Type 0 where
-  pub within : s ≤ length capacity
-  pub so : l ≡ freshWith capacity (filled capacity refreshes s) .books
+-- d is the list that was lent, l has the numbers of the first s stores in it
+pub record Filled (capacity : List ℕ) (refreshes : List Bool) (d : List ℕ) (s : ℕ) (l : List ℕ) : Type 0 where
+  pub within : s ≤ maxStores
+  pub long : length l ≡ length d
+  pub first : length (newNumbers capacity refreshes 0 s) ≡ storeNumbers * s
+  pub so : partsIn l ≡ newNumbers capacity refreshes 0 s ++ drop (storeNumbers * s) (partsIn d)
 
 module _ (capacity : List ℕ) (refreshes : List Bool) where
-  new-length : (r n : ℕ) → length (newNumbers capacity refreshes r n) ≡ storeNumbers * n
-  unfolding newNumbers
-  new-length r zero = refl
-  new-length r (suc n) = omega (arith, new-length (suc r) n)
+  -- past the lists a store has nothing
+  pub new-none : (s : ℕ) → length capacity ≤ s → length refreshes ≡ length capacity → bookFrom (0 ∷ policy false ∷ []) ≡ newBook capacity refreshes s
+  new-none s h e =
+      let a : at capacity s ≡ 0 = List·getD-eq-default capacity 0 h in
+      let b : getD refreshes s false ≡ false = List·getD-eq-default refreshes false (omega arith) in
+      λ i. bookFrom (sym a i ∷ policy (sym b i) ∷ [])
 
-  new-split : (m r n : ℕ) → newNumbers capacity refreshes r (m + n) ≡ newNumbers capacity refreshes r m ++ newNumbers capacity refreshes (r + m) n
+  new-last : (n r : ℕ) → newNumbers capacity refreshes r (n + 1) ≡ newNumbers capacity refreshes r n ++ numbers (newBook capacity refreshes (r + n))
   unfolding newNumbers
-  new-split zero r n = rw (zero-add, add-zero)
-  new-split (suc m) r n =
-      let e : suc m + n ≡ suc (m + n) = omega arith in
-      let f : r + suc m ≡ suc r + m = omega arith in
-      rw (e, f) (ap (λ (l : List ℕ). numbers (newBook capacity refreshes r) ++ l) (new-split m (suc r) n))
+  new-last zero r = rw add-zero
+  new-last (suc n) r =
+      let e : suc n + 1 ≡ suc (n + 1) = omega arith in
+      let f : r + suc n ≡ suc r + n = omega arith in
+      rw (e, f) (ap (λ (l : List ℕ). numbers (newBook capacity refreshes r) ++ l) (new-last n (suc r)))
 
-  -- past the given lists a store's numbers are blanks
-  new-blanks : (n r : ℕ) → length capacity ≤ r → length refreshes ≤ r → newNumbers capacity refreshes r n ≡ replicate (storeNumbers * n) 0
-  unfolding newNumbers
-  new-blanks zero r h k = refl
-  new-blanks (suc n) r h k =
-      let a : at capacity r ≡ 0 = List·getD-eq-default capacity 0 h in
-      let b : getD refreshes r false ≡ false = List·getD-eq-default refreshes false k in
-      let l = new-blanks n (suc r) (omega arith) (omega arith) in
-      let e : suc (suc (suc (suc (suc (suc (suc (suc (storeNumbers * n)))))))) ≡ storeNumbers * suc n = omega arith in
-      (λ i. a i ∷ policy (b i) ∷ 0 ∷ 0 ∷ 0 ∷ 0 ∷ 0 ∷ 0 ∷ l i) ∙ ap (λ (j : ℕ). replicate j 0) e
+  new-next : (s : ℕ) → newNumbers capacity refreshes 0 (s + 1) ≡ newNumbers capacity refreshes 0 s ++ numbers (newBook capacity refreshes s)
+  new-next s = new-last s 0 ∙ ap (λ (k : ℕ). newNumbers capacity refreshes 0 s ++ numbers (newBook capacity refreshes k)) (zero-add s)
 
-  pub filled-none : Filled capacity refreshes 0 (set (set (set (replicate 69 0) 0 1) 2 (length capacity)) 3 1)
+  pub filled-none : (d : List ℕ) → Filled capacity refreshes d 0 d
   unfolding newNumbers
-  filled-none = record { within = omega arith; so = refl }
+  filled-none d = record { within = omega arith; long = refl; first = refl; so = refl }
 
   -- store s written after the first s
-  next-filled : (s : ℕ) → s < maxStores
-      → lay 0 (storeNumbers * s) storeNumbers (numbers (newBook capacity refreshes s)) (filled capacity refreshes s) ≡ filled capacity refreshes (s + 1)
-  unfolding lay newNumbers
-  next-filled s less =
+  next-filled : (s : ℕ) (p : List ℕ) → length (newNumbers capacity refreshes 0 s) ≡ storeNumbers * s
+      → lay 0 (storeNumbers * s) storeNumbers (numbers (newBook capacity refreshes s)) (newNumbers capacity refreshes 0 s ++ drop (storeNumbers * s) p)
+      ≡ newNumbers capacity refreshes 0 (s + 1) ++ drop (storeNumbers * (s + 1)) p
+  unfolding lay
+  next-filled s p e =
       (λ i. front i ++ (own ++ rest i))
-      ∙ sym (append-assoc before own (replicate (storeNumbers * (maxStores - (s + 1))) 0))
-      ∙ ap (λ (l : List ℕ). l ++ replicate (storeNumbers * (maxStores - (s + 1))) 0) (sym more)
+      ∙ sym (append-assoc before own (drop (storeNumbers * (s + 1)) p))
+      ∙ ap (λ (l : List ℕ). l ++ drop (storeNumbers * (s + 1)) p) (sym (new-next s))
     where
       before : List ℕ
       before = newNumbers capacity refreshes 0 s
@@ -71,49 +60,48 @@ module _ (capacity : List ℕ) (refreshes : List Bool) where
       own : List ℕ
       own = numbers (newBook capacity refreshes s)
 
-      blanks : List ℕ
-      blanks = replicate (storeNumbers * (maxStores - s)) 0
+      past : List ℕ
+      past = drop (storeNumbers * s) p
 
-      front : take (storeNumbers * s) (before ++ blanks) ≡ before
-      front = take-at before blanks (storeNumbers * s) (new-length 0 s)
+      front : take (storeNumbers * s) (before ++ past) ≡ before
+      front = take-at before past (storeNumbers * s) e
 
-      fewer : storeNumbers * (maxStores - s) - storeNumbers ≡ storeNumbers * (maxStores - (s + 1))
-      fewer = omega arith
+      ends : storeNumbers * s + storeNumbers ≡ storeNumbers * (s + 1)
+      ends = omega arith
 
-      rest : drop (storeNumbers * s + storeNumbers) (before ++ blanks) ≡ replicate (storeNumbers * (maxStores - (s + 1))) 0
+      rest : drop (storeNumbers * s + storeNumbers) (before ++ past) ≡ drop (storeNumbers * (s + 1)) p
       rest =
-          sym (drop-drop storeNumbers (storeNumbers * s) (before ++ blanks))
-          ∙ ap (λ (l : List ℕ). drop storeNumbers l) (drop-at before blanks (storeNumbers * s) (new-length 0 s))
-          ∙ drop-blanks storeNumbers (storeNumbers * (maxStores - s)) 0
-          ∙ ap (λ (j : ℕ). replicate j 0) fewer
+          sym (drop-drop storeNumbers (storeNumbers * s) (before ++ past))
+          ∙ ap (λ (l : List ℕ). drop storeNumbers l) (drop-at before past (storeNumbers * s) e)
+          ∙ drop-drop storeNumbers (storeNumbers * s) p
+          ∙ ap (λ (j : ℕ). drop j p) ends
 
-      more : newNumbers capacity refreshes 0 (s + 1) ≡ before ++ own
-      more = new-split s 0 1 ∙ ap (λ (k : ℕ). before ++ numbers (newBook capacity refreshes k)) (zero-add s)
-
-  pub filled-more : {s : ℕ} {l l′ : List ℕ} {b : Book} → Filled capacity refreshes s l → s < length capacity → length capacity ≤ maxStores
-      → b ≡ newBook capacity refreshes s → l′ ≡ layBook s b l → Filled capacity refreshes (s + 1) l′
+  pub filled-more : {d : List ℕ} {s : ℕ} {l l′ : List ℕ} {b : Book} → Filled capacity refreshes d s l → s < maxStores
+      → b ≡ newBook capacity refreshes s → l′ ≡ layBook s b l → length l′ ≡ length l → Filled capacity refreshes d (s + 1) l′
   unfolding layBook
-  filled-more {s} f less few e e′ =
+  filled-more {d} {s} f less e e′ kept =
       record {
         within = omega arith;
-        so = e′ ∙ (λ i. layBook s (e i) (f .so i)) ∙ ap (λ (p : List ℕ). freshWith capacity p .books) (next-filled s (omega arith));
+        long = kept ∙ f .long;
+        first =
+            let n : length (newNumbers capacity refreshes 0 (s + 1)) ≡ length (newNumbers capacity refreshes 0 s) + storeNumbers =
+            ap (λ (x : List ℕ). length x) (new-next s) ∙ length-append (newNumbers capacity refreshes 0 s) (numbers (newBook capacity refreshes s)) in
+            omega (arith, f .first);
+        so =
+            ap (λ (x : List ℕ). partsIn x) e′
+            ∙ (λ i. lay 0 (storeNumbers * s) storeNumbers (numbers (e i)) (f .so i))
+            ∙ next-filled s (partsIn d) (f .first);
       }
 
-  pub filled-all : {s : ℕ} {l : List ℕ} → Filled capacity refreshes s l → length capacity ≤ s → length capacity ≤ maxStores
-      → length refreshes ≡ length capacity → small l ≡ freshSmall capacity refreshes
-  filled-all {s} f all few same = ap small (f .so) ∙ ap (freshWith capacity) (sym whole-list)
+  -- the five of the whole come last
+  pub filled-all : {d : List ℕ} {s : ℕ} {l l′ l″ : List ℕ} → Filled capacity refreshes d s l → maxStores ≤ s → l′ ≡ layCounts 1 0 l
+      → l″ ≡ layNext 1 0 (set l′ 2 (length capacity)) → l″ ≡ freshBooks capacity refreshes d
+  unfolding layCounts layNext
+  filled-all {d} {s} f all e e′ =
+      e′
+      ∙ ap (λ (x : List ℕ). layNext 1 0 (set x 2 (length capacity))) e
+      ∙ ap (λ (x : List ℕ). whole 1 0 (length capacity) 1 0 x) (f .so)
+      ∙ ap (λ (k : ℕ). whole 1 0 (length capacity) 1 0 (newNumbers capacity refreshes 0 k ++ drop (storeNumbers * k) (partsIn d))) last
     where
-      stores : s + (maxStores - s) ≡ maxStores
-      stores = omega (arith, f .within)
-
-      whole-list : newNumbers capacity refreshes 0 maxStores ≡ filled capacity refreshes s
-      whole-list =
-          ap (λ (k : ℕ). newNumbers capacity refreshes 0 k) (sym stores)
-          ∙ new-split s 0 (maxStores - s)
-          ∙ ap (λ (l : List ℕ). newNumbers capacity refreshes 0 s ++ l) (new-blanks (maxStores - s) (0 + s) (omega arith) (omega arith))
-
--- so many numbers have nothing past the stores' parts
-pub none-past : (xs l : List ℕ) → length l ≡ maxNumbers → xs ≡ xs ++ drop (storeNumbers * maxStores) (partsIn l)
-none-past xs l e =
-    let h : length (partsIn l) ≤ storeNumbers * maxStores = rw length-drop (omega arith) in
-    sym (ap (λ (r : List ℕ). xs ++ r) (drop-of-length-le (partsIn l) h) ∙ append-nil xs)
+      last : s ≡ maxStores
+      last = omega (arith, f .within)

@@ -2,19 +2,17 @@
 use mathlib.Core.Path.{_≡_, refl, ap, _∙_}
 use mathlib.Core.Bool.{Bool}
 use mathlib.Core.List.{List, _++_}
-use Prim.Native.Nat.{ℕ, _*_}
-use lib.ListN.{length, drop, set, replicate, length-replicate}
+use Prim.Native.Nat.{ℕ}
+use lib.ListN.{drop, set, replicate, length-replicate}
 use lib.Ieee.{Float}
-use Rattle.model.specs.State.{State, partsIn}
-use Rattle.model.specs.Sizes.{maxStores, maxMarks, maxNumbers, storeNumbers, tableLength}
-use Rattle.model.specs.SetUp.{SetUpFits, newNumbers, setUpState}
+use Rattle.model.specs.State.{State}
+use Rattle.model.specs.Sizes.{maxMarks, tableLength}
+use Rattle.model.specs.SetUp.{SetUpFits, setUpState}
 use Rattle.model.specs.Refusals.{setUpRefusals}
 use Rattle.model.specs.Calls.{NoList, NoValue, refused, done, front, setUp}
-use Rattle.lent.specs.declared.Small.{Small}
 use Rattle.answers.specs.Answers.{stateFrom, outcome}
 use Rattle.sure.proofs.Refusals.{first-is, setUp-exact}
-use Rattle.setup.specs.Fresh.{freshWith, freshSmall}
-use Rattle.setup.proofs.Fresh.{none-past}
+use Rattle.setup.specs.Fresh.{freshBooks}
 use mathlib.Core.Logic.{inl, inr}
 
 module _ (pools : State) (table capacity : List ℕ) (refreshes : List Bool) where
@@ -31,21 +29,21 @@ module _ (pools : State) (table capacity : List ℕ) (refreshes : List Bool) whe
 
 -- the columns as they are written make the state that 01 gives
 pub written-is :
-    {parent parent′ depth depth′ len len′ run run′ words node start end id stamp write pinNode pinStart pinEnd pinCount marks marks′ bytes bytes′ : List ℕ}
-    {touched : List Float} {x y : Small} (table capacity : List ℕ) (refreshes : List Bool)
-    → SetUpFits (stateFrom parent depth len run words node start end id stamp touched write pinNode pinStart pinEnd pinCount marks bytes x) table capacity refreshes
+    {parent parent′ depth depth′ len len′ run run′ words node start end id stamp write pinNode pinStart pinEnd pinCount marks marks′ bytes bytes′ books books′ : List ℕ}
+    {touched : List Float} (table capacity : List ℕ) (refreshes : List Bool)
+    → SetUpFits (stateFrom parent depth len run words node start end id stamp touched write pinNode pinStart pinEnd pinCount marks bytes books) table capacity refreshes
     → parent′ ≡ set parent 0 0 → depth′ ≡ set depth 0 0 → len′ ≡ set len 0 0 → run′ ≡ set run 0 0
     → marks′ ≡ front (replicate 2048 0) marks
     → bytes′ ≡ front table bytes
-    → length (x .books) ≡ maxNumbers → y ≡ freshSmall capacity refreshes
-    → outcome {L = NoList} {A = NoValue} (stateFrom parent′ depth′ len′ run′ words node start end id stamp touched write pinNode pinStart pinEnd pinCount marks′ bytes′ y) tt (done tt)
-    ≡ setUp (stateFrom parent depth len run words node start end id stamp touched write pinNode pinStart pinEnd pinCount marks bytes x) table capacity refreshes
+    → books′ ≡ freshBooks capacity refreshes books
+    → outcome {L = NoList} {A = NoValue} (stateFrom parent′ depth′ len′ run′ words node start end id stamp touched write pinNode pinStart pinEnd pinCount marks′ bytes′ books′) tt (done tt)
+    ≡ setUp (stateFrom parent depth len run words node start end id stamp touched write pinNode pinStart pinEnd pinCount marks bytes books) table capacity refreshes
 unfolding setUpState
-written-is {parent} {parent′} {depth} {depth′} {len} {len′} {run} {run′} {words} {node} {start} {end} {id} {stamp} {write} {pinNode} {pinStart} {pinEnd} {pinCount} {marks} {marks′} {bytes} {bytes′} {touched} {x} {y} table capacity refreshes fits ep ed el er em eb long ex =
+written-is {parent} {parent′} {depth} {depth′} {len} {len′} {run} {run′} {words} {node} {start} {end} {id} {stamp} {write} {pinNode} {pinStart} {pinEnd} {pinCount} {marks} {marks′} {bytes} {bytes′} {books} {books′} {touched} table capacity refreshes fits ep ed el er em eb es =
     ap (λ s. outcome s tt (done tt)) state ∙ accepted-is pools table capacity refreshes fits
   where
     pools : State
-    pools = stateFrom parent depth len run words node start end id stamp touched write pinNode pinStart pinEnd pinCount marks bytes x
+    pools = stateFrom parent depth len run words node start end id stamp touched write pinNode pinStart pinEnd pinCount marks bytes books
 
     cleared : marks′ ≡ replicate maxMarks 0 ++ drop maxMarks marks
     cleared = em ∙ ap (λ k. replicate maxMarks 0 ++ drop k marks) (length-replicate {A = ℕ} maxMarks 0)
@@ -53,8 +51,5 @@ written-is {parent} {parent′} {depth} {depth′} {len} {len′} {run} {run′}
     copied : bytes′ ≡ table ++ drop tableLength bytes
     copied = eb ∙ ap (λ k. table ++ drop k bytes) (fits .tableLong)
 
-    numbered : y ≡ freshWith capacity (newNumbers capacity refreshes 0 maxStores ++ drop (storeNumbers * maxStores) (partsIn (x .books)))
-    numbered = ex ∙ ap (freshWith capacity) (none-past (newNumbers capacity refreshes 0 maxStores) (x .books) long)
-
-    state : stateFrom parent′ depth′ len′ run′ words node start end id stamp touched write pinNode pinStart pinEnd pinCount marks′ bytes′ y ≡ setUpState pools table capacity refreshes
-    state = rw (ep, ed, el, er, cleared, copied, numbered)
+    state : stateFrom parent′ depth′ len′ run′ words node start end id stamp touched write pinNode pinStart pinEnd pinCount marks′ bytes′ books′ ≡ setUpState pools table capacity refreshes
+    state = rw (ep, ed, el, er, cleared, copied, es)

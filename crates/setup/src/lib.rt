@@ -1,18 +1,17 @@
 use answers::Plain;
-use answers::Plainly;
-use lent::Small;
 use model::Book;
 ghost use mathlib.Core.Path.{_≡_};
 ghost use mathlib.Core.List.{[], _∷_};
 ghost use Prim.Native.Nat.{ℕ, _≤_};
 ghost use lib.ListN.{length, set, replicate};
 ghost use Rattle.model.specs.Words.{Says, Each};
+ghost use Rattle.model.specs.Sizes.{maxNumbers};
 ghost use Rattle.model.specs.State.{at, bookFrom};
 ghost use Rattle.model.specs.Sound.{TreeLent, RangesLent, PinsLent};
-ghost use Rattle.model.specs.SetUp.{SetUpFits, policy};
+ghost use Rattle.model.specs.SetUp.{SetUpFits, policy, newBook};
 ghost use Rattle.model.specs.Calls.{front, setUp};
 ghost use Rattle.lent.specs.Lent.{treeOf, rangesOf, pinsOf};
-ghost use Rattle.setup.specs.Fresh.{freshSmall};
+ghost use Rattle.setup.specs.Fresh.{freshBooks};
 ghost use Rattle.answers.specs.Answers.{stateFrom, outcome, plainOf};
 
 // ---- the test for 12
@@ -124,12 +123,12 @@ fn fits(
     pin_count: &[u64],
     marks: &[usize],
     bytes: &[u64],
-    x: Small,
+    books: &[u64],
     table: &[u64],
     capacity: &[u64],
     refreshes: &[bool],
 ) -> bool
-    ensures { λ r. ⌜ Says r (SetUpFits (stateFrom (now (parent .entry)) (now (depth .entry)) (now (len .entry)) (now (run .entry)) (now (words .entry)) (now (node .entry)) (now (start .entry)) (now (end .entry)) (now (id .entry)) (now (stamp .entry)) (now (touched .entry)) (now (write .entry)) (now («pin_node» .entry)) (now («pin_start» .entry)) (now («pin_end» .entry)) (now («pin_count» .entry)) (now (marks .entry)) (now (bytes .entry)) x) (now (table .entry)) (now (capacity .entry)) (now (refreshes .entry))) ⌝ }
+    ensures { λ r. ⌜ Says r (SetUpFits (stateFrom (now (parent .entry)) (now (depth .entry)) (now (len .entry)) (now (run .entry)) (now (words .entry)) (now (node .entry)) (now (start .entry)) (now (end .entry)) (now (id .entry)) (now (stamp .entry)) (now (touched .entry)) (now (write .entry)) (now («pin_node» .entry)) (now («pin_start» .entry)) (now («pin_end» .entry)) (now («pin_count» .entry)) (now (marks .entry)) (now (bytes .entry)) (now (books .entry))) (now (table .entry)) (now (capacity .entry)) (now (refreshes .entry))) ⌝ }
 {
     if capacity.len() < 1 {
         return false;
@@ -162,6 +161,9 @@ fn fits(
         return false;
     }
     if bytes.len() < 1025 {
+        return false;
+    }
+    if !books::long_enough(books) {
         return false;
     }
     true
@@ -207,34 +209,34 @@ fn new_book(capacity: u64, refreshes: bool) -> Book
     ensures { λ r. ⌜ r ≡ bookFrom (capacity ∷ policy refreshes ∷ []) ⌝ }
 {
     let policy = policy_of(refreshes);
-    Book {
-        capacity: capacity,
-        policy: policy,
-        records: 0,
-        held: 0,
-        stamp: 0,
-        version: 0,
-        entries: 0,
-        pinned: 0,
-    }
+    books::new_book(capacity, policy)
 }
 
-// The small numbers: the root only, the stores, next id 1, everything else 0.
-fn fresh_small(capacity: &[u64], refreshes: &[bool]) -> Small
-    requires { ⌜ (length (now capacity) ≤ 8) × (length (now refreshes) ≡ length (now capacity)) ⌝ }
-    ensures { λ r. ⌜ r ≡ freshSmall (now (capacity .entry)) (now (refreshes .entry)) ⌝ }
+// The same of store s; 0 past the lists.
+fn book_at(capacity: &[u64], refreshes: &[bool], s: usize) -> Book
+    requires { ⌜ length (now refreshes) ≡ length (now capacity) ⌝ }
+    ensures { λ r. ⌜ r ≡ newBook (now (capacity .entry)) (now (refreshes .entry)) s ⌝ }
 {
-    let mut numbers = [0u64; 69];
-    numbers[0] = 1;
-    numbers[2] = capacity.len() as u64;
-    numbers[3] = 1;
+    if capacity.len() <= s {
+        return new_book(0, false);
+    }
+    new_book(capacity[s], refreshes[s])
+}
+
+// The small numbers: the root only, the stores, next id 1, everything else 0; what stands past them stays.
+fn fresh_books(books: &mut [u64], capacity: &[u64], refreshes: &[bool])
+    requires { ⌜ (maxNumbers ≤ length (now books)) × (length (now refreshes) ≡ length (now capacity)) ⌝ }
+    ensures { λ _. ⌜ now (books .exit) ≡ freshBooks (now (capacity .entry)) (now (refreshes .entry)) (now (books .entry)) ⌝ }
+{
     let mut s = 0;
-    while s < capacity.len() {
-        let b = new_book(capacity[s], refreshes[s]);
-        books::put_book(&mut numbers, s, b);
+    while s < 8 {
+        let b = book_at(capacity, refreshes, s);
+        books::put_book(books, s, b);
         s += 1;
     }
-    Small { books: numbers }
+    books::put_counts(books, 1, 0);
+    books[2] = capacity.len() as u64;
+    books::put_next(books, 1, 0);
 }
 
 // Node 0 with length and depth 0.
@@ -268,12 +270,12 @@ pub fn set_up(
     pin_count: &[u64],
     marks: &mut [usize],
     bytes: &mut [u64],
-    x: Small,
+    books: &mut [u64],
     table: &[u64],
     capacity: &[u64],
     refreshes: &[bool],
-) -> Plainly
-    ensures { λ r. ⌜ outcome (stateFrom (now (parent .exit)) (now (depth .exit)) (now (len .exit)) (now (run .exit)) (now (words .entry)) (now (node .entry)) (now (start .entry)) (now (end .entry)) (now (id .entry)) (now (stamp .entry)) (now (touched .entry)) (now (write .entry)) (now («pin_node» .entry)) (now («pin_start» .entry)) (now («pin_end» .entry)) (now («pin_count» .entry)) (now (marks .exit)) (now (bytes .exit)) (r .small)) tt (plainOf (r .answer)) ≡ setUp (stateFrom (now (parent .entry)) (now (depth .entry)) (now (len .entry)) (now (run .entry)) (now (words .entry)) (now (node .entry)) (now (start .entry)) (now (end .entry)) (now (id .entry)) (now (stamp .entry)) (now (touched .entry)) (now (write .entry)) (now («pin_node» .entry)) (now («pin_start» .entry)) (now («pin_end» .entry)) (now («pin_count» .entry)) (now (marks .entry)) (now (bytes .entry)) x) (now (table .entry)) (now (capacity .entry)) (now (refreshes .entry)) ⌝ }
+) -> Plain
+    ensures { λ r. ⌜ outcome (stateFrom (now (parent .exit)) (now (depth .exit)) (now (len .exit)) (now (run .exit)) (now (words .entry)) (now (node .entry)) (now (start .entry)) (now (end .entry)) (now (id .entry)) (now (stamp .entry)) (now (touched .entry)) (now (write .entry)) (now («pin_node» .entry)) (now («pin_start» .entry)) (now («pin_end» .entry)) (now («pin_count» .entry)) (now (marks .exit)) (now (bytes .exit)) (now (books .exit))) tt (plainOf r) ≡ setUp (stateFrom (now (parent .entry)) (now (depth .entry)) (now (len .entry)) (now (run .entry)) (now (words .entry)) (now (node .entry)) (now (start .entry)) (now (end .entry)) (now (id .entry)) (now (stamp .entry)) (now (touched .entry)) (now (write .entry)) (now («pin_node» .entry)) (now («pin_start» .entry)) (now («pin_end» .entry)) (now («pin_count» .entry)) (now (marks .entry)) (now (bytes .entry)) (now (books .entry))) (now (table .entry)) (now (capacity .entry)) (now (refreshes .entry)) ⌝ }
 {
     if !fits(
         parent,
@@ -294,21 +296,16 @@ pub fn set_up(
         pin_count,
         marks,
         bytes,
-        x,
+        books,
         table,
         capacity,
         refreshes,
     ) {
-        return Plainly {
-            small: x,
-            answer: Plain::Refused(12),
-        };
+        return Plain::Refused(12);
     }
     root_only(parent, depth, len, run);
     clear_marks(marks);
     copy_in(bytes, table);
-    Plainly {
-        small: fresh_small(capacity, refreshes),
-        answer: Plain::Done,
-    }
+    fresh_books(books, capacity, refreshes);
+    Plain::Done
 }

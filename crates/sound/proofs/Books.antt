@@ -1,14 +1,17 @@
 -- A test is made by a store's book b, which is as it stands in the small numbers l: what it says by b, it says by l. Assumes nothing.
-use Prim.Native.Nat.{ℕ, _+_, _*_, _≤_, _<_, _/_, _%_}
-use mathlib.Core.Path.{_≡_, sym, ap, subst}
+use Prim.Native.Nat.{ℕ, zero, suc, _+_, _*_, _≤_, _<_, _/_, _%_}
+use mathlib.Core.Path.{_≡_, refl, sym, ap, _∙_, subst}
 use mathlib.Core.Bool.{Bool}
 use mathlib.Core.List.{List}
 use native.Mathlib.Omega.{arith}
 use lib.Ieee.{Float}
 use Rattle.model.specs.Words.{Says, Each}
 use Rattle.model.specs.declared.Book.{Book}
-use Rattle.model.specs.State.{nextIdIn, bookIn}
+use Rattle.model.specs.Sizes.{maxStores}
+use Rattle.model.specs.State.{at, nextIdIn, bookIn}
 use Rattle.model.specs.Sound.{StoreCounts}
+use Rattle.books.specs.Books.{recordsIn}
+use Rattle.books.proofs.Laws.{records-at}
 use Rattle.soundstore.specs.Records.{RecordsFit}
 use Rattle.soundstore.specs.Pins.{PinsFit}
 use Rattle.soundstore.specs.Marks.{MarkFits}
@@ -45,11 +48,14 @@ module _ (l : List ℕ) (s : ℕ) {b : Book} (e : b ≡ bookIn l s) where
   pub each-by : {P : ℕ → Type 0} → Each (128 * s) (128 * s + bookIn l s .records) P → Each (128 * s) (128 * s + b .records) P
   each-by {P} h = subst (λ (m : Book). Each (128 * s) (128 * s + m .records) P) (sym e) h
 
--- ---- of the record at place k
+-- ---- of the record at place k, rs being each store's used records
 
-module _ (l : List ℕ) (k : ℕ) {b : Book} (e : b ≡ bookIn l (k / 128)) where
-  pub live-by : k % 128 < b .records → Live l k
-  live-by h = subst (λ (m : Book). k % 128 < m .records) e h
+module _ (l : List ℕ) (k : ℕ) (less : k / 128 < maxStores) {rs : List ℕ} (e : rs ≡ recordsIn l) where
+  used : at rs (k / 128) ≡ bookIn l (k / 128) .records
+  used = ap (λ (m : List ℕ). at m (k / 128)) e ∙ records-at l (k / 128) less
 
-  pub dead-by : b .records ≤ k % 128 → Live l k → ⊥
-  dead-by h u = let f : b .records ≡ bookIn l (k / 128) .records = ap (λ (m : Book). m .records) e in omega arith
+  pub live-by : k % 128 < at rs (k / 128) → Live l k
+  live-by h = omega (arith, used)
+
+  pub dead-by : at rs (k / 128) ≤ k % 128 → Live l k → ⊥
+  dead-by h u = omega (arith, used)

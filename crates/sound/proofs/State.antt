@@ -110,8 +110,8 @@ module _ (st : State) where
     ranges = h .lent .ranges;
     pins = h .lent .pins;
     marks = h .lent .marks;
+    books = h .lent .books;
     numbers = record {
-      lent = h .lent .books;
       someStore = h .counts .someStore;
       stores = h .counts .stores;
       firstId = h .counts .firstId;
@@ -195,7 +195,7 @@ module _ (st : State) where
       pins = t .pins;
       marks = t .marks;
       bytes = t .table .long;
-      books = t .numbers .lent;
+      books = t .books;
     };
     counts = record {
       root = t .tree .sized .low;

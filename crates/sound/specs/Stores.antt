@@ -16,7 +16,6 @@ use Rattle.sound.specs.Ids.{Differ}
 
 -- the small numbers but the stores' own
 pub record NumbersFit (l : List ℕ) : Type 0 where
-  pub lent : maxNumbers ≤ length l
   pub someStore : 1 ≤ storesIn l
   pub stores : storesIn l ≤ maxStores
   pub firstId : 1 ≤ nextIdIn l
@@ -43,6 +42,7 @@ pub record Tested (st : State) : Type 0 where
   pub ranges : RangesLent (st .ranges)
   pub pins : PinsLent (st .pins)
   pub marks : maxMarks ≤ length (st .marks)
+  pub books : maxNumbers ≤ length (st .books)
   pub numbers : NumbersFit (st .books)
   pub counts : Each 0 (storesOf st) (CountsFit (st .books))
   pub table : Table (st .bytes)

@@ -1,9 +1,9 @@
-use lent::Small;
 use model::Book;
 ghost use mathlib.Core.Path.{_≡_};
 ghost use Prim.Native.Nat.{ℕ, _+_, _*_, _%_, _≤_, _<_};
 ghost use lib.ListN.{length};
 ghost use Rattle.model.specs.Words.{Says, Each};
+ghost use Rattle.model.specs.Sizes.{maxNumbers};
 ghost use Rattle.model.specs.State.{at, nodesIn, usedIn, storesIn, bookIn};
 ghost use Rattle.model.specs.Sound.{RangesLent, PinsLent, StoreCounts, Sound};
 ghost use Rattle.lent.specs.Lent.{treeOf, rangesOf, pinsOf, stateOf};
@@ -64,24 +64,25 @@ fn pins_lent(node: &[usize], start: &[usize], end: &[usize], count: &[u64]) -> b
     true
 }
 
-fn numbers_fit(x: Small) -> bool
-    ensures { λ r. ⌜ Says r (NumbersFit (x .books)) ⌝ }
+fn numbers_fit(books: &[u64]) -> bool
+    requires { ⌜ maxNumbers ≤ length (now books) ⌝ }
+    ensures { λ r. ⌜ Says r (NumbersFit (now (books .entry))) ⌝ }
 {
-    let stores = x.books[2];
+    let stores = books[2];
     if stores < 1 {
         return false;
     }
     if 8 < stores {
         return false;
     }
-    let next = x.books[3];
+    let next = books[3];
     if next < 1 {
         return false;
     }
     if 281474976710655 < next {
         return false;
     }
-    if 281474976710656 < x.books[4] {
+    if 281474976710656 < books[4] {
         return false;
     }
     true
@@ -111,8 +112,8 @@ fn counts_fit(b: Book) -> bool
     true
 }
 
-fn all_counts_fit(books: &[u64; 69]) -> bool
-    requires { ⌜ storesIn (now books) ≤ 8 ⌝ }
+fn all_counts_fit(books: &[u64]) -> bool
+    requires { ⌜ (maxNumbers ≤ length (now books)) × (storesIn (now books) ≤ 8) ⌝ }
     ensures { λ r. ⌜ Says r (Each 0 (storesIn (now (books .entry))) (CountsFit (now (books .entry)))) ⌝ }
 {
     let stores = books[2] as usize;
@@ -136,9 +137,9 @@ fn all_records_fit(
     id: &[u64],
     stamp: &[u64],
     touched: &[f64],
-    books: &[u64; 69],
+    books: &[u64],
 ) -> bool
-    requires { ⌜ (storesIn (now books) ≤ 8) × (nodesIn (now books) ≤ length (now len)) × (1024 ≤ length (now node)) × (1024 ≤ length (now start)) × (1024 ≤ length (now end)) × (1024 ≤ length (now id)) × (1024 ≤ length (now stamp)) × (1024 ≤ length (now touched)) × ((k : ℕ) → k < nodesIn (now books) → at (now len) k ≤ 1024) × Each 0 (storesIn (now books)) (CountsFit (now books)) ⌝ }
+    requires { ⌜ (maxNumbers ≤ length (now books)) × (storesIn (now books) ≤ 8) × (nodesIn (now books) ≤ length (now len)) × (1024 ≤ length (now node)) × (1024 ≤ length (now start)) × (1024 ≤ length (now end)) × (1024 ≤ length (now id)) × (1024 ≤ length (now stamp)) × (1024 ≤ length (now touched)) × ((k : ℕ) → k < nodesIn (now books) → at (now len) k ≤ 1024) × Each 0 (storesIn (now books)) (CountsFit (now books)) ⌝ }
     ensures { λ r. ⌜ Says r (Each 0 (storesIn (now (books .entry))) (StoreRecords (now (len .entry)) (now (node .entry)) (now (start .entry)) (now (end .entry)) (now (id .entry)) (now (stamp .entry)) (now (touched .entry)) (nodesIn (now (books .entry))) (now (books .entry)))) ⌝ }
 {
     let nodes = books[0] as usize;
@@ -177,9 +178,9 @@ fn all_pins_fit(
     start: &[usize],
     end: &[usize],
     count: &[u64],
-    books: &[u64; 69],
+    books: &[u64],
 ) -> bool
-    requires { ⌜ (storesIn (now books) ≤ 8) × (nodesIn (now books) ≤ length (now len)) × (256 ≤ length (now node)) × (256 ≤ length (now start)) × (256 ≤ length (now end)) × (256 ≤ length (now count)) × ((k : ℕ) → k < nodesIn (now books) → at (now len) k ≤ 1024) × Each 0 (storesIn (now books)) (CountsFit (now books)) ⌝ }
+    requires { ⌜ (maxNumbers ≤ length (now books)) × (storesIn (now books) ≤ 8) × (nodesIn (now books) ≤ length (now len)) × (256 ≤ length (now node)) × (256 ≤ length (now start)) × (256 ≤ length (now end)) × (256 ≤ length (now count)) × ((k : ℕ) → k < nodesIn (now books) → at (now len) k ≤ 1024) × Each 0 (storesIn (now books)) (CountsFit (now books)) ⌝ }
     ensures { λ r. ⌜ Says r (Each 0 (storesIn (now (books .entry))) (StorePins (now (len .entry)) (now (node .entry)) (now (start .entry)) (now (end .entry)) (now (count .entry)) (nodesIn (now (books .entry))) (now (books .entry)))) ⌝ }
 {
     let nodes = books[0] as usize;
@@ -197,8 +198,8 @@ fn all_pins_fit(
 }
 
 // Each store's marks: its 256 places of the pool of marks.
-fn all_marks_fit(len: &[usize], node: &[usize], marks: &[usize], books: &[u64; 69]) -> bool
-    requires { ⌜ (storesIn (now books) ≤ 8) × (nodesIn (now books) ≤ 256) × (256 ≤ length (now len)) × (1024 ≤ length (now node)) × (2048 ≤ length (now marks)) × Each 0 (storesIn (now books)) (CountsFit (now books)) × Each 0 (storesIn (now books)) (λ (s : ℕ). Each (128 * s) (128 * s + bookIn (now books) s .records) (λ (i : ℕ). at (now node) i < nodesIn (now books))) ⌝ }
+fn all_marks_fit(len: &[usize], node: &[usize], marks: &[usize], books: &[u64]) -> bool
+    requires { ⌜ (maxNumbers ≤ length (now books)) × (storesIn (now books) ≤ 8) × (nodesIn (now books) ≤ 256) × (256 ≤ length (now len)) × (1024 ≤ length (now node)) × (2048 ≤ length (now marks)) × Each 0 (storesIn (now books)) (CountsFit (now books)) × Each 0 (storesIn (now books)) (λ (s : ℕ). Each (128 * s) (128 * s + bookIn (now books) s .records) (λ (i : ℕ). at (now node) i < nodesIn (now books))) ⌝ }
     ensures { λ r. ⌜ Says r (Each 0 (storesIn (now (books .entry))) (StoreMarks (now (len .entry)) (now (node .entry)) (now (marks .entry)) (nodesIn (now (books .entry))) (now (books .entry)))) ⌝ }
 {
     let nodes = books[0] as usize;
@@ -216,7 +217,7 @@ fn all_marks_fit(len: &[usize], node: &[usize], marks: &[usize], books: &[u64; 6
 }
 
 // No record of the chain that begins at the link `from` has the id `y`.
-fn fresh(id: &[u64], books: &[u64; 69], prev: &[usize], from: usize, y: u64) -> bool
+fn fresh(id: &[u64], books: &[u64], prev: &[usize], from: usize, y: u64) -> bool
     requires { ⌜ (from ≤ length (now id)) × (from ≤ length (now prev)) × Chain (idBucket (now id)) (Live (now books)) (now prev) from × ((j : ℕ) → from ≡ j + 1 → Live (now books) j × (idBucket (now id) j ≡ y % 1024)) ⌝ }
     ensures { λ r. ⌜ Says r (Fresh (now (id .entry)) (now (books .entry)) from y) ⌝ }
 {
@@ -231,35 +232,35 @@ fn fresh(id: &[u64], books: &[u64; 69], prev: &[usize], from: usize, y: u64) -> 
     true
 }
 
-fn ids_differ(id: &[u64], books: &[u64; 69]) -> bool
-    requires { ⌜ (storesIn (now books) ≤ 8) × (1024 ≤ length (now id)) ⌝ }
+fn ids_differ(id: &[u64], books: &[u64]) -> bool
+    requires { ⌜ (maxNumbers ≤ length (now books)) × (storesIn (now books) ≤ 8) × (1024 ≤ length (now id)) ⌝ }
     ensures { λ r. ⌜ Says r (Differ (now (id .entry)) (now (books .entry)) (128 * storesIn (now (books .entry)))) ⌝ }
 {
     let mut last = [0usize; 1024];
     let mut prev = [0usize; 1024];
     let stores = books[2] as usize;
+    let records = books::records_of(books);
     let n = 128 * stores;
     let mut i = 0;
     while i < n {
         let k = i;
         i += 1;
-        let store = books::book_of(books, k / 128);
-        if store.records <= k % 128 {
+        if records[k / 128] <= k % 128 {
             continue;
         }
         let y = id[k];
-        let b = (y % 1024) as usize;
-        let from = last[b];
+        let bucket = (y % 1024) as usize;
+        let from = last[bucket];
         if !fresh(id, books, &prev, from, y) {
             return false;
         }
         prev[k] = from;
-        last[b] = i;
+        last[bucket] = i;
     }
     true
 }
 
-// Whether the state is sound, on any pools of any length and any numbers.
+// Whether the state is sound, on any pools and any small numbers, of any length.
 pub fn sound_state(
     parent: &[usize],
     depth: &[usize],
@@ -279,14 +280,17 @@ pub fn sound_state(
     pin_count: &[u64],
     marks: &[usize],
     bytes: &[u64],
-    x: Small,
+    books: &[u64],
 ) -> bool
-    ensures { λ r. ⌜ Says r (Sound (stateOf (treeOf (now (parent .entry)) (now (depth .entry)) (now (len .entry)) (now (run .entry)) (now (words .entry)) (nodesIn (x .books)) (usedIn (x .books))) (rangesOf (now (node .entry)) (now (start .entry)) (now (end .entry)) (now (id .entry)) (now (stamp .entry)) (now (touched .entry)) (now (write .entry))) (pinsOf (now («pin_node» .entry)) (now («pin_start» .entry)) (now («pin_end» .entry)) (now («pin_count» .entry))) (now (marks .entry)) (now (bytes .entry)) (x .books))) ⌝ }
+    ensures { λ r. ⌜ Says r (Sound (stateOf (treeOf (now (parent .entry)) (now (depth .entry)) (now (len .entry)) (now (run .entry)) (now (words .entry)) (nodesIn (now (books .entry))) (usedIn (now (books .entry)))) (rangesOf (now (node .entry)) (now (start .entry)) (now (end .entry)) (now (id .entry)) (now (stamp .entry)) (now (touched .entry)) (now (write .entry))) (pinsOf (now («pin_node» .entry)) (now («pin_start» .entry)) (now («pin_end» .entry)) (now («pin_count» .entry))) (now (marks .entry)) (now (bytes .entry)) (now (books .entry)))) ⌝ }
 {
-    if !numbers_fit(x) {
+    if !books::long_enough(books) {
         return false;
     }
-    if !all_counts_fit(&x.books) {
+    if !numbers_fit(books) {
+        return false;
+    }
+    if !all_counts_fit(books) {
         return false;
     }
     if !ranges_lent(node, start, end, id, stamp, touched, write) {
@@ -301,21 +305,21 @@ pub fn sound_state(
     if !soundtree::table_rises(bytes) {
         return false;
     }
-    let nodes = x.books[0] as usize;
-    let used = x.books[1] as usize;
+    let nodes = books[0] as usize;
+    let used = books[1] as usize;
     if !soundtree::tree_sound(parent, depth, len, run, words, nodes, used) {
         return false;
     }
-    if !all_records_fit(len, node, start, end, id, stamp, touched, &x.books) {
+    if !all_records_fit(len, node, start, end, id, stamp, touched, books) {
         return false;
     }
-    if !all_pins_fit(len, pin_node, pin_start, pin_end, pin_count, &x.books) {
+    if !all_pins_fit(len, pin_node, pin_start, pin_end, pin_count, books) {
         return false;
     }
-    if !all_marks_fit(len, node, marks, &x.books) {
+    if !all_marks_fit(len, node, marks, books) {
         return false;
     }
-    if !ids_differ(id, &x.books) {
+    if !ids_differ(id, books) {
         return false;
     }
     true

@@ -4,14 +4,18 @@ use Prim.Native.Nat.{ℕ, _+_, _*_, _≤_, _<_}
 use lib.ListN.{length}
 use Rattle.model.specs.Words.{Each}
 use Rattle.model.specs.State.{at}
-use Rattle.answers.specs.declared.Count.{Count}
-use Rattle.answers.specs.declared.Count.the-variants as C
 use Rattle.answers.specs.declared.Resolved.{Resolved}
-use Rattle.answers.specs.declared.Resolved.the-variants as R
+use Rattle.answers.specs.declared.Resolved.the-variants as ResolvedIs
 use Rattle.answers.specs.declared.Inserted.{Inserted}
-use Rattle.answers.specs.declared.Inserted.the-variants as I
-use Rattle.answers.specs.declared.Reading.{Reading}
-use Rattle.answers.specs.declared.Reading.the-variants as L
+use Rattle.answers.specs.declared.Inserted.the-variants as InsertedIs
+use Rattle.answers.specs.declared.StoreInserted.{StoreInserted}
+use Rattle.answers.specs.declared.StoreInserted.the-variants as StoreInsertedIs
+use Rattle.answers.specs.declared.StoreExpired.{StoreExpired}
+use Rattle.answers.specs.declared.StoreExpired.the-variants as StoreExpiredIs
+use Rattle.answers.specs.declared.StoreRemoved.{StoreRemoved}
+use Rattle.answers.specs.declared.StoreRemoved.the-variants as StoreRemovedIs
+use Rattle.answers.specs.declared.Looked.{Looked}
+use Rattle.answers.specs.declared.Looked.the-variants as LookedIs
 
 -- at most k bytes were written from `from` on, and r is the place past them
 pub record Wrote (from k r : ℕ) : Type 0 where
@@ -21,22 +25,29 @@ pub record Wrote (from k r : ℕ) : Type 0 where
 -- ---- an answer's lists are within their places
 
 abbrev pub PathIn : Resolved → Type 0
-PathIn (R.Refused n) = Unit {0}
-PathIn (R.Done p) = p .segs ≤ 255
+PathIn (ResolvedIs.Refused n) = Unit {0}
+PathIn (ResolvedIs.Done d) = d .path .segs ≤ 255
 
 abbrev pub InsertIn : Inserted → Type 0
-InsertIn (I.Refused n) = Unit {0}
-InsertIn (I.Whole p) = p .segs ≤ 255
-InsertIn (I.Split p c) = p .segs ≤ 255
+InsertIn (InsertedIs.Refused n) = Unit {0}
+InsertIn (InsertedIs.Done d) = d .path .segs ≤ 255
 
-abbrev pub CountIn : Count → Type 0
-CountIn (C.Refused n) = Unit {0}
-CountIn (C.Done k) = k ≤ 128
+abbrev pub BringIn : StoreInserted → Type 0
+BringIn (StoreInsertedIs.Refused n) = Unit {0}
+BringIn (StoreInsertedIs.Done d) = d .outs ≤ 128
 
--- a reading through n tiers
-abbrev pub ReadingIn : ℕ → Reading → Type 0
-ReadingIn n (L.Refused m) = Unit {0}
-ReadingIn n (L.Done p k) = (p .segs ≤ 255) × (k ≤ 1024) × (n ≤ 8)
+abbrev pub ExpireIn : StoreExpired → Type 0
+ExpireIn (StoreExpiredIs.Refused n) = Unit {0}
+ExpireIn (StoreExpiredIs.Done d) = d .outs ≤ 128
+
+abbrev pub RemoveIn : StoreRemoved → Type 0
+RemoveIn (StoreRemovedIs.Refused n) = Unit {0}
+RemoveIn (StoreRemovedIs.Done d) = d .writes ≤ 128
+
+-- a lookup through n tiers
+abbrev pub LookupIn : ℕ → Looked → Type 0
+LookupIn n (LookedIs.Refused m) = Unit {0}
+LookupIn n (LookedIs.Done d) = (d .path .segs ≤ 255) × (d .spans ≤ 1024) × (n ≤ 8)
 
 -- ---- the state
 

@@ -1,19 +1,25 @@
 // The answers and the whole state in the replay form, written into a buffer that the caller lends. Each function answers the place past what it wrote.
-use answers::Count;
-use answers::Cut;
+use answers::EachTier;
 use answers::Inserted;
-use answers::Path;
+use answers::Looked;
 use answers::Plain;
 use answers::Reading;
 use answers::Resolved;
-use lent::Small;
+use answers::StoreExpired;
+use answers::StoreInserted;
+use answers::StoreRemoved;
+use answers::StoreUsed;
 use model::Book;
+use model::Cut;
+use model::Path;
+use model::Split;
 ghost use Prim.Native.Nat.{_+_, _≤_, _<_};
 ghost use lib.ListN.{length};
+ghost use Rattle.model.specs.Sizes.{maxNumbers};
 ghost use Rattle.model.specs.State.{storesIn};
 ghost use Rattle.model.specs.Sound.{Sound};
 ghost use Rattle.answers.specs.Answers.{stateFrom};
-ghost use Rattle.statetext.specs.Text.{Wrote, PathIn, InsertIn, CountIn, ReadingIn, Run, Nodes, Spot, SpotAt, Spots};
+ghost use Rattle.statetext.specs.Text.{Wrote, PathIn, InsertIn, BringIn, ExpireIn, RemoveIn, LookupIn, Run, Nodes, Spot, SpotAt, Spots};
 
 // ---- parts of a line
 
@@ -125,14 +131,15 @@ pub fn put_plain(out: &mut [u8], at: usize, a: Plain) -> usize
     }
 }
 
-pub fn put_bytes_read(out: &mut [u8], at: usize, a: Count) -> usize
+// Touch.
+pub fn put_bytes_read(out: &mut [u8], at: usize, a: StoreUsed) -> usize
     requires { ⌜ at + 64 ≤ length (now out) ⌝ }
     ensures { λ r. ⌜ Wrote at 64 r ⌝ }
 {
     match a {
-        Count::Refused(n) => put_refused(out, at, n),
-        Count::Done(b) => {
-            let next = put_field(out, at, b"ok bytes ", b);
+        StoreUsed::Refused(n) => put_refused(out, at, n),
+        StoreUsed::Done(d) => {
+            let next = put_field(out, at, b"ok bytes ", d.bytes);
             put_end(out, next)
         }
     }
@@ -249,19 +256,32 @@ fn put_sums(out: &mut [u8], at: usize, sums: [u64; 8], n: usize) -> usize
     next
 }
 
+fn sums_of(t: EachTier) -> [u64; 8] {
+    [
+        t.first,
+        t.second,
+        t.third,
+        t.fourth,
+        t.fifth,
+        t.sixth,
+        t.seventh,
+        t.eighth,
+    ]
+}
+
 // `blocks B0 B1 .. bytes Y0 Y1 ..`
-fn put_all_sums(out: &mut [u8], at: usize, blocks: [u64; 8], bytes: [u64; 8], n: usize) -> usize
+fn put_all_sums(out: &mut [u8], at: usize, blocks: EachTier, bytes: EachTier, n: usize) -> usize
     requires { ⌜ (n ≤ 8) × (at + 1024 ≤ length (now out)) ⌝ }
     ensures { λ r. ⌜ Wrote at 512 r ⌝ }
 {
     let a = print::put_bytes(out, at, b" blocks");
-    let b = put_sums(out, a, blocks, n);
+    let b = put_sums(out, a, sums_of(blocks), n);
     let c = print::put_bytes(out, b, b" bytes");
-    let d = put_sums(out, c, bytes, n);
+    let d = put_sums(out, c, sums_of(bytes), n);
     put_end(out, d)
 }
 
-// A lookup through n tiers: the path, k tier spans, the sums.
+// A lookup through n tiers: the path, the tier spans, the sums.
 fn put_looked(
     out: &mut [u8],
     at: usize,
@@ -271,20 +291,17 @@ fn put_looked(
     span_node: &[usize],
     start: &[usize],
     end: &[usize],
-    p: Path,
-    k: usize,
-    blocks: [u64; 8],
-    bytes: [u64; 8],
+    d: Reading,
     n: usize,
 ) -> usize
-    requires { ⌜ (p .segs ≤ 255) × (p .segs ≤ length (now node)) × (p .segs ≤ length (now len)) × (k ≤ 1024) × (k ≤ length (now tier)) × (k ≤ length (now «span_node»)) × (k ≤ length (now start)) × (k ≤ length (now end)) × (n ≤ 8) × (at + 131072 ≤ length (now out)) ⌝ }
+    requires { ⌜ (d .path .segs ≤ 255) × (d .path .segs ≤ length (now node)) × (d .path .segs ≤ length (now len)) × (d .spans ≤ 1024) × (d .spans ≤ length (now tier)) × (d .spans ≤ length (now «span_node»)) × (d .spans ≤ length (now start)) × (d .spans ≤ length (now end)) × (n ≤ 8) × (at + 131072 ≤ length (now out)) ⌝ }
     ensures { λ r. ⌜ Wrote at 131072 r ⌝ }
 {
     let a = print::put_bytes(out, at, b"ok path");
-    let b = put_segments(out, a, node, len, p.segs);
+    let b = put_segments(out, a, node, len, d.path.segs);
     let c = print::put_bytes(out, b, b" spans");
-    let d = put_tier_spans(out, c, tier, span_node, start, end, k);
-    put_all_sums(out, d, blocks, bytes, n)
+    let e = put_tier_spans(out, c, tier, span_node, start, end, d.spans);
+    put_all_sums(out, e, d.blocks, d.bytes, n)
 }
 
 // ---- an answer of each call that has a list
@@ -296,7 +313,7 @@ pub fn put_resolved(out: &mut [u8], at: usize, node: &[usize], len: &[usize], a:
 {
     match a {
         Resolved::Refused(n) => put_refused(out, at, n),
-        Resolved::Done(p) => put_whole(out, at, node, len, p),
+        Resolved::Done(d) => put_whole(out, at, node, len, d.path),
     }
 }
 
@@ -307,13 +324,18 @@ pub fn put_inserted(out: &mut [u8], at: usize, node: &[usize], len: &[usize], a:
 {
     match a {
         Inserted::Refused(n) => put_refused(out, at, n),
-        Inserted::Whole(p) => put_whole(out, at, node, len, p),
-        Inserted::Split(p, c) => put_split(out, at, node, len, p, c),
+        Inserted::Done(d) => {
+            let s = d.split;
+            match s {
+                Split::No => put_whole(out, at, node, len, d.path),
+                Split::At(c) => put_split(out, at, node, len, d.path, c),
+            }
+        }
     }
 }
 
-// Bring-in and expiry.
-pub fn put_given_out(
+// Bring-in.
+pub fn put_brought(
     out: &mut [u8],
     at: usize,
     node: &[usize],
@@ -322,25 +344,66 @@ pub fn put_given_out(
     write: &[u32],
     bytes: &[u64],
     dead: &[u64],
-    a: Count,
+    a: StoreInserted,
 ) -> usize
-    requires { ⌜ CountIn a × (128 ≤ length (now node)) × (128 ≤ length (now start)) × (128 ≤ length (now end)) × (128 ≤ length (now write)) × (128 ≤ length (now bytes)) × (128 ≤ length (now dead)) × (at + 32768 ≤ length (now out)) ⌝ }
+    requires { ⌜ BringIn a × (128 ≤ length (now node)) × (128 ≤ length (now start)) × (128 ≤ length (now end)) × (128 ≤ length (now write)) × (128 ≤ length (now bytes)) × (128 ≤ length (now dead)) × (at + 32768 ≤ length (now out)) ⌝ }
     ensures { λ r. ⌜ Wrote at 32768 r ⌝ }
 {
     match a {
-        Count::Refused(n) => put_refused(out, at, n),
-        Count::Done(n) => put_outs(out, at, node, start, end, write, bytes, dead, n as usize),
+        StoreInserted::Refused(n) => put_refused(out, at, n),
+        StoreInserted::Done(d) => put_outs(
+            out,
+            at,
+            node,
+            start,
+            end,
+            write,
+            bytes,
+            dead,
+            d.outs as usize,
+        ),
+    }
+}
+
+// Expiry.
+pub fn put_expired(
+    out: &mut [u8],
+    at: usize,
+    node: &[usize],
+    start: &[usize],
+    end: &[usize],
+    write: &[u32],
+    bytes: &[u64],
+    dead: &[u64],
+    a: StoreExpired,
+) -> usize
+    requires { ⌜ ExpireIn a × (128 ≤ length (now node)) × (128 ≤ length (now start)) × (128 ≤ length (now end)) × (128 ≤ length (now write)) × (128 ≤ length (now bytes)) × (128 ≤ length (now dead)) × (at + 32768 ≤ length (now out)) ⌝ }
+    ensures { λ r. ⌜ Wrote at 32768 r ⌝ }
+{
+    match a {
+        StoreExpired::Refused(n) => put_refused(out, at, n),
+        StoreExpired::Done(d) => put_outs(
+            out,
+            at,
+            node,
+            start,
+            end,
+            write,
+            bytes,
+            dead,
+            d.outs as usize,
+        ),
     }
 }
 
 // Removal.
-pub fn put_removed(out: &mut [u8], at: usize, write: &[u32], a: Count) -> usize
-    requires { ⌜ CountIn a × (128 ≤ length (now write)) × (at + 32768 ≤ length (now out)) ⌝ }
+pub fn put_removed(out: &mut [u8], at: usize, write: &[u32], a: StoreRemoved) -> usize
+    requires { ⌜ RemoveIn a × (128 ≤ length (now write)) × (at + 32768 ≤ length (now out)) ⌝ }
     ensures { λ r. ⌜ Wrote at 32768 r ⌝ }
 {
     match a {
-        Count::Refused(n) => put_refused(out, at, n),
-        Count::Done(n) => put_writes(out, at, write, n as usize),
+        StoreRemoved::Refused(n) => put_refused(out, at, n),
+        StoreRemoved::Done(d) => put_writes(out, at, write, d.writes as usize),
     }
 }
 
@@ -354,31 +417,15 @@ pub fn put_looked_up(
     span_node: &[usize],
     start: &[usize],
     end: &[usize],
-    a: Reading,
-    blocks: [u64; 8],
-    bytes: [u64; 8],
+    a: Looked,
     n: usize,
 ) -> usize
-    requires { ⌜ ReadingIn n a × (255 ≤ length (now node)) × (255 ≤ length (now len)) × (1024 ≤ length (now tier)) × (1024 ≤ length (now «span_node»)) × (1024 ≤ length (now start)) × (1024 ≤ length (now end)) × (at + 131072 ≤ length (now out)) ⌝ }
+    requires { ⌜ LookupIn n a × (255 ≤ length (now node)) × (255 ≤ length (now len)) × (1024 ≤ length (now tier)) × (1024 ≤ length (now «span_node»)) × (1024 ≤ length (now start)) × (1024 ≤ length (now end)) × (at + 131072 ≤ length (now out)) ⌝ }
     ensures { λ r. ⌜ Wrote at 131072 r ⌝ }
 {
     match a {
-        Reading::Refused(m) => put_refused(out, at, m),
-        Reading::Done(p, k) => put_looked(
-            out,
-            at,
-            node,
-            len,
-            tier,
-            span_node,
-            start,
-            end,
-            p,
-            k,
-            blocks,
-            bytes,
-            n,
-        ),
+        Looked::Refused(m) => put_refused(out, at, m),
+        Looked::Done(d) => put_looked(out, at, node, len, tier, span_node, start, end, d, n),
     }
 }
 
@@ -757,13 +804,13 @@ fn put_whole_store(
     pin_count: &[u64],
     marks: &[usize],
     bytes: &[u64],
-    x: Small,
+    books: &[u64],
     s: usize,
 ) -> usize
-    requires { ⌜ Sound (stateFrom (now parent) (now depth) (now len) (now run) (now words) (now node) (now start) (now end) (now id) (now stamp) (now touched) (now write) (now «pin_node») (now «pin_start») (now «pin_end») (now «pin_count») (now marks) (now bytes) x) × (s < storesIn (x .books)) × (at + 61440 ≤ length (now out)) ⌝ }
+    requires { ⌜ Sound (stateFrom (now parent) (now depth) (now len) (now run) (now words) (now node) (now start) (now end) (now id) (now stamp) (now touched) (now write) (now «pin_node») (now «pin_start») (now «pin_end») (now «pin_count») (now marks) (now bytes) (now books)) × (s < storesIn (now books)) × (at + 61440 ≤ length (now out)) ⌝ }
     ensures { λ r. ⌜ Wrote at 60928 r ⌝ }
 {
-    let own = books::book_of(&x.books, s);
+    let own = books::book_of(books, s);
     let a = put_store(out, at, s, own);
     let b = put_records(
         out,
@@ -798,15 +845,15 @@ fn put_whole_store(
 }
 
 // `state nodes=N words=W nextid=I stalls=X`
-fn put_head(out: &mut [u8], at: usize, x: Small) -> usize
-    requires { ⌜ at + 160 ≤ length (now out) ⌝ }
+fn put_head(out: &mut [u8], at: usize, books: &[u64]) -> usize
+    requires { ⌜ (maxNumbers ≤ length (now books)) × (at + 160 ≤ length (now out)) ⌝ }
     ensures { λ r. ⌜ Wrote at 128 r ⌝ }
 {
     let t = print::put_bytes(out, at, b"state");
-    let a = put_field(out, t, b" nodes=", x.books[0]);
-    let b = put_field(out, a, b" words=", x.books[1]);
-    let c = put_field(out, b, b" nextid=", x.books[3]);
-    put_field(out, c, b" stalls=", x.books[4])
+    let a = put_field(out, t, b" nodes=", books[0]);
+    let b = put_field(out, a, b" words=", books[1]);
+    let c = put_field(out, b, b" nextid=", books[3]);
+    put_field(out, c, b" stalls=", books[4])
 }
 
 // The whole state.
@@ -831,14 +878,14 @@ pub fn put_state(
     pin_count: &[u64],
     marks: &[usize],
     bytes: &[u64],
-    x: Small,
+    books: &[u64],
 ) -> usize
-    requires { ⌜ Sound (stateFrom (now parent) (now depth) (now len) (now run) (now words) (now node) (now start) (now end) (now id) (now stamp) (now touched) (now write) (now «pin_node») (now «pin_start») (now «pin_end») (now «pin_count») (now marks) (now bytes) x) × (at + 540672 ≤ length (now out)) ⌝ }
+    requires { ⌜ Sound (stateFrom (now parent) (now depth) (now len) (now run) (now words) (now node) (now start) (now end) (now id) (now stamp) (now touched) (now write) (now «pin_node») (now «pin_start») (now «pin_end») (now «pin_count») (now marks) (now bytes) (now books)) × (at + 540672 ≤ length (now out)) ⌝ }
     ensures { λ r. ⌜ Wrote at 540672 r ⌝ }
 {
-    let nodes = x.books[0] as usize;
-    let stores = x.books[2] as usize;
-    let a = put_head(out, at, x);
+    let nodes = books[0] as usize;
+    let stores = books[2] as usize;
+    let a = put_head(out, at, books);
     let mut next = put_nodes(out, a, parent, depth, len, run, words, nodes);
     let mut s = 0;
     while s < stores {
@@ -863,7 +910,7 @@ pub fn put_state(
             pin_count,
             marks,
             bytes,
-            x,
+            books,
             s,
         );
         s += 1;

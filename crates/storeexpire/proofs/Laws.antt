@@ -11,7 +11,7 @@ use lib.Seq.{drop-drop}
 use lib.Ieee.{Float}
 use Rattle.model.specs.declared.Book.{Book}
 use Rattle.model.specs.Words.{Says}
-use Rattle.model.specs.Sizes.{versions}
+use Rattle.model.specs.Sizes.{maxStores, maxNumbers, versions}
 use Rattle.model.specs.State.{Tree, Ranges, Pins, Range, State, nodesIn, usedIn, bookIn, storesOf, nextIdOf, bookOf, recordsOf, heldOf}
 use Rattle.model.specs.Sound.{Sound, Finite}
 use Rattle.model.specs.Store.{ranges, storeOf, lay, layRanges, layBook, ranged, total, withRanges}
@@ -126,8 +126,12 @@ module _ (st : State) (l : OutList) (s : ℕ) (time seconds : Float) where
     own : StoreSound (st .tree) (nextIdOf st) (storeOf st s)
     own = store-sound st s h less
 
-    pub store-in : s < 8
+    store-in : s < 8
     store-in = omega (arith, less, h .counts .stores)
+
+    -- store s is one of eight, and the list is long enough
+    pub book-in : (s < maxStores) × (maxNumbers ≤ length (st .books))
+    book-in = (store-in, h .lent .books)
 
     few : recordsOf st s ≤ 128
     few = h .counts .each s (omega arith) less .records
@@ -162,13 +166,13 @@ module _ (st : State) (l : OutList) (s : ℕ) (time seconds : Float) where
 
         call-laid : GivenOutAt s gone (recordsOf st s) (st .ranges) (st .marks) l c ms lʹ (r .n) (r .held) (r .outs) false
             → (v : ℕ) → v ≡ (b .version + r .outs) % versions
-            → outcome (stateOf (st .tree) c (st .pins) ms (st .bytes) (layBook s (ranged b (r .n) (r .held) (b .stamp) v) (st .books))) lʹ (done (r .outs)) ≡ storeExpire st l s time seconds
+            → outcome (stateOf (st .tree) c (st .pins) ms (st .bytes) (layBook s (ranged b (r .n) (r .held) (b .stamp) v) (st .books))) lʹ (done (record { outs = r .outs })) ≡ storeExpire st l s time seconds
         unfolding storeExpire withRanges expire expired storeOf
         call-laid u v e =
             let more : recordsOf st s ≡ recordsOf st s + 0 = omega arith in
             let cols = u .cols ∙ ap (λ (k : ℕ). layRanges (128 * s) k (gone .ranges) (st .ranges)) more in
             let next = e ∙ (λ j. (is j .version + u .outs j) % versions) in
-            (λ j. outcome (stateOf (st .tree) (cols j) (st .pins) (u .marks j) (st .bytes) (layBook s (ranged (is j) (u .records j) (u .held j) (is j .stamp) (next j)) (st .books))) (u .lists j) (done (u .outs j)))
+            (λ j. outcome (stateOf (st .tree) (cols j) (st .pins) (u .marks j) (st .bytes) (layBook s (ranged (is j) (u .records j) (u .held j) (is j .stamp) (next j)) (st .books))) (u .lists j) (done (record { outs = u .outs j })))
             ∙ sym (unless-none st l _ (firstOf (storeExpireRefusals st l s time seconds)) none)
 
 -- The same of the columns: rs, ps, ms and table are the pools at entry, ns the small numbers, T the tree with so many nodes and hash words
@@ -180,8 +184,8 @@ module _ (T : ℕ → ℕ → Tree) (rs : Ranges) (ps : Pins) (ms table ns : Lis
     pub call-done : {c : Ranges} {ks : List ℕ} {lʹ : OutList} {r : Expiring}
         → GivenOutAt s (expired (onlyDepth (T (nodesIn ns) (usedIn ns) .depth)) table time seconds (ranges rs (128 * s) (b .records)) (mid (256 * s) 256 ms)) (b .records) rs ms l c ks lʹ (r .n) (r .held) (r .outs) false
         → (v : ℕ) → v ≡ (b .version + r .outs) % versions → (new : List ℕ) → new ≡ layBook s (ranged b (r .n) (r .held) (b .stamp) v) ns
-        → outcome (stateOf (T (nodesIn new) (usedIn new)) c ps ks table new) lʹ (done (r .outs)) ≡ storeExpire here l s time seconds
+        → outcome (stateOf (T (nodesIn new) (usedIn new)) c ps ks table new) lʹ (done (record { outs = r .outs })) ≡ storeExpire here l s time seconds
     unfolding layBook
     call-done {c} {ks} {lʹ} {r} u v e new d =
-        (λ j. outcome (stateOf (T (nodesIn (d j)) (usedIn (d j))) c ps ks table (d j)) lʹ (done (r .outs)))
+        (λ j. outcome (stateOf (T (nodesIn (d j)) (usedIn (d j))) c ps ks table (d j)) lʹ (done (record { outs = r .outs })))
         ∙ call-laid here l s time seconds h fits n number zero b is {r = r} (given-in here l s time seconds h fits n number zero b is {r = r} u) v e

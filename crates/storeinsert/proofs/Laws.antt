@@ -12,7 +12,7 @@ use lib.ListN.{length}
 use lib.Ieee.{Float}
 use Rattle.model.specs.declared.Span.{Span}
 use Rattle.model.specs.declared.Book.{Book}
-use Rattle.model.specs.Sizes.{storeRecords, maxStamp}
+use Rattle.model.specs.Sizes.{maxStores, maxNumbers, storeRecords, maxStamp}
 use Rattle.model.specs.State.{Range, State, storesOf, nextIdOf, bookOf, capacityOf, recordsOf, stampOf}
 use Rattle.model.specs.Sound.{Sound, Finite}
 use Rattle.model.specs.SoundTest.{finite}
@@ -178,8 +178,12 @@ gaps-part st s w n sp g node start end e few f a b c d =
 
 -- ---- what a sound state gives the calls
 
-pub in-eight : {st : State} {s : ℕ} → Sound st → s < storesOf st → s < 8
+in-eight : {st : State} {s : ℕ} → Sound st → s < storesOf st → s < 8
 in-eight h l = omega (arith, h .counts .stores)
+
+-- store s is one of eight, and the list is long enough
+pub book-in : {st : State} {s : ℕ} → Sound st → s < storesOf st → (s < maxStores) × (maxNumbers ≤ length (st .books))
+book-in h l = (in-eight h l, h .lent .books)
 
 pub nodes-lent : {st : State} → Sound st → st .tree .nodes ≤ length (st .tree .len)
 nodes-lent h = omega (arith, h .counts .nodes, h .lent .tree .len)
@@ -285,10 +289,10 @@ module _ (st : State) (l : OutList) (s : ℕ) (sp : Span) (time : Float) (h : So
       outs-are = ap (λ (b : Brought). b .outs) (gives .1)
 
       pub given-back : (lʹ : OutList) → lʹ ≡ layOuts (whole (onlyDepth (st .tree .depth)) (st .bytes) sp w ∷ []) l
-          → outcome st lʹ (done 1) ≡ storeInsert st l s sp time w
+          → outcome st lʹ (done (record { outs = 1 })) ≡ storeInsert st l s sp time w
       unfolding storeInsert
       given-back lʹ q =
-          (λ j. outcome (sym same-state j) ((q ∙ ap (λ (os : List Out). layOuts os l) (sym outs-are)) j) (done (sym (ap length outs-are) j)))
+          (λ j. outcome (sym same-state j) ((q ∙ ap (λ (os : List Out). layOuts os l) (sym outs-are)) j) (done (record { outs = sym (ap length outs-are) j })))
           ∙ unless-none _ st l _ (need-decides st l s sp time h fits store-there span-there time-finite ∙ sym nothing-needed)
 
 -- ---- a store with a capacity
@@ -337,6 +341,6 @@ module _ {st : State} {l : OutList} {s : ℕ} {sp : Span} {time : Float} (p : Ke
           ids = omega (arith, b .1, kept-is);
         }
 
-    pub kept-whole : {w : ℕ} {stʹ : State} {lʹ : OutList} {o : ℕ} → BroughtIn st l s sp time w stʹ lʹ o → outcome stʹ lʹ (done o) ≡ storeInsert st l s sp time w
+    pub kept-whole : {w : ℕ} {stʹ : State} {lʹ : OutList} {o : ℕ} → BroughtIn st l s sp time w stʹ lʹ o → outcome stʹ lʹ (done (record { outs = o })) ≡ storeInsert st l s sp time w
     unfolding storeInsert
-    kept-whole u = (λ j. outcome (u .state j) (u .lists j) (done (u .outs j))) ∙ unless-none _ st l _ (need-first ∙ sym e)
+    kept-whole u = (λ j. outcome (u .state j) (u .lists j) (done (record { outs = u .outs j }))) ∙ unless-none _ st l _ (need-first ∙ sym e)

@@ -1,8 +1,7 @@
-use answers::Count;
-use answers::Counted;
+use answers::StoreInserted;
 use gaps::Gaps;
-use lent::Small;
 use model::Book;
+use model::BringAnswer;
 use model::Span;
 ghost use mathlib.Core.Path.{_≡_};
 ghost use Prim.Native.Nat.{ℕ, _+_, _≤_, _<_};
@@ -15,7 +14,7 @@ ghost use Rattle.model.specs.Refusals.{OutFits, firstOf};
 ghost use Rattle.model.specs.Calls.{storeInsert};
 ghost use Rattle.evicted.specs.Evicted.{outList};
 ghost use Rattle.gaps.specs.Gaps.{gapsOf};
-ghost use Rattle.answers.specs.Answers.{stateFrom, outcome, countOf};
+ghost use Rattle.answers.specs.Answers.{stateFrom, outcome, storeInsertedOf};
 ghost use Rattle.storeinsert.specs.Keep.{argumentRefusals, needRefusals, KeepReady};
 
 // What the arguments are refused for: 2, 4, 5 or nothing, 0.
@@ -94,31 +93,28 @@ fn keep_span(
     pin_count: &[u64],
     marks: &mut [usize],
     bytes: &[u64],
+    books: &mut [u64],
     out_node: &mut [usize],
     out_start: &mut [usize],
     out_end: &mut [usize],
     out_write: &mut [u32],
     out_bytes: &mut [u64],
     out_dead: &mut [u64],
-    x: Small,
     s: usize,
     sp: Span,
     time: f64,
     w: u32,
-) -> Counted
-    requires { ⌜ KeepReady (stateFrom (now parent) (now depth) (now len) (now run) (now words) (now node) (now start) (now end) (now id) (now stamp) (now touched) (now write) (now «pin_node») (now «pin_start») (now «pin_end») (now «pin_count») (now marks) (now bytes) x) (outList (now «out_node») (now «out_start») (now «out_end») (now «out_write») (now «out_bytes») (now «out_dead»)) s sp time ⌝ }
-    ensures { λ r. ⌜ outcome (stateFrom (now (parent .entry)) (now (depth .entry)) (now (len .entry)) (now (run .entry)) (now (words .entry)) (now (node .exit)) (now (start .exit)) (now (end .exit)) (now (id .exit)) (now (stamp .exit)) (now (touched .exit)) (now (write .exit)) (now («pin_node» .entry)) (now («pin_start» .entry)) (now («pin_end» .entry)) (now («pin_count» .entry)) (now (marks .exit)) (now (bytes .entry)) (r .small)) (outList (now («out_node» .exit)) (now («out_start» .exit)) (now («out_end» .exit)) (now («out_write» .exit)) (now («out_bytes» .exit)) (now («out_dead» .exit))) (countOf (r .answer)) ≡ storeInsert (stateFrom (now (parent .entry)) (now (depth .entry)) (now (len .entry)) (now (run .entry)) (now (words .entry)) (now (node .entry)) (now (start .entry)) (now (end .entry)) (now (id .entry)) (now (stamp .entry)) (now (touched .entry)) (now (write .entry)) (now («pin_node» .entry)) (now («pin_start» .entry)) (now («pin_end» .entry)) (now («pin_count» .entry)) (now (marks .entry)) (now (bytes .entry)) x) (outList (now («out_node» .entry)) (now («out_start» .entry)) (now («out_end» .entry)) (now («out_write» .entry)) (now («out_bytes» .entry)) (now («out_dead» .entry))) s sp time w ⌝ }
+) -> StoreInserted
+    requires { ⌜ KeepReady (stateFrom (now parent) (now depth) (now len) (now run) (now words) (now node) (now start) (now end) (now id) (now stamp) (now touched) (now write) (now «pin_node») (now «pin_start») (now «pin_end») (now «pin_count») (now marks) (now bytes) (now books)) (outList (now «out_node») (now «out_start») (now «out_end») (now «out_write») (now «out_bytes») (now «out_dead»)) s sp time ⌝ }
+    ensures { λ r. ⌜ outcome (stateFrom (now (parent .entry)) (now (depth .entry)) (now (len .entry)) (now (run .entry)) (now (words .entry)) (now (node .exit)) (now (start .exit)) (now (end .exit)) (now (id .exit)) (now (stamp .exit)) (now (touched .exit)) (now (write .exit)) (now («pin_node» .entry)) (now («pin_start» .entry)) (now («pin_end» .entry)) (now («pin_count» .entry)) (now (marks .exit)) (now (bytes .entry)) (now (books .exit))) (outList (now («out_node» .exit)) (now («out_start» .exit)) (now («out_end» .exit)) (now («out_write» .exit)) (now («out_bytes» .exit)) (now («out_dead» .exit))) (storeInsertedOf r) ≡ storeInsert (stateFrom (now (parent .entry)) (now (depth .entry)) (now (len .entry)) (now (run .entry)) (now (words .entry)) (now (node .entry)) (now (start .entry)) (now (end .entry)) (now (id .entry)) (now (stamp .entry)) (now (touched .entry)) (now (write .entry)) (now («pin_node» .entry)) (now («pin_start» .entry)) (now («pin_end» .entry)) (now («pin_count» .entry)) (now (marks .entry)) (now (bytes .entry)) (now (books .entry))) (outList (now («out_node» .entry)) (now («out_start» .entry)) (now («out_end» .entry)) (now («out_write» .entry)) (now («out_bytes» .entry)) (now («out_dead» .entry))) s sp time w ⌝ }
 {
-    let own = books::book_of(&x.books, s);
+    let own = books::book_of(books, s);
     let g = gaps_of(node, start, end, s, own.records, sp);
-    let number = need_refusal(own, x.books[3], g.n);
+    let number = need_refusal(own, books[3], g.n);
     if 0 < number {
-        return Counted {
-            small: x,
-            answer: Count::Refused(number),
-        };
+        return StoreInserted::Refused(number);
     }
-    let b = bring::bring_in(
+    let outs = bring::bring_in(
         node,
         start,
         end,
@@ -143,18 +139,14 @@ fn keep_span(
         pin_end,
         pin_count,
         bytes,
-        x,
+        books,
         s,
         sp,
         g,
         time,
         w,
     );
-    let small = b.small;
-    Counted {
-        small,
-        answer: Count::Done(b.outs as u64),
-    }
+    StoreInserted::Done(BringAnswer { outs: outs as u64 })
 }
 
 // A span brought into store s: the number of spans given out, or a refusal.
@@ -177,31 +169,28 @@ pub fn store_insert(
     pin_count: &[u64],
     marks: &mut [usize],
     bytes: &[u64],
+    books: &mut [u64],
     out_node: &mut [usize],
     out_start: &mut [usize],
     out_end: &mut [usize],
     out_write: &mut [u32],
     out_bytes: &mut [u64],
     out_dead: &mut [u64],
-    x: Small,
     s: usize,
     sp: Span,
     time: f64,
     w: u32,
-) -> Counted
-    requires { ⌜ Sound (stateFrom (now parent) (now depth) (now len) (now run) (now words) (now node) (now start) (now end) (now id) (now stamp) (now touched) (now write) (now «pin_node») (now «pin_start») (now «pin_end») (now «pin_count») (now marks) (now bytes) x) × OutFits (outList (now «out_node») (now «out_start») (now «out_end») (now «out_write») (now «out_bytes») (now «out_dead»)) ⌝ }
-    ensures { λ r. ⌜ outcome (stateFrom (now (parent .entry)) (now (depth .entry)) (now (len .entry)) (now (run .entry)) (now (words .entry)) (now (node .exit)) (now (start .exit)) (now (end .exit)) (now (id .exit)) (now (stamp .exit)) (now (touched .exit)) (now (write .exit)) (now («pin_node» .entry)) (now («pin_start» .entry)) (now («pin_end» .entry)) (now («pin_count» .entry)) (now (marks .exit)) (now (bytes .entry)) (r .small)) (outList (now («out_node» .exit)) (now («out_start» .exit)) (now («out_end» .exit)) (now («out_write» .exit)) (now («out_bytes» .exit)) (now («out_dead» .exit))) (countOf (r .answer)) ≡ storeInsert (stateFrom (now (parent .entry)) (now (depth .entry)) (now (len .entry)) (now (run .entry)) (now (words .entry)) (now (node .entry)) (now (start .entry)) (now (end .entry)) (now (id .entry)) (now (stamp .entry)) (now (touched .entry)) (now (write .entry)) (now («pin_node» .entry)) (now («pin_start» .entry)) (now («pin_end» .entry)) (now («pin_count» .entry)) (now (marks .entry)) (now (bytes .entry)) x) (outList (now («out_node» .entry)) (now («out_start» .entry)) (now («out_end» .entry)) (now («out_write» .entry)) (now («out_bytes» .entry)) (now («out_dead» .entry))) s sp time w ⌝ }
+) -> StoreInserted
+    requires { ⌜ Sound (stateFrom (now parent) (now depth) (now len) (now run) (now words) (now node) (now start) (now end) (now id) (now stamp) (now touched) (now write) (now «pin_node») (now «pin_start») (now «pin_end») (now «pin_count») (now marks) (now bytes) (now books)) × OutFits (outList (now «out_node») (now «out_start») (now «out_end») (now «out_write») (now «out_bytes») (now «out_dead»)) ⌝ }
+    ensures { λ r. ⌜ outcome (stateFrom (now (parent .entry)) (now (depth .entry)) (now (len .entry)) (now (run .entry)) (now (words .entry)) (now (node .exit)) (now (start .exit)) (now (end .exit)) (now (id .exit)) (now (stamp .exit)) (now (touched .exit)) (now (write .exit)) (now («pin_node» .entry)) (now («pin_start» .entry)) (now («pin_end» .entry)) (now («pin_count» .entry)) (now (marks .exit)) (now (bytes .entry)) (now (books .exit))) (outList (now («out_node» .exit)) (now («out_start» .exit)) (now («out_end» .exit)) (now («out_write» .exit)) (now («out_bytes» .exit)) (now («out_dead» .exit))) (storeInsertedOf r) ≡ storeInsert (stateFrom (now (parent .entry)) (now (depth .entry)) (now (len .entry)) (now (run .entry)) (now (words .entry)) (now (node .entry)) (now (start .entry)) (now (end .entry)) (now (id .entry)) (now (stamp .entry)) (now (touched .entry)) (now (write .entry)) (now («pin_node» .entry)) (now («pin_start» .entry)) (now («pin_end» .entry)) (now («pin_count» .entry)) (now (marks .entry)) (now (bytes .entry)) (now (books .entry))) (outList (now («out_node» .entry)) (now («out_start» .entry)) (now («out_end» .entry)) (now («out_write» .entry)) (now («out_bytes» .entry)) (now («out_dead» .entry))) s sp time w ⌝ }
 {
-    let nodes = x.books[0] as usize;
-    let stores = x.books[2] as usize;
+    let nodes = books[0] as usize;
+    let stores = books[2] as usize;
     let number = argument_refusal(len, nodes, stores, s, sp, time);
     if 0 < number {
-        return Counted {
-            small: x,
-            answer: Count::Refused(number),
-        };
+        return StoreInserted::Refused(number);
     }
-    let own = books::book_of(&x.books, s);
+    let own = books::book_of(books, s);
     if own.capacity == 0 {
         bring::give_back(
             out_node,
@@ -215,10 +204,7 @@ pub fn store_insert(
             sp,
             w,
         );
-        return Counted {
-            small: x,
-            answer: Count::Done(1),
-        };
+        return StoreInserted::Done(BringAnswer { outs: 1 });
     }
     keep_span(
         parent,
@@ -239,13 +225,13 @@ pub fn store_insert(
         pin_count,
         marks,
         bytes,
+        books,
         out_node,
         out_start,
         out_end,
         out_write,
         out_bytes,
         out_dead,
-        x,
         s,
         sp,
         time,

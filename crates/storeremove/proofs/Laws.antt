@@ -13,7 +13,8 @@ use mir.Val.{Fits}
 use mir.Syntax.{w64}
 use Rattle.model.specs.declared.Span.{Span}
 use Rattle.model.specs.declared.Book.{Book}
-use Rattle.model.specs.Sizes.{maxStamp, outPlaces, storeRecords, versions}
+use Rattle.model.specs.declared.RemoveAnswer.{RemoveAnswer}
+use Rattle.model.specs.Sizes.{maxStores, maxNumbers, maxStamp, outPlaces, storeRecords, versions}
 use Rattle.model.specs.State.{Tree, Ranges, Pins, State, at, nodesIn, usedIn, nextIdIn, stallsIn, bookIn, storesOf, nextIdOf, stallsOf, bookOf, recordsOf, heldOf, versionOf}
 use Rattle.model.specs.Sound.{Sound, EndsWithin}
 use Rattle.model.specs.Store.{Store, ranges, storeOf, lay, layBook, layNext, ranged, total, withRanges, withNext}
@@ -56,8 +57,11 @@ module _ (st : State) (s : ℕ) (h : Sound st) (less : s < storesOf st) where
   own : StoreSound (st .tree) (nextIdOf st) (storeOf st s)
   own = store-sound st s h less
 
-  pub in-stores : s < 8
+  in-stores : s < maxStores
   in-stores = omega (arith, h .counts .stores)
+
+  pub asked : (s < maxStores) × (maxNumbers ≤ length (st .books))
+  asked = (in-stores, h .lent .books)
 
   few : recordsOf st s ≤ 128
   few = h .counts .each s (omega arith) less .records
@@ -257,20 +261,14 @@ past-some (suc k) v r n e = e ∙ ap (λ (y : ℕ). y % versions) (add-one v)
 -- the numbers of a store of which a removal leaves y, by what it answers
 book-left : {x y : Store} {n k v : ℕ} → Steady x y → y .book .stamp ≡ x .book .stamp → n ≡ y .book .records → k ≡ y .book .held → v ≡ y .book .version
     → ranged (x .book) n k (x .book .stamp) v ≡ y .book
-book-left f stamp records held version =
-    λ j.
-    record {
-      capacity = sym (f .capacity) j;
-      policy = sym (f .policy) j;
-      records = records j;
-      held = held j;
-      stamp = sym stamp j;
-      version = version j;
-      entries = sym (f .entries) j;
-      pinned = sym (f .pinned) j;
-    }
+book-left {x} f stamp records held version =
+    (λ j. ranged (x .book) (records j) (held j) (sym stamp j) (version j)) ∙ sym (f .book)
 
 -- ---- the call
+
+-- the answer of n listed writes
+abbrev answer : ℕ → RemoveAnswer
+answer n = record { writes = n }
 
 module _ {L A : Type 0} (st : State) (l : L) (o : Outcome L A) where
   unless-none : (n : ℕ) → n ≡ 0 → unless n st l o ≡ o
@@ -360,11 +358,11 @@ module _ (st : State) (l : List ℕ) (s : ℕ) (sp : Span) where
               (u .records ∙ sym (left .records)) held-left (e ∙ ap (λ (k : Book). versionPast (r .removed) (k .version)) is ∙ version-left)
 
           call-laid : (v : ℕ) → v ≡ versionPast (r .removed) (b .version)
-              → outcome (stateOf (st .tree) c (st .pins) ms (st .bytes) (layNext (nextIdOf st + r .need) (stallsOf st) (layBook s (ranged b (r .n) (b .held - r .removed) (b .stamp) v) (st .books)))) ls (done (r .writes)) ≡ storeRemove st l s sp
+              → outcome (stateOf (st .tree) c (st .pins) ms (st .bytes) (layNext (nextIdOf st + r .need) (stallsOf st) (layBook s (ranged b (r .n) (b .held - r .removed) (b .stamp) v) (st .books)))) ls (done (answer (r .writes))) ≡ storeRemove st l s sp
           unfolding storeRemove withNext withRanges
           call-laid v e =
               let new = numbers-left v e in
-              (λ j. outcome (stateOf (st .tree) (u .cols j) (st .pins) (u .marks j) (st .bytes) (layNext (nextIdOf st + u .need j) (stallsOf st) (layBook s (new j) (st .books)))) (u .list j) (done (u .writes j)))
+              (λ j. outcome (stateOf (st .tree) (u .cols j) (st .pins) (u .marks j) (st .bytes) (layNext (nextIdOf st + u .need j) (stallsOf st) (layBook s (new j) (st .books)))) (u .list j) (done (answer (u .writes j))))
               ∙ sym (unless-none st l _ (firstOf (storeRemoveRefusals st l s sp)) none)
 
 -- The same of the columns: rs, ps, ms and table are the pools at entry, ns the small numbers, T the tree with so many nodes and hash words
@@ -378,9 +376,9 @@ module _ (T : ℕ → ℕ → Tree) (rs : Ranges) (ps : Pins) (ms table ns : Lis
         → (v : ℕ) → v ≡ versionPast (r .removed) (b .version)
         → (mid-way new : List ℕ) → mid-way ≡ layBook s (ranged b (r .n) (b .held - r .removed) (b .stamp) v) ns
         → new ≡ layNext (nextIdIn ns + r .need) (stallsIn ns) mid-way
-        → outcome (stateOf (T (nodesIn new) (usedIn new)) c ps ks table new) ls (done (r .writes)) ≡ storeRemove here l s sp
+        → outcome (stateOf (T (nodesIn new) (usedIn new)) c ps ks table new) ls (done (answer (r .writes))) ≡ storeRemove here l s sp
     unfolding layBook layNext
     call-done {c} {ks} {ls} {r} u v e mid-way new d f =
         let g = f ∙ ap (layNext (nextIdIn ns + r .need) (stallsIn ns)) d in
-        (λ j. outcome (stateOf (T (nodesIn (g j)) (usedIn (g j))) c ps ks table (g j)) ls (done (r .writes)))
+        (λ j. outcome (stateOf (T (nodesIn (g j)) (usedIn (g j))) c ps ks table (g j)) ls (done (answer (r .writes))))
         ∙ call-laid here l s sp h long n number zero b is u v e

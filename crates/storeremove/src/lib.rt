@@ -1,6 +1,5 @@
-use answers::Count;
-use answers::Counted;
-use lent::Small;
+use answers::StoreRemoved;
+use model::RemoveAnswer;
 use model::Span;
 use remove::Removing;
 ghost use mathlib.Core.Path.{_≡_};
@@ -17,7 +16,7 @@ ghost use Rattle.model.specs.Calls.{storeRemove};
 ghost use Rattle.lent.specs.Lent.{rangesOf};
 ghost use Rattle.parts.specs.Parts.{mid};
 ghost use Rattle.remove.specs.Remove.{versionPast};
-ghost use Rattle.answers.specs.Answers.{stateFrom, outcome, countOf};
+ghost use Rattle.answers.specs.Answers.{stateFrom, outcome, storeRemovedOf};
 ghost use Rattle.storeremove.specs.Pool.{Seen, Placed, NeedsAt, FitsAt, PoolReady, FreedAt};
 
 // How many records the removal of a span from store s needs.
@@ -128,32 +127,26 @@ pub fn store_remove(
     pin_count: &[u64],
     marks: &mut [usize],
     bytes: &[u64],
+    books: &mut [u64],
     list: &mut [u32],
-    x: Small,
     s: usize,
     sp: Span,
-) -> Counted
-    requires { ⌜ Sound (stateFrom (now parent) (now depth) (now len) (now run) (now words) (now node) (now start) (now end) (now id) (now stamp) (now touched) (now write) (now «pin_node») (now «pin_start») (now «pin_end») (now «pin_count») (now marks) (now bytes) x) × (outPlaces ≤ length (now list)) ⌝ }
-    ensures { λ r. ⌜ outcome (stateFrom (now (parent .entry)) (now (depth .entry)) (now (len .entry)) (now (run .entry)) (now (words .entry)) (now (node .exit)) (now (start .exit)) (now (end .exit)) (now (id .exit)) (now (stamp .exit)) (now (touched .exit)) (now (write .exit)) (now («pin_node» .entry)) (now («pin_start» .entry)) (now («pin_end» .entry)) (now («pin_count» .entry)) (now (marks .exit)) (now (bytes .entry)) (r .small)) (now (list .exit)) (countOf (r .answer)) ≡ storeRemove (stateFrom (now (parent .entry)) (now (depth .entry)) (now (len .entry)) (now (run .entry)) (now (words .entry)) (now (node .entry)) (now (start .entry)) (now (end .entry)) (now (id .entry)) (now (stamp .entry)) (now (touched .entry)) (now (write .entry)) (now («pin_node» .entry)) (now («pin_start» .entry)) (now («pin_end» .entry)) (now («pin_count» .entry)) (now (marks .entry)) (now (bytes .entry)) x) (now (list .entry)) s sp ⌝ }
+) -> StoreRemoved
+    requires { ⌜ Sound (stateFrom (now parent) (now depth) (now len) (now run) (now words) (now node) (now start) (now end) (now id) (now stamp) (now touched) (now write) (now «pin_node») (now «pin_start») (now «pin_end») (now «pin_count») (now marks) (now bytes) (now books)) × (outPlaces ≤ length (now list)) ⌝ }
+    ensures { λ r. ⌜ outcome (stateFrom (now (parent .entry)) (now (depth .entry)) (now (len .entry)) (now (run .entry)) (now (words .entry)) (now (node .exit)) (now (start .exit)) (now (end .exit)) (now (id .exit)) (now (stamp .exit)) (now (touched .exit)) (now (write .exit)) (now («pin_node» .entry)) (now («pin_start» .entry)) (now («pin_end» .entry)) (now («pin_count» .entry)) (now (marks .exit)) (now (bytes .entry)) (now (books .exit))) (now (list .exit)) (storeRemovedOf r) ≡ storeRemove (stateFrom (now (parent .entry)) (now (depth .entry)) (now (len .entry)) (now (run .entry)) (now (words .entry)) (now (node .entry)) (now (start .entry)) (now (end .entry)) (now (id .entry)) (now (stamp .entry)) (now (touched .entry)) (now (write .entry)) (now («pin_node» .entry)) (now («pin_start» .entry)) (now («pin_end» .entry)) (now («pin_count» .entry)) (now (marks .entry)) (now (bytes .entry)) (now (books .entry))) (now (list .entry)) s sp ⌝ }
 {
-    let stores = x.books[2] as usize;
+    let stores = books[2] as usize;
     if stores <= s {
-        return Counted {
-            small: x,
-            answer: Count::Refused(2),
-        };
+        return StoreRemoved::Refused(2);
     }
-    let nodes = x.books[0] as usize;
-    let next = x.books[3];
-    let stalls = x.books[4];
-    let mut b = books::book_of(&x.books, s);
+    let nodes = books[0] as usize;
+    let next = books[3];
+    let stalls = books[4];
+    let mut b = books::book_of(books, s);
     let n = b.records;
     let number = refusal(len, node, start, end, nodes, next, s, n, sp);
     if number != 0 {
-        return Counted {
-            small: x,
-            answer: Count::Refused(number),
-        };
+        return StoreRemoved::Refused(number);
     }
     let r = remove_pools(
         node,
@@ -173,11 +166,9 @@ pub fn store_remove(
     b.records = r.n;
     b.held = b.held - r.removed;
     b.version = version_past(r.removed, b.version);
-    let mut y = x;
-    books::put_book(&mut y.books, s, b);
-    books::put_next(&mut y.books, next + r.need as u64, stalls);
-    Counted {
-        small: y,
-        answer: Count::Done(r.writes as u64),
-    }
+    books::put_book(books, s, b);
+    books::put_next(books, next + r.need as u64, stalls);
+    StoreRemoved::Done(RemoveAnswer {
+        writes: r.writes as u64,
+    })
 }

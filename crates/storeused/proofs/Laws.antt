@@ -5,9 +5,8 @@ use mathlib.Core.Path.{_≡_, refl, sym, ap, subst, _∙_}
 use mathlib.Core.Bool.{Bool, true, false, not, _||_}
 use mathlib.Core.List.{List, [], _∷_, _++_, map}
 use native.Mathlib.Numerals.{add-one}
-use native.Mathlib.Nat.{zero-add, add-zero}
 use native.Mathlib.Omega.{arith}
-use lib.ListN.{length, take, drop, getD, set, replicate, length-take, length-replicate, length-map, take-append-drop}
+use lib.ListN.{length, take, drop, getD, replicate, length-take, length-replicate, length-map, take-append-drop}
 use lib.Seq.{drop-drop, drop-cons, drop-length, take-at, getD-take}
 use lib.Dec.{ltb, leb, eqb}
 use lib.Ieee.{Float}
@@ -15,39 +14,39 @@ use mir.Val.{Fits}
 use mir.Syntax.{w64}
 use borrow.Author.Tests.{ltb-false, leb-false}
 use Rattle.model.specs.declared.Span.{Span}
+use Rattle.model.specs.declared.TouchAnswer.{TouchAnswer}
 use Rattle.model.specs.Sizes.{maxStamp, maxBytes, maxSpans}
-use Rattle.model.specs.Words.{any, Some}
-use Rattle.model.specs.State.{Tree, Ranges, State, Range, nodesIn, storesIn, storesOf, nextIdOf, recordsOf, stampOf}
+use Rattle.model.specs.Words.{any}
+use Rattle.model.specs.State.{Tree, Ranges, State, Range, storesOf, nextIdOf, recordsOf, stampOf}
 use Rattle.model.specs.Sound.{Sound, RangesLent, Finite}
 use Rattle.model.specs.SoundTest
-use Rattle.model.specs.Store.{Store, storeOf, lay, layRanges, withRanges, withNext, noTime}
+use Rattle.model.specs.Store.{storeOf, lay, layRanges, noTime}
 use Rattle.model.specs.Touch.{Touched}
-use Rattle.model.specs.Refusals.{Condition, firstOf, SpanIn, spanIn, noSpan, touchedBy, touchSpan, turnRefusals, storeUsedRefusals}
+use Rattle.model.specs.Refusals.{firstOf, SpanIn, spanIn, noSpan, touchedBy, touchSpan, turnRefusals}
 use Rattle.model.specs.Calls.{Outcome, refused, done, unless, touchSpans, bytesTouched, storeUsed}
 use Rattle.sure.proofs.Says.{says-true, says-false, true-says}
 use Rattle.sure.proofs.Sound.{sound-says, finite-sure}
 use Rattle.sure.proofs.Refusals.{storeUsed-exact}
-use Rattle.kept.specs.StoreSound.{StoreSound}
 use Rattle.kepttouch.proofs.Touch.{touch-length}
 use Rattle.keptcalls.proofs.Accepted.{span-in}
 use Rattle.keptcalls.proofs.Stores.{store-sound, touchSpan-sound}
 use Rattle.laid.proofs.Store.{records-length}
-use Rattle.lent.specs.declared.Small.{Small}
-use Rattle.lent.specs.Lent.{treeOf, rangesOf}
-use Rattle.parts.specs.Parts.{mid, back, midRanges, backRanges}
+use Rattle.lent.specs.Lent.{treeOf}
+use Rattle.parts.specs.Parts.{mid, back, backRanges}
 use Rattle.parts.proofs.Parts.{mid-long}
 use Rattle.recs.proofs.Laws.{ranges-eq}
 use Rattle.tree.proofs.Sound.{sound-priced}
-use Rattle.answers.specs.declared.Counted.{Counted}
-use Rattle.answers.specs.declared.Count.the-variants.{Refused, Done}
-use Rattle.answers.specs.Answers.{outcome, countOf}
+use Rattle.answers.specs.declared.StoreUsed.{StoreUsed}
+use Rattle.answers.specs.Answers.{outcome, storeUsedOf}
 use Rattle.undo.specs.declared.Old.{Old}
 use Rattle.undo.specs.Old.{oldRanges, oldFrom}
 use Rattle.usedspan.specs.declared.Turn.{Turn}
-use Rattle.usedspan.specs.Turn.{Others, whole, pick, firstNumber, Begun, four, refusing, looked, turnNumber, keptOld, undone, TurnReady, Ready, Taken, Gone, Turned, Finished}
-use Rattle.storeused.specs.Going.{number, On, Off, Going, AtFirst, Turns}
+use Rattle.usedspan.specs.declared.Run.{Run}
+use Rattle.usedspan.specs.Turn.{Others, whole, booksWith, Stands, pick, firstNumber, Begun, four, refusing, looked, turnNumber, RunAt, keptOld, TurnAt, Ready, Gone, Turned, Writes, read, Finished}
+use Rattle.storeused.specs.Going.{number, On, Off, Carries, Going, AtFirst, Turns}
 use Rattle.storeused.specs.Looking.{bad, lookedAt, refusedBy, Looking, Looks}
 use Rattle.usedspan.proofs.Laws.{number-fits, touch-marks-long, touch-bytes-most}
+use Rattle.storeused.proofs.Books.{books-same, books-over, stands-on}
 
 -- ---- a part put back over what was laid there
 
@@ -123,7 +122,7 @@ four-twice n = go (eqb n 0 || eqb n 5) refl
 
 look-turn : (g a : Bool) (y : Turn) → looked g (lookedAt a y) ≡ lookedAt (not g || a) y
 look-turn true a y = refl
-look-turn false true y = ap (λ (n : ℕ). refusing n y) (sym (four-twice (y .refused)))
+look-turn false true y = ap (λ (n : ℕ). refusing n y) (sym (four-twice (y .run .number)))
 look-turn false false y = refl
 
 pub look-start : (t : Tree) (sps : List Span) (y₀ : Turn) → Looking t sps y₀ 0 y₀
@@ -142,12 +141,12 @@ look-next t sps y₀ i y r o less e =
     one-more : (not (spanIn t (getD sps i noSpan)) || any i (bad t sps)) ≡ any (i + 1) (bad t sps)
     one-more = ap (λ (n : ℕ). any n (bad t sps)) (sym (add-one i))
 
-looked-small : (b : Bool) (y : Turn) → lookedAt b y .small ≡ y .small
-looked-small true y = refl
-looked-small false y = refl
+looked-nodes : (b : Bool) (y : Turn) → lookedAt b y .nodes ≡ y .nodes
+looked-nodes true y = refl
+looked-nodes false y = refl
 
-pub look-small : {t : Tree} {sps : List Span} {y₀ : Turn} {i : ℕ} {y : Turn} → Looking t sps y₀ i y → y .small ≡ y₀ .small
-look-small {t} {sps} {y₀} {i} {y} o = ap (λ (z : Turn). z .small) (o .is) ∙ looked-small (any i (bad t sps)) y₀
+look-nodes : {t : Tree} {sps : List Span} {y₀ : Turn} {i : ℕ} {y : Turn} → Looking t sps y₀ i y → y .nodes ≡ y₀ .nodes
+look-nodes {t} {sps} {y₀} {i} {y} o = ap (λ (z : Turn). z .nodes) (o .is) ∙ looked-nodes (any i (bad t sps)) y₀
 
 -- ---- the pass of turns
 
@@ -234,142 +233,173 @@ module _ (st : State) (s : ℕ) (sp : Span) (time : Float) (counted : Bool) (h :
       ap (back (256 * s) 256 (old .marks)) (touched-marks st s sp time counted)
       ∙ back-over 0 (256 * s) 256 256 (touchedBy st s sp time counted .store .marks) (old .marks) (st .marks) (omega (arith, low, h .lent .marks)) (omega (arith, long, m)) (omega arith)
 
-module _ (st₀ : State) (s : ℕ) (sps : List Span) (time : Float) (counted : Bool) (i : ℕ) where
+-- one more turn, where none was refused before: r has its numbers
+module _ (o : Others) (depth bytes : List ℕ) (c₀ : Ranges) (ms₀ x : List ℕ) (s : ℕ) (sps : List Span) (time : Float) (counted : Bool) (i : ℕ) (less : i < length sps)
+    (c : Ranges) (ms : List ℕ) (refreshes : Bool) (old : Old) (z : Run)
+    (v : On (whole o depth bytes c₀ ms₀ x) s sps time counted i (whole o depth bytes c ms (booksWith s z x)) refreshes old z) where
+  abbrev st₀ : State
+  st₀ = whole o depth bytes c₀ ms₀ x
+
+  abbrev st : State
+  st = whole o depth bytes c ms (booksWith s z x)
+
+  abbrev sp : Span
+  sp = getD sps i noSpan
+
+  abbrev v₁ : Touched
+  v₁ = touchedBy st s sp time counted
+
+  in-stores : s < 8
+  in-stores = omega (arith, v .less, v .sound .counts .stores)
+
+  in-here : SpanIn (st .tree) sp
+  in-here = subst (λ (t : Tree). SpanIn t sp) (sym (v .tree)) (v .inside i less)
+
   -- what a turn asks for
-  pub going-ready : (o : Others) (depth bytes : List ℕ) (c : Ranges) (ms : List ℕ) (y : Turn) → i < length sps
-      → Going st₀ s sps time counted i (whole o depth bytes c ms (y .small)) y → Ready (getD sps i noSpan) depth bytes c ms y
-  going-ready o depth bytes c ms y less g =
-      record {
-        others = o;
-        ready = λ e.
-            let v = g .on e in
-            record {
-              sound = v .sound;
-              store = rw (v .store) (v .less);
-              span = subst (λ (t : Tree). SpanIn t (getD sps i noSpan)) (sym (v .tree)) (v .inside i less);
-              turns = omega (arith, v .turns, v .few);
-              sum = rw (v .turns) (v .sum);
-            };
-      }
+  pub on-at : RunAt o (booksWith s z x) sp depth bytes c ms s refreshes z
+  on-at = record { stands = v .stands; sound = v .sound; store = v .less; span = in-here; sum = omega (arith, v .sum, v .few) }
 
-  module _ (less : i < length sps) (st st′ : State) (y r : Turn) where
-    abbrev sp : Span
-    sp = getD sps i noSpan
+  module _ (r : Run) (num : r .number ≡ turnNumber (recordsOf st s) (v₁ .need) (stampOf st s) (v₁ .stamps) (nextIdOf st)) where
+    firsts : next (r .number) (firstOf (turnRefusals (touchSpan st s sp time counted) s (drop (i + 1) sps) time counted)) ≡ number st₀ s sps time counted
+    firsts =
+        ap (λ (k : ℕ). next k (firstOf (turnRefusals (touchSpan st s sp time counted) s (drop (i + 1) sps) time counted))) num
+        ∙ sym (turn-first st s sp (drop (i + 1) sps) time counted)
+        ∙ ap (λ (l : List Span). firstOf (turnRefusals st s l time counted)) (sym (split-list sps i less))
+        ∙ v .first
 
-    -- after a turn that was not the first to be refused
-    module _ (v : On st₀ s sps time counted i st y) (g : Gone sp st y st′ r) where
-      num : r .refused
-          ≡ turnNumber (recordsOf st s) (touchedBy st s sp time counted .need) (stampOf st s) (touchedBy st s sp time counted .stamps) (nextIdOf st)
-      num = rw (v .store, v .when, v .counts) at (g .number)
+    -- the first turn that is refused gives the number
+    pub first-stop : (r .number ≡ 0 → ⊥) → r .number ≡ number st₀ s sps time counted
+    first-stop n = next-some (r .number) _ n ∙ firsts
 
-      firsts : next (r .refused) (firstOf (turnRefusals (touchSpan st s sp time counted) s (drop (i + 1) sps) time counted)) ≡ number st₀ s sps time counted
-      firsts =
-          ap (λ (k : ℕ). next k (firstOf (turnRefusals (touchSpan st s sp time counted) s (drop (i + 1) sps) time counted))) num
-          ∙ sym (turn-first st s sp (drop (i + 1) sps) time counted)
-          ∙ ap (λ (l : List Span). firstOf (turnRefusals st s l time counted)) (sym (split-list sps i less))
-          ∙ v .first
+    module _ (none : r .number ≡ 0) (c′ : Ranges) (ms′ : List ℕ)
+        (taken : whole o depth bytes c′ ms′ (booksWith s r (booksWith s z x)) ≡ touchSpan st s sp time counted) (sums : r .sum ≡ z .sum + v₁ .bytes) where
+      abbrev st′ : State
+      st′ = whole o depth bytes c′ ms′ (booksWith s r x)
 
-      old-here : keptOld (y .turns) (y .old) (y .s) (st .ranges) (st .marks) ≡ keptOld i (y .old) s (st .ranges) (st .marks)
-      old-here = (λ j. keptOld (v .turns j) (y .old) (v .store j) (st .ranges) (st .marks))
+      state-is : st′ ≡ touchSpan st s sp time counted
+      state-is = ap (λ (l : List ℕ). whole o depth bytes c′ ms′ l) (sym (books-over s x in-stores (v .long) z r)) ∙ taken
 
-      pub off-next : (r .refused ≡ 0 → ⊥) → Off st₀ s sps time counted st′ r
-      off-next n =
-          let e : 1 ≤ r .refused = omega arith in
-          let k = g .stopped e ∙ (λ j. undone (v .store j) (old-here j) st) in
+      fits : (recordsOf st s + v₁ .need ≤ 128) × (stampOf st s + v₁ .stamps ≤ maxStamp) × (nextIdOf st + v₁ .need ≤ maxStamp)
+      fits = number-fits (recordsOf st s) (v₁ .need) (stampOf st s) (v₁ .stamps) (nextIdOf st) (sym none ∙ num)
+
+      bytes-most : v₁ .bytes ≤ 128 * maxBytes
+      bytes-most =
+          touch-bytes-most (st .tree) (st .bytes) (storeOf st s) (nextIdOf st) sp time counted
+          (sound-priced st (v .sound) sp (in-here .node) (omega (arith, in-here .filled)) (in-here .ends)) (store-sound st s (v .sound) (v .less) .few)
+
+      pub on-next : (old′ : Old) → keptOld (i + 1) old′ s c′ ms′ ≡ keptOld i old s c ms → On st₀ s sps time counted (i + 1) st′ refreshes old′ r
+      on-next old′ old-is =
+          let kept = keptOld i old s c ms in
+          let b = bytes-most in
+          let q = ap (λ (l : List Span). bytesTouched st s l time counted) (split-list sps i less) ∙ turn-bytes st s sp (drop (i + 1) sps) time counted in
+          let d = ap (λ (a : State). bytesTouched a s (drop (i + 1) sps) time counted) state-is in
           record {
-            first = next-some (r .refused) _ n ∙ firsts;
-            ranges = ap (λ (x : State). x .ranges) k ∙ v .ranges;
-            marks = ap (λ (x : State). x .marks) k ∙ v .marks;
+            stands = stands-on s x in-stores (v .long) refreshes z r (v .stands);
+            long = v .long;
+            sound =
+                subst Sound (sym state-is)
+                (touchSpan-sound st s (v .sound) (v .less) sp time counted in-here (v .finite) (fits .0) (fits .1) (fits .2));
+            less = omega (arith, v .less, ap (λ (a : State). storesOf a) state-is ∙ touched-stores st s sp time counted);
+            tree = ap (λ (a : State). a .tree) state-is ∙ touched-tree st s sp time counted ∙ v .tree;
+            inside = v .inside;
+            finite = v .finite;
+            few = v .few;
+            sum = omega (arith, v .sum, sums, b);
+            first =
+                ap (λ (a : State). firstOf (turnRefusals a s (drop (i + 1) sps) time counted)) state-is
+                ∙ next-none (r .number) (firstOf (turnRefusals (touchSpan st s sp time counted) s (drop (i + 1) sps) time counted)) none ∙ firsts;
+            states =
+                ap (λ (a : State). touchSpans a s (drop (i + 1) sps) time counted) state-is
+                ∙ sym (turn-states st s sp (drop (i + 1) sps) time counted)
+                ∙ ap (λ (l : List Span). touchSpans st s l time counted) (sym (split-list sps i less)) ∙ v .states;
+            bytes = omega (arith, v .bytes, sums, q, d);
+            ranges =
+                ap (λ (a : Old). backRanges (128 * s) 128 (oldRanges a) c′) old-is
+                ∙ ap (λ (a : State). backRanges (128 * s) 128 (oldRanges kept) (a .ranges)) state-is
+                ∙ over-ranges st s sp time counted (v .sound) (v .less) in-here (v .finite) (fits .0) kept ∙ v .ranges;
+            marks =
+                ap (λ (a : Old). back (256 * s) 256 (a .marks) ms′) old-is
+                ∙ ap (λ (a : State). back (256 * s) 256 (kept .marks) (a .marks)) state-is
+                ∙ over-marks st s sp time counted (v .sound) (v .less) in-here (v .finite) (fits .0) kept ∙ v .marks;
           }
 
-      module _ (z : r .refused ≡ 0) where
-        t : Taken sp st y st′ r
-        t = g .taken z
+-- the same of the turns of a list
+module _ (o : Others) (depth bytes : List ℕ) (c₀ : Ranges) (ms₀ x : List ℕ) (s : ℕ) (sps : List Span) (time : Float) (counted : Bool) (i : ℕ) (less : i < length sps)
+    (c : Ranges) (ms : List ℕ) (y : Turn) (g : Going o depth bytes c₀ ms₀ x s sps time counted i c ms y) where
+  abbrev books₁ : List ℕ
+  books₁ = booksWith s (y .run) x
 
-        state-is : st′ ≡ touchSpan st s sp time counted
-        state-is = t .state ∙ (λ j. touchSpan st (v .store j) sp (v .when j) (v .counts j))
+  pub going-at : y .run .number ≡ 0 → TurnAt o books₁ (getD sps i noSpan) depth bytes c ms y
+  going-at e =
+      let k = g .carries e in
+      let v = g .on e in
+      record {
+        run =
+            subst (λ (n : ℕ). RunAt o books₁ (getD sps i noSpan) depth bytes c ms n (y .refreshes) (y .run)) (sym (k .store))
+            (on-at o depth bytes c₀ ms₀ x s sps time counted i less c ms (y .refreshes) (y .old) (y .run) v);
+        turns = omega (arith, k .turns, v .few);
+      }
 
-        fits : (recordsOf st s + touchedBy st s sp time counted .need ≤ 128) × (stampOf st s + touchedBy st s sp time counted .stamps ≤ maxStamp) × (nextIdOf st + touchedBy st s sp time counted .need ≤ maxStamp)
-        fits =
-            number-fits (recordsOf st s) (touchedBy st s sp time counted .need) (stampOf st s) (touchedBy st s sp time counted .stamps) (nextIdOf st)
-            (sym z ∙ num)
+  module _ (c′ : Ranges) (ms′ : List ℕ) (r : Turn) where
+    module _ (e : y .run .number ≡ 0)
+        (u : Gone (getD sps i noSpan) (whole o depth bytes c ms books₁) y (whole o depth bytes c′ ms′ (booksWith (y .s) (r .run) books₁)) r) where
+      abbrev here : State
+      here = whole o depth bytes c ms books₁
 
-        in-here : SpanIn (st .tree) sp
-        in-here = subst (λ (q : Tree). SpanIn q sp) (sym (v .tree)) (v .inside i less)
+      k : Carries s time counted i y
+      k = g .carries e
 
-        sum-is : r .sum ≡ y .sum + touchedBy st s sp time counted .bytes
-        sum-is = t .sum ∙ (λ j. y .sum + touchedBy st (v .store j) sp (v .when j) (v .counts j) .bytes)
+      v : On (whole o depth bytes c₀ ms₀ x) s sps time counted i here (y .refreshes) (y .old) (y .run)
+      v = g .on e
 
-        bytes-most : touchedBy st s sp time counted .bytes ≤ 128 * maxBytes
-        bytes-most =
-            touch-bytes-most (st .tree) (st .bytes) (storeOf st s) (nextIdOf st) sp time counted
-            (sound-priced st (v .sound) sp (in-here .node) (omega (arith, in-here .filled)) (in-here .ends)) (store-sound st s (v .sound) (v .less) .few)
+      num : r .run .number
+          ≡ turnNumber (recordsOf here s) (touchedBy here s (getD sps i noSpan) time counted .need) (stampOf here s) (touchedBy here s (getD sps i noSpan) time counted .stamps) (nextIdOf here)
+      num = rw (k .store, k .when, k .counts) at (u .number)
 
-        old-is : keptOld (i + 1) (r .old) s (st′ .ranges) (st′ .marks) ≡ keptOld i (y .old) s (st .ranges) (st .marks)
-        old-is = ap (λ (k : ℕ). keptOld k (r .old) s (st′ .ranges) (st′ .marks)) (add-one i) ∙ t .old ∙ old-here
+      old-is : r .old ≡ keptOld i (y .old) s c ms
+      old-is = u .old ∙ (λ j. keptOld (k .turns j) (y .old) (k .store j) c ms)
 
-        pub on-next : On st₀ s sps time counted (i + 1) st′ r
-        on-next =
-            let old = keptOld i (y .old) s (st .ranges) (st .marks) in
-            let b = bytes-most in
-            let e = sum-is in
-            let q = ap (λ (l : List Span). bytesTouched st s l time counted) (split-list sps i less) ∙ turn-bytes st s sp (drop (i + 1) sps) time counted in
-            let d = ap (λ (x : State). bytesTouched x s (drop (i + 1) sps) time counted) state-is in
-            record {
-              store = g .store ∙ v .store;
-              when = g .when ∙ v .when;
-              counts = g .counts ∙ v .counts;
-              sound =
-                  subst Sound (sym state-is)
-                  (touchSpan-sound st s (v .sound) (v .less) sp time counted in-here (v .finite) (fits .0) (fits .1) (fits .2));
-              less = omega (arith, v .less, ap (λ (x : State). storesOf x) state-is ∙ touched-stores st s sp time counted);
-              tree = ap (λ (x : State). x .tree) state-is ∙ touched-tree st s sp time counted ∙ v .tree;
-              inside = v .inside;
-              finite = v .finite;
-              few = v .few;
-              turns = t .turns ∙ ap (λ (k : ℕ). k + 1) (v .turns);
-              sum = omega (arith, v .sum, e, b);
-              first =
-                  ap (λ (x : State). firstOf (turnRefusals x s (drop (i + 1) sps) time counted)) state-is
-                  ∙ next-none (r .refused) (firstOf (turnRefusals (touchSpan st s sp time counted) s (drop (i + 1) sps) time counted)) z ∙ firsts;
-              states =
-                  ap (λ (x : State). touchSpans x s (drop (i + 1) sps) time counted) state-is
-                  ∙ sym (turn-states st s sp (drop (i + 1) sps) time counted)
-                  ∙ ap (λ (l : List Span). touchSpans st s l time counted) (sym (split-list sps i less)) ∙ v .states;
-              bytes = omega (arith, v .bytes, e, q, d);
-              ranges =
-                  ap (λ (x : Old). backRanges (128 * s) 128 (oldRanges x) (st′ .ranges)) old-is
-                  ∙ ap (λ (x : State). backRanges (128 * s) 128 (oldRanges old) (x .ranges)) state-is
-                  ∙ over-ranges st s sp time counted (v .sound) (v .less) in-here (v .finite) (fits .0) old ∙ v .ranges;
-              marks =
-                  ap (λ (x : Old). back (256 * s) 256 (x .marks) (st′ .marks)) old-is
-                  ∙ ap (λ (x : State). back (256 * s) 256 (old .marks) (x .marks)) state-is
-                  ∙ over-marks st s sp time counted (v .sound) (v .less) in-here (v .finite) (fits .0) old ∙ v .marks;
-            }
+      turn-off : (r .run .number ≡ 0 → ⊥) → Off (whole o depth bytes c₀ ms₀ x) s sps time counted c′ ms′ (r .run .number)
+      turn-off n =
+          let a : 1 ≤ r .run .number = omega arith in
+          record {
+            first = first-stop o depth bytes c₀ ms₀ x s sps time counted i less c ms (y .refreshes) (y .old) (y .run) v (r .run) num n;
+            ranges = u .stopped a .0 ∙ (λ j. backRanges (128 * k .store j) 128 (oldRanges (old-is j)) c) ∙ v .ranges;
+            marks = u .stopped a .1 ∙ (λ j. back (256 * k .store j) 256 (old-is j .marks) ms) ∙ v .marks;
+          }
 
-    pub going-next : Going st₀ s sps time counted i st y → Turned sp st y st′ r → Going st₀ s sps time counted (i + 1) st′ r
-    going-next g u = go (y .refused) refl
+      turn-on : r .run .number ≡ 0 → On (whole o depth bytes c₀ ms₀ x) s sps time counted (i + 1) (whole o depth bytes c′ ms′ (booksWith s (r .run) x)) (r .refreshes) (r .old) (r .run)
+      turn-on n =
+          subst (λ (b : Bool). On (whole o depth bytes c₀ ms₀ x) s sps time counted (i + 1) (whole o depth bytes c′ ms′ (booksWith s (r .run) x)) b (r .old) (r .run)) (sym (u .on))
+          (on-next o depth bytes c₀ ms₀ x s sps time counted i less c ms (y .refreshes) (y .old) (y .run) v (r .run) num n c′ ms′
+          ((λ j. whole o depth bytes c′ ms′ (booksWith (sym (k .store) j) (r .run) books₁)) ∙ u .taken n ∙ (λ j. touchSpan here (k .store j) (getD sps i noSpan) (k .when j) (k .counts j)))
+          (u .sum n ∙ (λ j. y .run .sum + touchedBy here (k .store j) (getD sps i noSpan) (k .when j) (k .counts j) .bytes))
+          (r .old) (ap (λ (n : ℕ). keptOld n (r .old) s c′ ms′) (add-one i) ∙ old-is))
+
+      turn-carries : Carries s time counted (i + 1) r
+      turn-carries =
+          record { store = u .store ∙ k .store; when = u .when ∙ k .when; counts = u .counts ∙ k .counts; turns = u .turns ∙ ap (λ (n : ℕ). n + 1) (k .turns) }
+
+    pub going-next : Turned (getD sps i noSpan) (whole o depth bytes c ms books₁) y (whole o depth bytes c′ ms′ (booksWith (y .s) (r .run) books₁)) r
+        → Going o depth bytes c₀ ms₀ x s sps time counted (i + 1) c′ ms′ r
+    going-next u = go (y .run .number) refl
       where
-        go : (n : ℕ) → y .refused ≡ n → Going st₀ s sps time counted (i + 1) st′ r
-        go zero e = record { high = omega arith; on = λ z. on-next (g .on e) (u .gone e) z; off = λ n. off-next (g .on e) (u .gone e) n }
+        go : (n : ℕ) → y .run .number ≡ n → Going o depth bytes c₀ ms₀ x s sps time counted (i + 1) c′ ms′ r
+        go zero e = record { high = omega arith; carries = λ a. turn-carries e (u .gone e); on = turn-on e (u .gone e); off = turn-off e (u .gone e) }
         go (suc n) e =
-            let k = u .idle (omega arith) in
-            let m = ap (λ (x : Turn). x .refused) (k .1) in
-            let f = g .off (λ (a : y .refused ≡ 0). omega arith) in
+            let q = u .idle (omega arith) in
+            let m = ap (λ (a : Turn). a .run .number) (q .2) in
+            let f = g .off (λ (a : y .run .number ≡ 0). omega arith) in
             record {
               high = omega arith;
-              on = λ z. absurd (omega (arith, m));
-              off = λ z.
-                  record {
-                    first = m ∙ f .first;
-                    ranges = ap (λ (x : State). x .ranges) (k .0) ∙ f .ranges;
-                    marks = ap (λ (x : State). x .marks) (k .0) ∙ f .marks;
-                  };
+              carries = λ a. absurd (omega (arith, m));
+              on = λ a. absurd (omega (arith, m));
+              off = λ a. record { first = m ∙ f .first; ranges = q .0 ∙ f .ranges; marks = q .1 ∙ f .marks };
             }
 
 -- ---- before the first turn
 
-looked-number : (b : Bool) (y : Turn) → lookedAt b y .refused ≡ refusedBy b (y .refused)
+looked-number : (b : Bool) (y : Turn) → lookedAt b y .run .number ≡ refusedBy b (y .run .number)
 looked-number true y = refl
 looked-number false y = refl
 
@@ -408,63 +438,106 @@ module _ (st₀ : State) (s : ℕ) (sps : List Span) (time : Float) (counted : B
       ap (λ (q : Bool). elim (not q) [ true ↦ 1 | false ↦ elim (leb (storesOf st₀) s) [ true ↦ 2 | false ↦ elim (ltb maxSpans (length sps)) [ true ↦ 3 | false ↦ elim (any (length sps) (bad (st₀ .tree) sps)) [ true ↦ 4 | false ↦ elim (not (SoundTest.finite time)) [ true ↦ 5 | false ↦ firstOf (turnRefusals st₀ s sps time counted) ] ] ] ] ])
       (true-says (SoundTest.sound st₀) (sound-says st₀) h)
 
-  module _ (x : Small) (y₀ y : Turn) (b : Begun x s (length sps) time counted y₀) (is : storesIn (x .books) ≡ storesOf st₀)
-      (e : y ≡ lookedAt (any (length sps) (bad (st₀ .tree) sps)) y₀) where
-    abbrev some : Bool
-    some = any (length sps) (bad (st₀ .tree) sps)
+  abbrev some : Bool
+  some = any (length sps) (bad (st₀ .tree) sps)
 
-    refused-is : y .refused ≡ refusedBy some (firstNumber (storesOf st₀) s (length sps) time)
-    refused-is =
-        ap (λ (q : Turn). q .refused) e ∙ looked-number some y₀ ∙ ap (refusedBy some) (b .refused) ∙ ap (λ (k : ℕ). refusedBy some (firstNumber k s (length sps) time)) is
-
-    first-is : next (y .refused) (firstOf (turnRefusals st₀ s sps time counted)) ≡ number st₀ s sps time counted
+  module _ (k : ℕ) (is : k ≡ refusedBy some (firstNumber (storesOf st₀) s (length sps) time)) where
+    first-is : next k (firstOf (turnRefusals st₀ s sps time counted)) ≡ number st₀ s sps time counted
     first-is =
-        ap (λ (k : ℕ). next k (firstOf (turnRefusals st₀ s sps time counted))) refused-is
+        ap (λ (n : ℕ). next n (firstOf (turnRefusals st₀ s sps time counted))) is
         ∙ sym (start-number (leb (storesOf st₀) s) (ltb maxSpans (length sps)) some (SoundTest.finite time) (firstOf (turnRefusals st₀ s sps time counted)))
         ∙ sym sound-first
 
-    same : (b : Bool) (q : Turn) → (lookedAt b q .s ≡ q .s) × (lookedAt b q .time ≡ q .time) × (lookedAt b q .counted ≡ q .counted) × (lookedAt b q .turns ≡ q .turns) × (lookedAt b q .sum ≡ q .sum)
-    same true q = (refl, refl, refl, refl, refl)
-    same false q = (refl, refl, refl, refl, refl)
+    pub start-off : (k ≡ 0 → ⊥) → k ≡ number st₀ s sps time counted
+    start-off n = next-some k _ n ∙ first-is
 
-    pub going-start : Going st₀ s sps time counted 0 st₀ y
-    going-start =
+    module _ (none : k ≡ 0) where
+      fine : AllFine (leb (storesOf st₀) s) (ltb maxSpans (length sps)) some (SoundTest.finite time)
+      fine = start-none (leb (storesOf st₀) s) (ltb maxSpans (length sps)) some (SoundTest.finite time) (sym is ∙ none)
+
+      pub start-less : s < storesOf st₀
+      start-less = leb-false (storesOf st₀) s (fine .store)
+
+      pub start-spans : some ≡ false
+      start-spans = fine .spans
+
+      pub start-on : (refreshes : Bool) (old : Old) (z : Run) → Stands s refreshes (st₀ .books) z → z .sum ≡ 0 → On st₀ s sps time counted 0 st₀ refreshes old z
+      start-on refreshes old z stands zero-sum =
+          record {
+            stands = stands;
+            long = h .lent .books;
+            sound = h;
+            less = start-less;
+            tree = refl;
+            inside = λ j l. span-in (st₀ .tree) (getD sps j noSpan)
+                (λ (n : SpanIn (st₀ .tree) (getD sps j noSpan) → ⊥). says-false start-spans (storeUsed-exact st₀ s sps time counted .1 .1 .1 .0) (j, l, n));
+            finite = says-true (fine .time) (finite-sure time .says);
+            few = ltb-false maxSpans (length sps) (fine .many);
+            sum = omega arith;
+            first = next-none k (firstOf (turnRefusals st₀ s sps time counted)) none ∙ first-is;
+            states = refl;
+            bytes = omega arith;
+            ranges = ranges-mid s (st₀ .ranges) (st₀ .marks);
+            marks = back-mid (256 * s) 256 (st₀ .marks);
+          }
+
+-- the first of the turns of a list
+module _ (o : Others) (depth bytes : List ℕ) (c : Ranges) (ms x : List ℕ) (s : ℕ) (sps : List Span) (time : Float) (counted : Bool) (h : Sound (whole o depth bytes c ms x))
+    (y₀ y : Turn) (b : Begun x s (length sps) time counted y₀) (e : y ≡ lookedAt (any (length sps) (bad (whole o depth bytes c ms x .tree) sps)) y₀) where
+  abbrev first₀ : State
+  first₀ = whole o depth bytes c ms x
+
+  abbrev bad₀ : Bool
+  bad₀ = any (length sps) (bad (first₀ .tree) sps)
+
+  number-is : y .run .number ≡ refusedBy bad₀ (firstNumber (storesOf first₀) s (length sps) time)
+  number-is = ap (λ (q : Turn). q .run .number) e ∙ looked-number bad₀ y₀ ∙ ap (refusedBy bad₀) (b .number)
+
+  module _ (z : y .run .number ≡ 0) where
+    same-turn : y ≡ y₀
+    same-turn = e ∙ ap (λ (q : Bool). lookedAt q y₀) (start-spans first₀ s sps time counted h (y .run .number) number-is z)
+
+    stands-first : Stands s (y .refreshes) x (y .run)
+    stands-first =
+        subst (λ (q : Turn). Stands s (q .refreshes) x (q .run)) (sym same-turn) (b .stands (sym (ap (λ (q : Turn). q .run .number) same-turn) ∙ z))
+
+    less-first : s < 8
+    less-first = omega (arith, start-less first₀ s sps time counted h (y .run .number) number-is z, h .counts .stores)
+
+    on-first : On first₀ s sps time counted 0 (whole o depth bytes c ms (booksWith s (y .run) x)) (y .refreshes) (y .old) (y .run)
+    on-first =
+        subst (λ (l : List ℕ). On first₀ s sps time counted 0 (whole o depth bytes c ms l) (y .refreshes) (y .old) (y .run))
+        (sym (books-same s x less-first (h .lent .books) (y .refreshes) (y .run) stands-first))
+        (start-on first₀ s sps time counted h (y .run .number) number-is z (y .refreshes) (y .old) (y .run) stands-first
+        (ap (λ (q : Turn). q .run .sum) same-turn ∙ b .sum))
+
+    carries-first : Carries s time counted 0 y
+    carries-first =
         record {
-          high = omega arith;
-          off = λ n. record { first = next-some (y .refused) _ n ∙ first-is; ranges = refl; marks = refl };
-          on = λ z.
-              let fine = start-none (leb (storesOf st₀) s) (ltb maxSpans (length sps)) some (SoundTest.finite time) (sym refused-is ∙ z) in
-              let q = same some y₀ in
-              record {
-                store = ap (λ (q : Turn). q .s) e ∙ q .0 ∙ b .store;
-                when = ap (λ (q : Turn). q .time) e ∙ q .1 ∙ b .when;
-                counts = ap (λ (q : Turn). q .counted) e ∙ q .2 ∙ b .counts;
-                sound = h;
-                less = leb-false (storesOf st₀) s (fine .store);
-                tree = refl;
-                inside = λ k l. span-in (st₀ .tree) (getD sps k noSpan)
-                    (λ (n : SpanIn (st₀ .tree) (getD sps k noSpan) → ⊥). says-false (fine .spans) (storeUsed-exact st₀ s sps time counted .1 .1 .1 .0) (k, l, n));
-                finite = says-true (fine .time) (finite-sure time .says);
-                few = ltb-false maxSpans (length sps) (fine .many);
-                turns = ap (λ (q : Turn). q .turns) e ∙ q .3 ∙ b .turns;
-                sum = omega (arith, ap (λ (q : Turn). q .sum) e ∙ q .4 ∙ b .sum);
-                first = next-none (y .refused) (firstOf (turnRefusals st₀ s sps time counted)) z ∙ first-is;
-                states = refl;
-                bytes = let k = ap (λ (q : Turn). q .sum) e ∙ q .4 ∙ b .sum in omega arith;
-                ranges = ranges-mid s (st₀ .ranges) (st₀ .marks);
-                marks = back-mid (256 * s) 256 (st₀ .marks);
-              };
+          store = ap (λ (q : Turn). q .s) same-turn ∙ b .store;
+          when = ap (λ (q : Turn). q .time) same-turn ∙ b .when;
+          counts = ap (λ (q : Turn). q .counted) same-turn ∙ b .counts;
+          turns = ap (λ (q : Turn). q .turns) same-turn ∙ b .turns;
         }
+
+  pub going-start : Going o depth bytes c ms x s sps time counted 0 c ms y
+  going-start =
+      record {
+        high = omega arith;
+        carries = carries-first;
+        on = on-first;
+        off = λ n. record { first = start-off first₀ s sps time counted h (y .run .number) number-is n; ranges = refl; marks = refl };
+      }
 
 -- ---- after the last turn
 
-pub outcome-refused : (n : ℕ) (st : State) (o : Outcome (Unit {0}) ℕ) → (n ≡ 0 → ⊥) → outcome st tt (refused n) ≡ unless n st tt o
+pub outcome-refused : (n : ℕ) (st : State) (o : Outcome (Unit {0}) TouchAnswer) → (n ≡ 0 → ⊥) → outcome st tt (refused n) ≡ unless n st tt o
 outcome-refused zero st o n = absurd (n refl)
 outcome-refused (suc k) st o n = refl
 
-pub outcome-done : (n : ℕ) (st st′ : State) (a a′ : ℕ) → n ≡ 0 → st′ ≡ st → a ≡ a′ → (st₀ : State) (o : Outcome (Unit {0}) ℕ)
-    → o ≡ record { state = st; lists = tt; answer = done a′ } → _≡_ {A = Outcome (Unit {0}) ℕ} (outcome st′ tt (done a)) (unless n st₀ tt o)
-outcome-done n st st′ a a′ e f g st₀ o h = (λ i. outcome (f i) tt (done (g i))) ∙ sym h ∙ ap (λ (k : ℕ). unless k st₀ tt o) (sym e)
+pub outcome-done : (n : ℕ) (st st′ : State) (a a′ : ℕ) → n ≡ 0 → st′ ≡ st → a ≡ a′ → (st₀ : State) (o : Outcome (Unit {0}) TouchAnswer)
+    → o ≡ record { state = st; lists = tt; answer = done (read a′) } → _≡_ {A = Outcome (Unit {0}) TouchAnswer} (outcome st′ tt (done (read a))) (unless n st₀ tt o)
+outcome-done n st st′ a a′ e f g st₀ o h = (λ i. outcome (f i) tt (done (read (g i)))) ∙ sym h ∙ ap (λ (k : ℕ). unless k st₀ tt o) (sym e)
 
 pub none-left : (sps : List Span) (i : ℕ) → length sps ≤ i → i ≤ length sps → drop i sps ≡ []
 none-left sps i a b = let e : i ≡ length sps = omega arith in ap (λ (k : ℕ). drop k sps) e ∙ drop-length sps
@@ -477,54 +550,46 @@ pub no-spans : (st : State) (s : ℕ) (time : Float) (counted : Bool) → touchS
 unfolding touchSpans
 no-spans st s time counted = refl
 
-module _ (o : Others) (depth bytes : List ℕ) (c₀ c : Ranges) (ms₀ ms : List ℕ) (x : Small) (s : ℕ) (sps : List Span) (time : Float) (counted : Bool) (i : ℕ) (y : Turn) (r : Counted) where
-  abbrev first₀ : State
-  first₀ = whole o depth bytes c₀ ms₀ x
-
-  pub going-end : length sps ≤ i → Going first₀ s sps time counted i (whole o depth bytes c ms (y .small)) y → Finished x y r
-      → outcome (whole o depth bytes c ms (r .small)) tt (countOf (r .answer)) ≡ storeUsed first₀ s sps time counted
-  unfolding storeUsed
-  going-end over g f = go (y .refused) refl
-    where
-      all : Outcome (Unit {0}) ℕ
-      all = record { state = touchSpans first₀ s sps time counted; lists = tt; answer = done (bytesTouched first₀ s sps time counted) }
-
-      go : (n : ℕ) → y .refused ≡ n
-          → outcome (whole o depth bytes c ms (r .small)) tt (countOf (r .answer))
-          ≡ unless (number first₀ s sps time counted) first₀ tt all
-      go zero e =
-          let v = g .on e in
-          let l = none-left sps i over (g .high) in
-          let st = whole o depth bytes c ms (y .small) in
-          let k = ap (λ (q : List Span). firstOf (turnRefusals st s q time counted)) l in
-          let m = ap (λ (q : List Span). bytesTouched st s q time counted) l ∙ no-bytes st s time counted in
-          let sums : y .sum ≡ bytesTouched first₀ s sps time counted = omega (arith, v .bytes, m) in
-          ap (λ (q : Counted). outcome (whole o depth bytes c ms (q .small)) tt (countOf (q .answer))) (f .done e)
-          ∙ outcome-done (number first₀ s sps time counted) (touchSpans first₀ s sps time counted) st (y .sum) (bytesTouched first₀ s sps time counted)
-          (sym (v .first) ∙ k) (sym (no-spans st s time counted) ∙ ap (λ (q : List Span). touchSpans st s q time counted) (sym l) ∙ v .states) sums first₀ all refl
-      go (suc n) e =
-          let no : y .refused ≡ 0 → ⊥ = λ (a : y .refused ≡ 0). omega arith in
-          let v = g .off no in
-          ap (λ (q : Counted). outcome (whole o depth bytes c ms (q .small)) tt (countOf (q .answer))) (f .refused no)
-          ∙ (λ j. outcome (whole o depth bytes (v .ranges j) (v .marks j) x) tt (refused (v .first j)))
-          ∙ outcome-refused (number first₀ s sps time counted) first₀ all (λ (a : number first₀ s sps time counted ≡ 0). omega (arith, v .first))
-
--- ---- the two passes, over the columns
-
-module _ (o : Others) (depth bytes : List ℕ) (c₀ : Ranges) (ms₀ : List ℕ) (x : Small) (s : ℕ) (sps : List Span) (time : Float) (counted : Bool)
-    (h : Sound (whole o depth bytes c₀ ms₀ x)) where
+module _ (o : Others) (depth bytes : List ℕ) (c₀ : Ranges) (ms₀ x : List ℕ) (s : ℕ) (sps : List Span) (time : Float) (counted : Bool) (i : ℕ) (c : Ranges) (ms : List ℕ) (y : Turn)
+    (g : Going o depth bytes c₀ ms₀ x s sps time counted i c ms y) where
   abbrev began : State
   began = whole o depth bytes c₀ ms₀ x
 
-  module _ (y₀ : Turn) (b : Begun x s (length sps) time counted y₀) (i : ℕ) (y : Turn) (v : Looking (began .tree) sps y₀ i y) where
-    small-is : y .small ≡ x
-    small-is = look-small v ∙ b .small
+  -- there is a place for what is written
+  pub going-writes : Writes x y
+  going-writes e =
+      let v = g .on e in
+      (omega (arith, g .carries e .store, v .less, v .sound .counts .stores), v .long)
 
-    pub look-all : length sps ≤ i → Going began s sps time counted 0 (whole o depth bytes c₀ ms₀ (y .small)) y
-    look-all over =
-        let n : i ≡ length sps = omega (arith, v .high) in
-        subst (λ (q : Small). Going began s sps time counted 0 (whole o depth bytes c₀ ms₀ q) y) (sym small-is)
-        (going-start began s sps time counted h x y₀ y b refl (subst (λ (k : ℕ). y ≡ lookedAt (any k (bad (began .tree) sps)) y₀) n (v .is)))
+  module _ (x′ : List ℕ) (r : StoreUsed) (over : length sps ≤ i) (f : Finished x y x′ r) where
+    abbrev all : Outcome (Unit {0}) TouchAnswer
+    all = record { state = touchSpans began s sps time counted; lists = tt; answer = done (read (bytesTouched began s sps time counted)) }
+
+    pub going-end : outcome (whole o depth bytes c ms x′) tt (storeUsedOf r) ≡ storeUsed began s sps time counted
+    unfolding storeUsed
+    going-end = go (y .run .number) refl
+      where
+        go : (n : ℕ) → y .run .number ≡ n
+            → outcome (whole o depth bytes c ms x′) tt (storeUsedOf r) ≡ unless (number began s sps time counted) began tt all
+        go zero e =
+            let v = g .on e in
+            let l = none-left sps i over (g .high) in
+            let st = whole o depth bytes c ms (booksWith s (y .run) x) in
+            let k = ap (λ (q : List Span). firstOf (turnRefusals st s q time counted)) l in
+            let m = ap (λ (q : List Span). bytesTouched st s q time counted) l ∙ no-bytes st s time counted in
+            let sums : y .run .sum ≡ bytesTouched began s sps time counted = omega (arith, v .bytes, m) in
+            let w = f .done e in
+            let l′ : x′ ≡ booksWith s (y .run) x = w .0 ∙ ap (λ (q : ℕ). booksWith q (y .run) x) (g .carries e .store) in
+            (λ j. outcome (whole o depth bytes c ms (l′ j)) tt (storeUsedOf (w .1 j)))
+            ∙ outcome-done (number began s sps time counted) (touchSpans began s sps time counted) st (y .run .sum) (bytesTouched began s sps time counted)
+            (sym (v .first) ∙ k) (sym (no-spans st s time counted) ∙ ap (λ (q : List Span). touchSpans st s q time counted) (sym l) ∙ v .states) sums began all refl
+        go (suc n) e =
+            let some : y .run .number ≡ 0 → ⊥ = λ (a : y .run .number ≡ 0). omega arith in
+            let v = g .off some in
+            let w = f .refused some in
+            (λ j. outcome (whole o depth bytes c ms (w .0 j)) tt (storeUsedOf (w .1 j)))
+            ∙ (λ j. outcome (whole o depth bytes (v .ranges j) (v .marks j) x) tt (refused (v .first j)))
+            ∙ outcome-refused (number began s sps time counted) began all (λ (a : number began s sps time counted ≡ 0). omega (arith, v .first))
 
 -- ---- the first spans of an array
 
@@ -549,24 +614,9 @@ module _ (l : List Span) (count : ℕ) (long : length l ≡ 64) (few : count ≤
 pub span-fits : {count i : ℕ} → count ≤ 64 → i < count → Fits w64 (i * 24)
 span-fits h l = omega arith
 
--- ---- the columns, as long as they were
-
 abbrev pub others : List ℕ → List ℕ → List ℕ → List ℕ → List ℕ → List ℕ → List ℕ → List ℕ → Others
 others parent len run words pinNode pinStart pinEnd pinCount =
     record { parent = parent; len = len; run = run; words = words; pinNode = pinNode; pinStart = pinStart; pinEnd = pinEnd; pinCount = pinCount }
-
-pub record AsLong (c₀ : Ranges) (ms₀ : List ℕ) (c : Ranges) (ms : List ℕ) : Type 0 where
-  pub node : length (c .node) ≡ length (c₀ .node)
-  pub start : length (c .start) ≡ length (c₀ .start)
-  pub end : length (c .end) ≡ length (c₀ .end)
-  pub id : length (c .id) ≡ length (c₀ .id)
-  pub stamp : length (c .stamp) ≡ length (c₀ .stamp)
-  pub touched : length (c .touched) ≡ length (c₀ .touched)
-  pub write : length (c .write) ≡ length (c₀ .write)
-  pub marks : length ms ≡ length ms₀
-
-pub as-long : (c : Ranges) (ms : List ℕ) → AsLong c ms c ms
-as-long c ms = record { node = refl; start = refl; end = refl; id = refl; stamp = refl; touched = refl; write = refl; marks = refl }
 
 -- ---- the turns of a list, one more
 
@@ -574,18 +624,25 @@ module _ (sps : List Span) (depth bytes : List ℕ) (c₀ : Ranges) (ms₀ : Lis
     (t : Turns sps depth bytes c₀ ms₀ y₀ i c ms y) (less : i < length sps) where
   pub list-asks : AtFirst sps depth bytes c₀ ms₀ y₀ → Ready (getD sps i noSpan) depth bytes c ms y
   list-asks f =
-      going-ready (f .before) (f .store) sps (f .time) (f .counted) i (f .others) depth bytes c ms y less
-      (t (f .others) (f .before) (f .store) (f .time) (f .counted) (f .going))
+      record {
+        others = f .others;
+        books = booksWith (f .store) (y .run) (f .books);
+        ready =
+            going-at (f .others) depth bytes c₀ ms₀ (f .books) (f .store) sps (f .time) (f .counted) i less c ms y
+            (t (f .others) (f .books) (f .store) (f .time) (f .counted) (f .going));
+      }
 
   pub list-more : (c′ : Ranges) (ms′ : List ℕ) (r : Turn)
-      → ((q : Others) → Turned (getD sps i noSpan) (whole q depth bytes c ms (y .small)) y (whole q depth bytes c′ ms′ (r .small)) r)
+      → ((q : Others) (l : List ℕ) → (y .run .number ≡ 0 → TurnAt q l (getD sps i noSpan) depth bytes c ms y)
+      → Turned (getD sps i noSpan) (whole q depth bytes c ms l) y (whole q depth bytes c′ ms′ (booksWith (y .s) (r .run) l)) r)
       → Turns sps depth bytes c₀ ms₀ y₀ (i + 1) c′ ms′ r
-  list-more c′ ms′ r f o before s time counted g =
-      going-next before s sps time counted i less (whole o depth bytes c ms (y .small)) (whole o depth bytes c′ ms′ (r .small)) y r
-      (t o before s time counted g) (f o)
+  list-more c′ ms′ r f o x s time counted g₀ =
+      let g = t o x s time counted g₀ in
+      going-next o depth bytes c₀ ms₀ x s sps time counted i less c ms y g c′ ms′ r
+      (f o (booksWith s (y .run) x) (going-at o depth bytes c₀ ms₀ x s sps time counted i less c ms y g))
 
 pub list-start : (sps : List Span) (depth bytes : List ℕ) (c : Ranges) (ms : List ℕ) (y : Turn) → Turns sps depth bytes c ms y 0 c ms y
-list-start sps depth bytes c ms y o before s time counted g = g
+list-start sps depth bytes c ms y o x s time counted g = g
 
 pub list-end : {sps : List Span} {depth bytes : List ℕ} {c₀ : Ranges} {ms₀ : List ℕ} {y₀ : Turn} {i : ℕ} {c : Ranges} {ms : List ℕ} {y : Turn} → i ≤ length sps → length sps ≤ i
     → Turns sps depth bytes c₀ ms₀ y₀ i c ms y → Turns sps depth bytes c₀ ms₀ y₀ (length sps) c ms y
@@ -596,16 +653,14 @@ list-end {sps} {depth} {bytes} {c₀} {ms₀} {y₀} {i} {c} {ms} {y} a b t =
 -- ---- the spans of a list looked at, one more
 
 module _ (sps : List Span) (len : List ℕ) (y₀ : Turn) (i : ℕ) (y : Turn) (v : Looks sps len y₀ i y) where
-  pub looks-ask : nodesIn (y₀ .small .books) ≤ length len → nodesIn (y .small .books) ≤ length len
-  looks-ask h =
-      let k = look-small (v (treeOf [] [] len [] [] (nodesIn (y₀ .small .books)) 0) refl refl) in
-      omega (arith, ap (λ (q : Small). nodesIn (q .books)) k)
+  pub looks-ask : y₀ .nodes ≤ length len → y .nodes ≤ length len
+  looks-ask h = omega (arith, look-nodes (v (treeOf [] [] len [] [] (y₀ .nodes) 0) refl refl))
 
-  pub looks-more : i < length sps → (r : Turn) → ((t : Tree) → t .len ≡ len → t .nodes ≡ nodesIn (y .small .books) → r ≡ looked (spanIn t (getD sps i noSpan)) y)
+  pub looks-more : i < length sps → (r : Turn) → ((t : Tree) → t .len ≡ len → t .nodes ≡ y .nodes → r ≡ looked (spanIn t (getD sps i noSpan)) y)
       → Looks sps len y₀ (i + 1) r
   looks-more less r f t l n =
       let o = v t l n in
-      look-next t sps y₀ i y r o less (f t l (n ∙ ap (λ (q : Small). nodesIn (q .books)) (sym (look-small o))))
+      look-next t sps y₀ i y r o less (f t l (n ∙ sym (look-nodes o)))
 
 pub looks-start : (sps : List Span) (len : List ℕ) (y : Turn) → Looks sps len y 0 y
 looks-start sps len y t l n = look-start t sps y
@@ -613,24 +668,13 @@ looks-start sps len y t l n = look-start t sps y
 pub looks-end : {sps : List Span} {len : List ℕ} {y₀ : Turn} {i : ℕ} {y : Turn} → i ≤ length sps → length sps ≤ i → Looks sps len y₀ i y → Looks sps len y₀ (length sps) y
 looks-end {sps} {len} {y₀} {i} {y} a b v = let e : i ≡ length sps = omega arith in subst (λ (k : ℕ). Looks sps len y₀ k y) e v
 
--- ---- the whole call: `begin`, `look_spans`, `touch_spans` and `finish`, one after another
+-- ---- the whole call: `begin`, `look_spans` and `touch_spans`, one after another
 
-module _ (o : Others) (depth bytes : List ℕ) (c₀ : Ranges) (ms₀ : List ℕ) (x : Small) (s : ℕ) (sps : List Span) (time : Float) (counted : Bool)
+module _ (o : Others) (depth bytes : List ℕ) (c₀ : Ranges) (ms₀ x : List ℕ) (s : ℕ) (sps : List Span) (time : Float) (counted : Bool)
     (h : Sound (whole o depth bytes c₀ ms₀ x)) (y₀ : Turn) (b : Begun x s (length sps) time counted y₀) where
-  pub list-looks : nodesIn (y₀ .small .books) ≤ length (o .len)
-  list-looks = rw (b .small) (omega (arith, h .counts .nodes, h .lent .tree .len))
+  pub list-looks : y₀ .nodes ≤ length (o .len)
+  list-looks = rw (b .nodes) (omega (arith, h .counts .nodes, h .lent .tree .len))
 
-  module _ (y : Turn) (v : Looks sps (o .len) y₀ (length sps) y) where
-    at-first : Going (whole o depth bytes c₀ ms₀ x) s sps time counted 0 (whole o depth bytes c₀ ms₀ (y .small)) y
-    at-first =
-        look-all o depth bytes c₀ ms₀ x s sps time counted h y₀ b (length sps) y
-        (v (whole o depth bytes c₀ ms₀ x .tree) refl (ap (λ (q : Small). nodesIn (q .books)) (sym (b .small)))) (omega arith)
-
-    pub list-turns : AtFirst sps depth bytes c₀ ms₀ y
-    list-turns = record { others = o; before = whole o depth bytes c₀ ms₀ x; store = s; time = time; counted = counted; going = at-first }
-
-    pub list-outcome : (c : Ranges) (ms : List ℕ) (z : Turn) (r : Counted) → Turns sps depth bytes c₀ ms₀ y (length sps) c ms z → Finished x z r
-        → outcome (whole o depth bytes c ms (r .small)) tt (countOf (r .answer)) ≡ storeUsed (whole o depth bytes c₀ ms₀ x) s sps time counted
-    list-outcome c ms z r t f =
-        going-end o depth bytes c₀ c ms₀ ms x s sps time counted (length sps) z r (omega arith)
-        (t o (whole o depth bytes c₀ ms₀ x) s time counted at-first) f
+  pub list-first : (y : Turn) → Looks sps (o .len) y₀ (length sps) y → Going o depth bytes c₀ ms₀ x s sps time counted 0 c₀ ms₀ y
+  list-first y v =
+      going-start o depth bytes c₀ ms₀ x s sps time counted h y₀ y b (v (whole o depth bytes c₀ ms₀ x .tree) refl (sym (b .nodes)) .is)

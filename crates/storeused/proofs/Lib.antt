@@ -1,3 +1,4 @@
+pub mod Books
 pub mod Laws
 pub mod Room
 pub mod Running

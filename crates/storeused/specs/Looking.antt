@@ -6,7 +6,7 @@ use mathlib.Core.List.{List}
 use lib.ListN.{length, getD}
 use Rattle.model.specs.declared.Span.{Span}
 use Rattle.model.specs.Words.{any}
-use Rattle.model.specs.State.{Tree, nodesIn}
+use Rattle.model.specs.State.{Tree}
 use Rattle.model.specs.Refusals.{spanIn, noSpan}
 use Rattle.usedspan.specs.declared.Turn.{Turn}
 use Rattle.usedspan.specs.Turn.{four, refusing}
@@ -16,7 +16,7 @@ bad t sps k = not (spanIn t (getD sps k noSpan))
 
 -- y after a look at spans of which some are bad, or none
 abbrev pub lookedAt : Bool → Turn → Turn
-lookedAt true y = refusing (four (y .refused)) y
+lookedAt true y = refusing (four (y .run .number)) y
 lookedAt false y = y
 
 -- the number n, or 4 before it, after a look at spans of which some are bad, or none
@@ -30,4 +30,4 @@ pub record Looking (t : Tree) (sps : List Span) (y₀ : Turn) (i : ℕ) (y : Tur
 
 -- the same on any tree with these lengths
 abbrev pub Looks : List Span → List ℕ → Turn → ℕ → Turn → Type 0
-Looks sps len y₀ i y = (t : Tree) → t .len ≡ len → t .nodes ≡ nodesIn (y₀ .small .books) → Looking t sps y₀ i y
+Looks sps len y₀ i y = (t : Tree) → t .len ≡ len → t .nodes ≡ y₀ .nodes → Looking t sps y₀ i y

@@ -8,33 +8,23 @@ use Rattle.model.specs.declared.Span.{Span}
 use Rattle.model.specs.Sizes.{storeRecords, storeMarks, maxStamp}
 use Rattle.model.specs.State.{Ranges, State}
 use Rattle.model.specs.Calls.{touchSpans, bytesTouched, storeUsed}
-use Rattle.lent.specs.declared.Small.{Small}
 use Rattle.parts.specs.Parts.{back, backRanges}
-use Rattle.answers.specs.declared.Counted.{Counted}
-use Rattle.answers.specs.declared.Count.the-variants.{Done}
-use Rattle.answers.specs.Answers.{outcome, countOf}
-use Rattle.undo.specs.declared.Old.{Old}
+use Rattle.answers.specs.declared.StoreUsed.{StoreUsed}
+use Rattle.answers.specs.Answers.{outcome, storeUsedOf}
 use Rattle.undo.specs.Old.{oldRanges, oldFrom}
-use Rattle.usedspan.specs.declared.Turn.{Turn}
 use Rattle.usedspan.specs.declared.Run.{Run}
-use Rattle.usedspan.specs.Turn.{Others, whole, smallWith, Stands}
+use Rattle.usedspan.specs.Turn.{Others, whole}
 use Rattle.storeused.specs.Going.{number, On}
 
--- a touch before span i, as the turns of a list have it
-abbrev pub turnAt : Small → Old → ℕ → Float → Bool → ℕ → ℕ → ℕ → Turn
-turnAt x old s time counted i sum k = record { small = x; old = old; s = s; time = time; counted = counted; turns = i; sum = sum; refused = k }
-
 -- before the first turn, where nothing is refused but by a turn
-pub record Starts (o : Others) (x : Small) (sps : List Span) (depth bytes : List ℕ) (c : Ranges) (ms : List ℕ) (s : ℕ) (refreshes : Bool) (time : Float) (counted : Bool) (y : Run) : Type 0 where
-  pub stands : Stands s refreshes x y
-  pub sum : y .sum ≡ 0
+pub record Starts (o : Others) (x : List ℕ) (sps : List Span) (depth bytes : List ℕ) (c : Ranges) (ms : List ℕ) (s : ℕ) (refreshes : Bool) (time : Float) (counted : Bool) (y : Run) : Type 0 where
   pub number : y .number ≡ 0
-  pub on : On (whole o depth bytes c ms x) s sps time counted 0 (whole o depth bytes c ms x) (turnAt x (oldFrom s c ms) s time counted 0 0 0)
+  pub on : On (whole o depth bytes c ms x) s sps time counted 0 (whole o depth bytes c ms x) refreshes (oldFrom s c ms) y
 
 pub record CanStart (sps : List Span) (depth bytes : List ℕ) (c : Ranges) (ms : List ℕ) (s : ℕ) (refreshes : Bool) (time : Float) (counted : Bool) (y : Run) : Type 0 where
   pub others : Others
-  pub small : Small
-  pub starts : Starts others small sps depth bytes c ms s refreshes time counted y
+  pub books : List ℕ
+  pub starts : Starts others books sps depth bytes c ms s refreshes time counted y
 
 -- after the last turn, or after the first that was refused
 pub record Went (st₀ : State) (s : ℕ) (sps : List Span) (time : Float) (counted : Bool) (st : State) (r : Run) : Type 0 where
@@ -50,10 +40,6 @@ pub record Roomy (n top next count : ℕ) : Type 0 where
   pub stamps : top + count ≤ maxStamp
   pub ids : next + 2 * count ≤ maxStamp
 
--- the answer of turns of which none was refused
-abbrev pub runDone : Small → ℕ → Run → Counted
-runDone x s y = record { small = smallWith s y x; answer = Done (y .sum) }
-
--- the columns c′ and ms′ and the answer r are those of the whole call
-abbrev pub Outcomes : State → ℕ → List Span → Float → Bool → State → Counted → Type 0
-Outcomes st s sps time counted st′ r = outcome st′ tt (countOf (r .answer)) ≡ storeUsed st s sps time counted
+-- the state st′ and the answer r are those of the whole call
+abbrev pub Outcomes : State → ℕ → List Span → Float → Bool → State → StoreUsed → Type 0
+Outcomes st s sps time counted st′ r = outcome st′ tt (storeUsedOf r) ≡ storeUsed st s sps time counted

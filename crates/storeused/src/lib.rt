@@ -1,27 +1,27 @@
-use answers::Count;
-use answers::Counted;
-use lent::Small;
+use answers::StoreUsed;
 use model::Span;
+use model::TouchAnswer;
 use usedspan::Run;
 use usedspan::Turn;
 ghost use mathlib.Core.Path.{_≡_};
-ghost use Prim.Native.Nat.{_≤_, _<_};
+ghost use mathlib.Core.List.{List};
+ghost use Prim.Native.Nat.{ℕ, _≤_};
 ghost use lib.ListN.{length, take};
-ghost use Rattle.model.specs.Sizes.{maxStamp};
+ghost use Rattle.model.specs.Sizes.{maxNumbers, maxStamp};
 ghost use Rattle.model.specs.Words.{Says, any};
-ghost use Rattle.model.specs.State.{Tree, nodesIn};
+ghost use Rattle.model.specs.State.{Tree};
 ghost use Rattle.model.specs.Sound.{Sound};
 ghost use Rattle.model.specs.Calls.{storeUsed};
 ghost use Rattle.lent.specs.Lent.{rangesOf};
-ghost use Rattle.usedspan.specs.Turn.{Others, whole, firstNumber, smallWith};
+ghost use Rattle.usedspan.specs.Turn.{Others, whole, firstNumber, booksWith};
 ghost use Rattle.storeused.specs.Looking.{bad, refusedBy, Looks};
 ghost use Rattle.storeused.specs.Going.{AtFirst, Turns};
-ghost use Rattle.storeused.specs.Running.{Starts, CanStart, Went, Roomy, runDone, Outcomes};
-ghost use Rattle.answers.specs.Answers.{stateFrom, outcome, countOf};
+ghost use Rattle.storeused.specs.Running.{Starts, CanStart, Went, Roomy, Outcomes};
+ghost use Rattle.answers.specs.Answers.{stateFrom, outcome, storeUsedOf};
 
 // The spans of a lent list, one call for each, before the first turn: 4 if one of them is not one of the tree.
 pub fn look_spans(spans: &[Span], len: &[usize], x: Turn) -> Turn
-    requires { ⌜ nodesIn (x .small .books) ≤ length (now len) ⌝ }
+    requires { ⌜ x .nodes ≤ length (now len) ⌝ }
     ensures { λ r. ⌜ Looks (now (spans .entry)) (now (len .entry)) x (length (now (spans .entry))) r ⌝ }
 {
     let mut y = x;
@@ -119,7 +119,7 @@ fn take_turns(
     y: Run,
 ) -> Run
     requires { ⌜ CanStart (take count spans) (now depth) (now bytes) (rangesOf (now node) (now start) (now end) (now id) (now stamp) (now touched) (now write)) (now marks) s refreshes time counted y × (count ≤ 64) ⌝ }
-    ensures { λ r. ⌜ ((o : Others) (x : Small) → Starts o x (take count spans) (now (depth .entry)) (now (bytes .entry)) (rangesOf (now (node .entry)) (now (start .entry)) (now (end .entry)) (now (id .entry)) (now (stamp .entry)) (now (touched .entry)) (now (write .entry))) (now (marks .entry)) s refreshes time counted y → Went (whole o (now (depth .entry)) (now (bytes .entry)) (rangesOf (now (node .entry)) (now (start .entry)) (now (end .entry)) (now (id .entry)) (now (stamp .entry)) (now (touched .entry)) (now (write .entry))) (now (marks .entry)) x) s (take count spans) time counted (whole o (now (depth .entry)) (now (bytes .entry)) (rangesOf (now (node .exit)) (now (start .exit)) (now (end .exit)) (now (id .exit)) (now (stamp .exit)) (now (touched .exit)) (now (write .exit))) (now (marks .exit)) (smallWith s r x)) r) ⌝ }
+    ensures { λ r. ⌜ ((o : Others) (x : List ℕ) → Starts o x (take count spans) (now (depth .entry)) (now (bytes .entry)) (rangesOf (now (node .entry)) (now (start .entry)) (now (end .entry)) (now (id .entry)) (now (stamp .entry)) (now (touched .entry)) (now (write .entry))) (now (marks .entry)) s refreshes time counted y → Went (whole o (now (depth .entry)) (now (bytes .entry)) (rangesOf (now (node .entry)) (now (start .entry)) (now (end .entry)) (now (id .entry)) (now (stamp .entry)) (now (touched .entry)) (now (write .entry))) (now (marks .entry)) x) s (take count spans) time counted (whole o (now (depth .entry)) (now (bytes .entry)) (rangesOf (now (node .exit)) (now (start .exit)) (now (end .exit)) (now (id .exit)) (now (stamp .exit)) (now (touched .exit)) (now (write .exit))) (now (marks .exit)) (booksWith s r x)) r) ⌝ }
 {
     let mut z = y;
     let mut j = 0;
@@ -168,18 +168,6 @@ fn roomy(n: usize, top: u64, next: u64, count: usize) -> bool
     true
 }
 
-// The small numbers with those of a run of store s, and the bytes read.
-fn run_done(x: Small, s: usize, y: Run) -> Counted
-    requires { ⌜ s < 8 ⌝ }
-    ensures { λ r. ⌜ r ≡ runDone x s y ⌝ }
-{
-    let small = usedspan::small_for(x, s, y.n, y.top, y.next);
-    Counted {
-        small,
-        answer: Count::Done(y.sum),
-    }
-}
-
 // The turns where one may be refused: the store's part is kept, and put back then.
 fn touch_kept(
     node: &mut [usize],
@@ -192,7 +180,7 @@ fn touch_kept(
     marks: &mut [usize],
     depth: &[usize],
     bytes: &[u64],
-    x: Small,
+    books: &mut [u64],
     s: usize,
     refreshes: bool,
     spans: [Span; 64],
@@ -200,9 +188,9 @@ fn touch_kept(
     time: f64,
     counted: bool,
     y: Run,
-) -> Counted
-    requires { ⌜ CanStart (take count spans) (now depth) (now bytes) (rangesOf (now node) (now start) (now end) (now id) (now stamp) (now touched) (now write)) (now marks) s refreshes time counted y × (count ≤ 64) ⌝ }
-    ensures { λ r. ⌜ ((o : Others) → Starts o x (take count spans) (now (depth .entry)) (now (bytes .entry)) (rangesOf (now (node .entry)) (now (start .entry)) (now (end .entry)) (now (id .entry)) (now (stamp .entry)) (now (touched .entry)) (now (write .entry))) (now (marks .entry)) s refreshes time counted y → Outcomes (whole o (now (depth .entry)) (now (bytes .entry)) (rangesOf (now (node .entry)) (now (start .entry)) (now (end .entry)) (now (id .entry)) (now (stamp .entry)) (now (touched .entry)) (now (write .entry))) (now (marks .entry)) x) s (take count spans) time counted (whole o (now (depth .entry)) (now (bytes .entry)) (rangesOf (now (node .exit)) (now (start .exit)) (now (end .exit)) (now (id .exit)) (now (stamp .exit)) (now (touched .exit)) (now (write .exit))) (now (marks .exit)) (r .small)) r) ⌝ }
+) -> StoreUsed
+    requires { ⌜ CanStart (take count spans) (now depth) (now bytes) (rangesOf (now node) (now start) (now end) (now id) (now stamp) (now touched) (now write)) (now marks) s refreshes time counted y × (count ≤ 64) × (maxNumbers ≤ length (now books)) ⌝ }
+    ensures { λ r. ⌜ ((o : Others) → Starts o (now (books .entry)) (take count spans) (now (depth .entry)) (now (bytes .entry)) (rangesOf (now (node .entry)) (now (start .entry)) (now (end .entry)) (now (id .entry)) (now (stamp .entry)) (now (touched .entry)) (now (write .entry))) (now (marks .entry)) s refreshes time counted y → Outcomes (whole o (now (depth .entry)) (now (bytes .entry)) (rangesOf (now (node .entry)) (now (start .entry)) (now (end .entry)) (now (id .entry)) (now (stamp .entry)) (now (touched .entry)) (now (write .entry))) (now (marks .entry)) (now (books .entry))) s (take count spans) time counted (whole o (now (depth .entry)) (now (bytes .entry)) (rangesOf (now (node .exit)) (now (start .exit)) (now (end .exit)) (now (id .exit)) (now (stamp .exit)) (now (touched .exit)) (now (write .exit))) (now (marks .exit)) (now (books .exit))) r) ⌝ }
 {
     let old = undo::keep(node, start, end, id, stamp, touched, write, marks, s);
     let z = take_turns(
@@ -226,12 +214,10 @@ fn touch_kept(
     );
     if z.number != 0 {
         undo::undo(node, start, end, id, stamp, touched, write, marks, s, old);
-        return Counted {
-            small: x,
-            answer: Count::Refused(z.number),
-        };
+        return StoreUsed::Refused(z.number);
     }
-    run_done(x, s, z)
+    usedspan::put_run(books, s, z);
+    StoreUsed::Done(TouchAnswer { bytes: z.sum })
 }
 
 // A touch of the first `count` spans of an array by value: for callers that have no slice of spans.
@@ -254,31 +240,28 @@ pub fn store_used_array(
     pin_count: &[u64],
     marks: &mut [usize],
     bytes: &[u64],
-    x: Small,
+    books: &mut [u64],
     s: usize,
     spans: [Span; 64],
     count: usize,
     time: f64,
     counted: bool,
-) -> Counted
-    requires { ⌜ Sound (stateFrom (now parent) (now depth) (now len) (now run) (now words) (now node) (now start) (now end) (now id) (now stamp) (now touched) (now write) (now «pin_node») (now «pin_start») (now «pin_end») (now «pin_count») (now marks) (now bytes) x) × (count ≤ 64) ⌝ }
-    ensures { λ r. ⌜ outcome (stateFrom (now (parent .entry)) (now (depth .entry)) (now (len .entry)) (now (run .entry)) (now (words .entry)) (now (node .exit)) (now (start .exit)) (now (end .exit)) (now (id .exit)) (now (stamp .exit)) (now (touched .exit)) (now (write .exit)) (now («pin_node» .entry)) (now («pin_start» .entry)) (now («pin_end» .entry)) (now («pin_count» .entry)) (now (marks .exit)) (now (bytes .entry)) (r .small)) tt (countOf (r .answer)) ≡ storeUsed (stateFrom (now (parent .entry)) (now (depth .entry)) (now (len .entry)) (now (run .entry)) (now (words .entry)) (now (node .entry)) (now (start .entry)) (now (end .entry)) (now (id .entry)) (now (stamp .entry)) (now (touched .entry)) (now (write .entry)) (now («pin_node» .entry)) (now («pin_start» .entry)) (now («pin_end» .entry)) (now («pin_count» .entry)) (now (marks .entry)) (now (bytes .entry)) x) s (take count spans) time counted ⌝ }
+) -> StoreUsed
+    requires { ⌜ Sound (stateFrom (now parent) (now depth) (now len) (now run) (now words) (now node) (now start) (now end) (now id) (now stamp) (now touched) (now write) (now «pin_node») (now «pin_start») (now «pin_end») (now «pin_count») (now marks) (now bytes) (now books)) × (count ≤ 64) ⌝ }
+    ensures { λ r. ⌜ outcome (stateFrom (now (parent .entry)) (now (depth .entry)) (now (len .entry)) (now (run .entry)) (now (words .entry)) (now (node .exit)) (now (start .exit)) (now (end .exit)) (now (id .exit)) (now (stamp .exit)) (now (touched .exit)) (now (write .exit)) (now («pin_node» .entry)) (now («pin_start» .entry)) (now («pin_end» .entry)) (now («pin_count» .entry)) (now (marks .exit)) (now (bytes .entry)) (now (books .exit))) tt (storeUsedOf r) ≡ storeUsed (stateFrom (now (parent .entry)) (now (depth .entry)) (now (len .entry)) (now (run .entry)) (now (words .entry)) (now (node .entry)) (now (start .entry)) (now (end .entry)) (now (id .entry)) (now (stamp .entry)) (now (touched .entry)) (now (write .entry)) (now («pin_node» .entry)) (now («pin_start» .entry)) (now («pin_end» .entry)) (now («pin_count» .entry)) (now (marks .entry)) (now (bytes .entry)) (now (books .entry))) s (take count spans) time counted ⌝ }
 {
-    let nodes = x.books[0] as usize;
-    let stores = x.books[2] as usize;
+    let nodes = books[0] as usize;
+    let stores = books[2] as usize;
     let number = first_refusal(len, nodes, stores, s, spans, count, time);
     if number != 0 {
-        return Counted {
-            small: x,
-            answer: Count::Refused(number),
-        };
+        return StoreUsed::Refused(number);
     }
-    let b = books::book_of(&x.books, s);
+    let b = books::book_of(books, s);
     let refreshes = b.policy == 1;
     let y = Run {
         n: b.records,
         top: b.stamp,
-        next: x.books[3],
+        next: books[3],
         sum: 0,
         number: 0,
     };
@@ -294,7 +277,7 @@ pub fn store_used_array(
             marks,
             depth,
             bytes,
-            x,
+            books,
             s,
             refreshes,
             spans,
@@ -323,5 +306,6 @@ pub fn store_used_array(
         counted,
         y,
     );
-    run_done(x, s, z)
+    usedspan::put_run(books, s, z);
+    StoreUsed::Done(TouchAnswer { bytes: z.sum })
 }

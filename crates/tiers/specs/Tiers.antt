@@ -13,7 +13,7 @@ use Rattle.model.specs.Sound.{Sound}
 use Rattle.model.specs.Tree.{resolve}
 use Rattle.model.specs.Lookup.{holds, lookupPath, spanBlocks, spanBytes, tierSums}
 use Rattle.model.specs.Refusals.{PathList, TierList}
-use Rattle.model.specs.Calls.{layPath, layTiers}
+use Rattle.model.specs.Calls.{LookupLists, layPath, layTiers}
 use Rattle.tiers.specs.declared.RangeEnd.{RangeEnd}
 use Rattle.tiers.specs.declared.RangeEnd.the-variants.{At, Nothing}
 use Rattle.tiers.specs.declared.LookupParts.{LookupParts}
@@ -37,6 +37,10 @@ endOf Nothing = none
 
 abbrev pub tierListOf : List ℕ → List ℕ → List ℕ → List ℕ → TierList
 tierListOf tier node start end = record { tier = tier; node = node; start = start; end = end }
+
+-- both answer lists of a lookup
+abbrev pub listsOf : PathList → TierList → LookupLists
+listsOf path spans = record { path = path; spans = spans }
 
 -- a sound state of which these columns are lent, its stores' record counts, tiers that are stores of it, and the path of a list in its tree, which stands
 -- in front of the path lists

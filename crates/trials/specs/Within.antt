@@ -25,6 +25,7 @@ pub record LensWithin (n : Lens) (w : World) : Type 0 where
   pub pin-count : n .«pin_count» ≤ length (w .«pin_count»)
   pub marks : n .marks ≤ length (w .marks)
   pub bytes : n .bytes ≤ length (w .bytes)
+  pub books : n .books ≤ length (w .books)
 
 pub record PlacesWithin (n : Places) (l : Lists) : Type 0 where
   pub path-node : n .«path_node» ≤ length (l .«path_node»)

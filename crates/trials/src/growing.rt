@@ -35,6 +35,7 @@ pub fn set_up(
     let pin_count = old.pin_count;
     let mut marks = old.marks;
     let mut bytes = old.bytes;
+    let mut books = old.books;
     let parent_long = lens.parent;
     let depth_long = lens.depth;
     let len_long = lens.len;
@@ -53,6 +54,7 @@ pub fn set_up(
     let pin_count_long = lens.pin_count;
     let marks_long = lens.marks;
     let bytes_long = lens.bytes;
+    let books_long = lens.books;
     let r = radix::set_up(
         &mut parent[..parent_long],
         &mut depth[..depth_long],
@@ -72,14 +74,12 @@ pub fn set_up(
         &pin_count[..pin_count_long],
         &mut marks[..marks_long],
         &mut bytes[..bytes_long],
-        old.small,
+        &mut books[..books_long],
         table,
         capacity,
         refreshes,
     );
-    let small = r.small;
-    let answer = r.answer;
-    let number = plain_number(answer);
+    let number = plain_number(r);
     let mut world = old;
     world.parent = parent;
     world.depth = depth;
@@ -87,7 +87,7 @@ pub fn set_up(
     world.run = run;
     world.marks = marks;
     world.bytes = bytes;
-    world.small = small;
+    world.books = books;
     Tried {
         number,
         world,
@@ -115,6 +115,7 @@ pub fn insert(old: World, lists: Lists, short: Short, hashes: &[u64]) -> Tried {
     let mut pin_count = old.pin_count;
     let mut marks = old.marks;
     let bytes = old.bytes;
+    let mut books = old.books;
     let mut path_node = lists.path_node;
     let mut path_len = lists.path_len;
     let path_node_long = places.path_node;
@@ -138,14 +139,12 @@ pub fn insert(old: World, lists: Lists, short: Short, hashes: &[u64]) -> Tried {
         &mut pin_count,
         &mut marks,
         &bytes,
+        &mut books,
         &mut path_node[..path_node_long],
         &mut path_len[..path_len_long],
-        old.small,
         hashes,
     );
-    let small = r.small;
-    let answer = r.answer;
-    let number = inserted_number(answer);
+    let number = inserted_number(r);
     let mut world = old;
     world.parent = parent;
     world.depth = depth;
@@ -164,7 +163,7 @@ pub fn insert(old: World, lists: Lists, short: Short, hashes: &[u64]) -> Tried {
     world.pin_end = pin_end;
     world.pin_count = pin_count;
     world.marks = marks;
-    world.small = small;
+    world.books = books;
     let mut after = lists;
     after.path_node = path_node;
     after.path_len = path_len;

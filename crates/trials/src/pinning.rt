@@ -3,8 +3,7 @@ use crate::tried::Tried;
 use crate::tried::plain_number;
 use crate::world::World;
 use crate::world::blank_lists;
-use radix::Plainly;
-use radix::Small;
+use radix::Plain;
 use radix::Span;
 
 fn pinned(
@@ -26,11 +25,11 @@ fn pinned(
     pin_count: &mut [u64],
     marks: &[usize],
     bytes: &[u64],
-    x: Small,
+    books: &mut [u64],
     up: bool,
     s: usize,
     sp: Span,
-) -> Plainly {
+) -> Plain {
     if up {
         return radix::pin_source(
             parent,
@@ -51,7 +50,7 @@ fn pinned(
             pin_count,
             marks,
             bytes,
-            x,
+            books,
             s,
             sp,
         );
@@ -75,7 +74,7 @@ fn pinned(
         pin_count,
         marks,
         bytes,
-        x,
+        books,
         s,
         sp,
     )
@@ -100,6 +99,7 @@ fn pins(old: World, up: bool, s: usize, sp: Span) -> Tried {
     let mut pin_count = old.pin_count;
     let marks = old.marks;
     let bytes = old.bytes;
+    let mut books = old.books;
     let r = pinned(
         &parent,
         &depth,
@@ -119,20 +119,18 @@ fn pins(old: World, up: bool, s: usize, sp: Span) -> Tried {
         &mut pin_count,
         &marks,
         &bytes,
-        old.small,
+        &mut books,
         up,
         s,
         sp,
     );
-    let small = r.small;
-    let answer = r.answer;
-    let number = plain_number(answer);
+    let number = plain_number(r);
     let mut world = old;
     world.pin_node = pin_node;
     world.pin_start = pin_start;
     world.pin_end = pin_end;
     world.pin_count = pin_count;
-    world.small = small;
+    world.books = books;
     Tried {
         number,
         world,

@@ -1,7 +1,7 @@
 // The calls that are lent every pool as `&`: the path, the lookup and the counters. The pools are lent in one place for all of them.
 use crate::tried::Tried;
 use crate::tried::count_number;
-use crate::tried::reading_number;
+use crate::tried::looked_number;
 use crate::tried::resolved_number;
 use crate::world::Lists;
 use crate::world::Short;
@@ -10,7 +10,6 @@ use crate::world::blank_lists;
 use crate::world::list_places;
 use crate::world::pool_lens;
 use radix::Count;
-use radix::Small;
 
 pub enum Counter {
     Held,
@@ -52,7 +51,7 @@ fn counted(
     pin_count: &[u64],
     marks: &[usize],
     bytes: &[u64],
-    x: Small,
+    books: &[u64],
     s: usize,
     counter: Counter,
 ) -> Count {
@@ -76,7 +75,7 @@ fn counted(
             pin_count,
             marks,
             bytes,
-            x,
+            books,
             s,
         ),
         Counter::Capacity => radix::store_capacity_blocks(
@@ -98,7 +97,7 @@ fn counted(
             pin_count,
             marks,
             bytes,
-            x,
+            books,
             s,
         ),
         Counter::Pinned => radix::store_pinned_blocks(
@@ -120,7 +119,7 @@ fn counted(
             pin_count,
             marks,
             bytes,
-            x,
+            books,
             s,
         ),
         Counter::Available => radix::store_available_for_stage(
@@ -142,7 +141,7 @@ fn counted(
             pin_count,
             marks,
             bytes,
-            x,
+            books,
             s,
         ),
         Counter::Version => radix::source_version(
@@ -164,7 +163,7 @@ fn counted(
             pin_count,
             marks,
             bytes,
-            x,
+            books,
             s,
         ),
         Counter::Stalls => radix::pin_stalls(
@@ -186,7 +185,7 @@ fn counted(
             pin_count,
             marks,
             bytes,
-            x,
+            books,
         ),
     }
 }
@@ -210,7 +209,7 @@ fn path(
     pin_count: &[u64],
     marks: &[usize],
     bytes: &[u64],
-    x: Small,
+    books: &[u64],
     lists: Lists,
     short: usize,
     hashes: &[u64],
@@ -239,9 +238,9 @@ fn path(
         pin_count,
         marks,
         bytes,
+        books,
         &mut path_node[..path_node_long],
         &mut path_len[..path_len_long],
-        x,
         hashes,
     );
     let number = resolved_number(r);
@@ -273,7 +272,7 @@ fn look(
     pin_count: &[u64],
     marks: &[usize],
     bytes: &[u64],
-    x: Small,
+    books: &[u64],
     lists: Lists,
     short: usize,
     tiers: &[usize],
@@ -311,18 +310,17 @@ fn look(
         pin_count,
         marks,
         bytes,
+        books,
         &mut path_node[..path_node_long],
         &mut path_len[..path_len_long],
         &mut span_tier[..span_tier_long],
         &mut span_node[..span_node_long],
         &mut span_start[..span_start_long],
         &mut span_end[..span_end_long],
-        x,
         tiers,
         hashes,
     );
-    let answer = r.answer;
-    let number = reading_number(answer);
+    let number = looked_number(r);
     let mut after = lists;
     after.path_node = path_node;
     after.path_len = path_len;
@@ -355,7 +353,7 @@ fn answered(
     pin_count: &[u64],
     marks: &[usize],
     bytes: &[u64],
-    x: Small,
+    books: &[u64],
     lists: Lists,
     short: usize,
     ask: Ask,
@@ -383,7 +381,7 @@ fn answered(
             pin_count,
             marks,
             bytes,
-            x,
+            books,
             lists,
             short,
             hashes,
@@ -407,7 +405,7 @@ fn answered(
             pin_count,
             marks,
             bytes,
-            x,
+            books,
             lists,
             short,
             tiers,
@@ -433,7 +431,7 @@ fn answered(
                 pin_count,
                 marks,
                 bytes,
-                x,
+                books,
                 s,
                 counter,
             );
@@ -471,6 +469,7 @@ fn asked(
     let pin_count = old.pin_count;
     let marks = old.marks;
     let bytes = old.bytes;
+    let books = old.books;
     let parent_long = lens.parent;
     let depth_long = lens.depth;
     let len_long = lens.len;
@@ -489,6 +488,7 @@ fn asked(
     let pin_count_long = lens.pin_count;
     let marks_long = lens.marks;
     let bytes_long = lens.bytes;
+    let books_long = lens.books;
     let a = answered(
         &parent[..parent_long],
         &depth[..depth_long],
@@ -508,7 +508,7 @@ fn asked(
         &pin_count[..pin_count_long],
         &marks[..marks_long],
         &bytes[..bytes_long],
-        old.small,
+        &books[..books_long],
         lists,
         short.list,
         ask,

@@ -1,7 +1,6 @@
 // Whether two states, and two sets of answer lists, are the same in every place.
 use crate::world::Lists;
 use crate::world::World;
-use radix::Small;
 
 // The same float: where the two are equal their reciprocals tell 0 from -0; else both are no number.
 fn same_time(x: f64, y: f64) -> bool {
@@ -125,10 +124,6 @@ fn same_u64_128(a: [u64; 128], b: [u64; 128]) -> bool {
     all_u64(&a, &b)
 }
 
-fn same_u64_69(a: [u64; 69], b: [u64; 69]) -> bool {
-    all_u64(&a, &b)
-}
-
 // The tree and the byte table.
 fn same_tree(a: World, b: World) -> bool {
     let parent = a.parent;
@@ -225,13 +220,6 @@ fn same_pins(a: World, b: World) -> bool {
     same_usize_2048(marks, marks_then)
 }
 
-// The small numbers.
-fn same_books(a: Small, b: Small) -> bool {
-    let books = a.books;
-    let books_then = b.books;
-    same_u64_69(books, books_then)
-}
-
 pub fn same_world(a: World, b: World) -> bool {
     if !same_tree(a, b) {
         return false;
@@ -242,7 +230,9 @@ pub fn same_world(a: World, b: World) -> bool {
     if !same_pins(a, b) {
         return false;
     }
-    same_books(a.small, b.small)
+    let books = a.books;
+    let books_then = b.books;
+    same_u64_256(books, books_then)
 }
 
 // The path and the tier spans.

@@ -1,6 +1,9 @@
 // The calls that are lent a store's ranges and marks as `&mut`.
 use crate::tried::Tried;
-use crate::tried::count_number;
+use crate::tried::brought_number;
+use crate::tried::expired_number;
+use crate::tried::removed_number;
+use crate::tried::used_number;
 use crate::world::Lists;
 use crate::world::Short;
 use crate::world::World;
@@ -39,6 +42,7 @@ pub fn store_insert(
     let pin_count = old.pin_count;
     let mut marks = old.marks;
     let bytes = old.bytes;
+    let mut books = old.books;
     let parent_long = lens.parent;
     let depth_long = lens.depth;
     let len_long = lens.len;
@@ -57,6 +61,7 @@ pub fn store_insert(
     let pin_count_long = lens.pin_count;
     let marks_long = lens.marks;
     let bytes_long = lens.bytes;
+    let books_long = lens.books;
     let mut out_node = lists.out_node;
     let mut out_start = lists.out_start;
     let mut out_end = lists.out_end;
@@ -88,21 +93,19 @@ pub fn store_insert(
         &pin_count[..pin_count_long],
         &mut marks[..marks_long],
         &bytes[..bytes_long],
+        &mut books[..books_long],
         &mut out_node[..out_node_long],
         &mut out_start[..out_start_long],
         &mut out_end[..out_end_long],
         &mut out_write[..out_write_long],
         &mut out_bytes[..out_bytes_long],
         &mut out_dead[..out_dead_long],
-        old.small,
         s,
         sp,
         time,
         w,
     );
-    let small = r.small;
-    let answer = r.answer;
-    let number = count_number(answer);
+    let number = brought_number(r);
     let mut world = old;
     world.node = node;
     world.start = start;
@@ -112,7 +115,7 @@ pub fn store_insert(
     world.touched = touched;
     world.write = write;
     world.marks = marks;
-    world.small = small;
+    world.books = books;
     let mut after = lists;
     after.out_node = out_node;
     after.out_start = out_start;
@@ -167,6 +170,7 @@ pub fn store_used(
     let pin_count = old.pin_count;
     let mut marks = old.marks;
     let bytes = old.bytes;
+    let mut books = old.books;
     let parent_long = lens.parent;
     let depth_long = lens.depth;
     let len_long = lens.len;
@@ -185,6 +189,7 @@ pub fn store_used(
     let pin_count_long = lens.pin_count;
     let marks_long = lens.marks;
     let bytes_long = lens.bytes;
+    let books_long = lens.books;
     let r = usedarray::store_used(
         &parent[..parent_long],
         &depth[..depth_long],
@@ -204,16 +209,14 @@ pub fn store_used(
         &pin_count[..pin_count_long],
         &mut marks[..marks_long],
         &bytes[..bytes_long],
-        old.small,
+        &mut books[..books_long],
         s,
         spans,
         n,
         time,
         counted,
     );
-    let small = r.small;
-    let answer = r.answer;
-    let number = count_number(answer);
+    let number = used_number(r);
     let mut world = old;
     world.node = node;
     world.start = start;
@@ -223,7 +226,7 @@ pub fn store_used(
     world.touched = touched;
     world.write = write;
     world.marks = marks;
-    world.small = small;
+    world.books = books;
     Tried {
         number,
         world,
@@ -258,6 +261,7 @@ pub fn store_expire(
     let pin_count = old.pin_count;
     let mut marks = old.marks;
     let bytes = old.bytes;
+    let mut books = old.books;
     let mut out_node = lists.out_node;
     let mut out_start = lists.out_start;
     let mut out_end = lists.out_end;
@@ -289,20 +293,18 @@ pub fn store_expire(
         &pin_count,
         &mut marks,
         &bytes,
+        &mut books,
         &mut out_node[..out_node_long],
         &mut out_start[..out_start_long],
         &mut out_end[..out_end_long],
         &mut out_write[..out_write_long],
         &mut out_bytes[..out_bytes_long],
         &mut out_dead[..out_dead_long],
-        old.small,
         s,
         time,
         seconds,
     );
-    let small = r.small;
-    let answer = r.answer;
-    let number = count_number(answer);
+    let number = expired_number(r);
     let mut world = old;
     world.node = node;
     world.start = start;
@@ -312,7 +314,7 @@ pub fn store_expire(
     world.touched = touched;
     world.write = write;
     world.marks = marks;
-    world.small = small;
+    world.books = books;
     let mut after = lists;
     after.out_node = out_node;
     after.out_start = out_start;
@@ -347,6 +349,7 @@ pub fn store_remove(old: World, lists: Lists, short: Short, s: usize, sp: Span) 
     let pin_count = old.pin_count;
     let mut marks = old.marks;
     let bytes = old.bytes;
+    let mut books = old.books;
     let mut writes = lists.writes;
     let writes_long = places.writes;
     let r = radix::store_remove(
@@ -368,14 +371,12 @@ pub fn store_remove(old: World, lists: Lists, short: Short, s: usize, sp: Span) 
         &pin_count,
         &mut marks,
         &bytes,
+        &mut books,
         &mut writes[..writes_long],
-        old.small,
         s,
         sp,
     );
-    let small = r.small;
-    let answer = r.answer;
-    let number = count_number(answer);
+    let number = removed_number(r);
     let mut world = old;
     world.node = node;
     world.start = start;
@@ -385,7 +386,7 @@ pub fn store_remove(old: World, lists: Lists, short: Short, s: usize, sp: Span) 
     world.touched = touched;
     world.write = write;
     world.marks = marks;
-    world.small = small;
+    world.books = books;
     let mut after = lists;
     after.writes = writes;
     Tried {

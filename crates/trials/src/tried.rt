@@ -3,9 +3,13 @@ use crate::world::Lists;
 use crate::world::World;
 use radix::Count;
 use radix::Inserted;
+use radix::Looked;
 use radix::Plain;
-use radix::Reading;
 use radix::Resolved;
+use radix::StoreExpired;
+use radix::StoreInserted;
+use radix::StoreRemoved;
+use radix::StoreUsed;
 
 // The refusal's number, 0 where there was none; state and lists afterwards.
 pub struct Tried {
@@ -42,14 +46,41 @@ pub fn resolved_number(a: Resolved) -> u64 {
 pub fn inserted_number(a: Inserted) -> u64 {
     match a {
         Inserted::Refused(n) => wide(n),
-        Inserted::Whole(_) => 0,
-        Inserted::Split(_, _) => 0,
+        Inserted::Done(_) => 0,
     }
 }
 
-pub fn reading_number(a: Reading) -> u64 {
+pub fn brought_number(a: StoreInserted) -> u64 {
     match a {
-        Reading::Refused(n) => wide(n),
-        Reading::Done(_, _) => 0,
+        StoreInserted::Refused(n) => wide(n),
+        StoreInserted::Done(_) => 0,
+    }
+}
+
+pub fn used_number(a: StoreUsed) -> u64 {
+    match a {
+        StoreUsed::Refused(n) => wide(n),
+        StoreUsed::Done(_) => 0,
+    }
+}
+
+pub fn removed_number(a: StoreRemoved) -> u64 {
+    match a {
+        StoreRemoved::Refused(n) => wide(n),
+        StoreRemoved::Done(_) => 0,
+    }
+}
+
+pub fn expired_number(a: StoreExpired) -> u64 {
+    match a {
+        StoreExpired::Refused(n) => wide(n),
+        StoreExpired::Done(_) => 0,
+    }
+}
+
+pub fn looked_number(a: Looked) -> u64 {
+    match a {
+        Looked::Refused(n) => wide(n),
+        Looked::Done(_) => 0,
     }
 }

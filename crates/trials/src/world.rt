@@ -1,9 +1,8 @@
 // The state as one value, so that a trial works on a copy and the old one stays to compare with; and how long each pool and list is lent.
-use radix::Small;
 ghost use Prim.Native.Nat.{_≤_};
 ghost use Rattle.trials.specs.Within.{LensWithin, PlacesWithin};
 
-// The pools at the sizes of 01, and the small numbers.
+// The pools at the sizes of 01; the small numbers have room for more, as any pool may.
 pub struct World {
     pub parent: [usize; 256],
     pub depth: [usize; 256],
@@ -23,7 +22,7 @@ pub struct World {
     pub pin_count: [u64; 256],
     pub marks: [usize; 2048],
     pub bytes: [u64; 1025],
-    pub small: Small,
+    pub books: [u64; 256],
 }
 
 // The answer lists at the sizes of 01.
@@ -69,6 +68,7 @@ pub struct Lens {
     pub pin_count: usize,
     pub marks: usize,
     pub bytes: usize,
+    pub books: usize,
 }
 
 // How much of each answer list is lent.
@@ -104,6 +104,7 @@ fn lent(n: usize, short: usize, k: usize) -> usize
 pub fn pool_lens(w: World, short: usize) -> Lens
     ensures { λ r. ⌜ LensWithin r w ⌝ }
 {
+    let numbers = radix::books_size();
     Lens {
         parent: lent(256, short, 1),
         depth: lent(256, short, 2),
@@ -123,6 +124,7 @@ pub fn pool_lens(w: World, short: usize) -> Lens
         pin_count: lent(256, short, 16),
         marks: lent(2048, short, 17),
         bytes: lent(1025, short, 18),
+        books: lent(numbers, short, 19),
     }
 }
 
@@ -167,7 +169,7 @@ pub fn blank() -> World {
         pin_count: [0u64; 256],
         marks: [0usize; 2048],
         bytes: [0u64; 1025],
-        small: Small { books: [0u64; 69] },
+        books: [0u64; 256],
     }
 }
 

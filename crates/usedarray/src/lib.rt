@@ -1,12 +1,11 @@
 // The public call that touches spans, for a caller that has them in an array: the first of them are lent as a list.
-use answers::Counted;
-use lent::Small;
+use answers::StoreUsed;
 use model::Span;
 ghost use mathlib.Core.Path.{_≡_};
 ghost use Prim.Native.Nat.{_≤_};
 ghost use lib.ListN.{take};
 ghost use Rattle.model.specs.Calls.{storeUsed};
-ghost use Rattle.answers.specs.Answers.{stateFrom, outcome, countOf};
+ghost use Rattle.answers.specs.Answers.{stateFrom, outcome, storeUsedOf};
 
 // Touches the first count spans in store s, in turn, and answers the bytes read; or refuses all of them.
 pub fn store_used(
@@ -28,15 +27,15 @@ pub fn store_used(
     pin_count: &[u64],
     marks: &mut [usize],
     bytes: &[u64],
-    x: Small,
+    books: &mut [u64],
     s: usize,
     spans: [Span; 65],
     count: usize,
     time: f64,
     counted: bool,
-) -> Counted
+) -> StoreUsed
     requires { ⌜ count ≤ 65 ⌝ }
-    ensures { λ r. ⌜ outcome (stateFrom (now (parent .entry)) (now (depth .entry)) (now (len .entry)) (now (run .entry)) (now (words .entry)) (now (node .exit)) (now (start .exit)) (now (end .exit)) (now (id .exit)) (now (stamp .exit)) (now (touched .exit)) (now (write .exit)) (now («pin_node» .entry)) (now («pin_start» .entry)) (now («pin_end» .entry)) (now («pin_count» .entry)) (now (marks .exit)) (now (bytes .entry)) (r .small)) tt (countOf (r .answer)) ≡ storeUsed (stateFrom (now (parent .entry)) (now (depth .entry)) (now (len .entry)) (now (run .entry)) (now (words .entry)) (now (node .entry)) (now (start .entry)) (now (end .entry)) (now (id .entry)) (now (stamp .entry)) (now (touched .entry)) (now (write .entry)) (now («pin_node» .entry)) (now («pin_start» .entry)) (now («pin_end» .entry)) (now («pin_count» .entry)) (now (marks .entry)) (now (bytes .entry)) x) s (take count spans) time counted ⌝ }
+    ensures { λ r. ⌜ outcome (stateFrom (now (parent .entry)) (now (depth .entry)) (now (len .entry)) (now (run .entry)) (now (words .entry)) (now (node .exit)) (now (start .exit)) (now (end .exit)) (now (id .exit)) (now (stamp .exit)) (now (touched .exit)) (now (write .exit)) (now («pin_node» .entry)) (now («pin_start» .entry)) (now («pin_end» .entry)) (now («pin_count» .entry)) (now (marks .exit)) (now (bytes .entry)) (now (books .exit))) tt (storeUsedOf r) ≡ storeUsed (stateFrom (now (parent .entry)) (now (depth .entry)) (now (len .entry)) (now (run .entry)) (now (words .entry)) (now (node .entry)) (now (start .entry)) (now (end .entry)) (now (id .entry)) (now (stamp .entry)) (now (touched .entry)) (now (write .entry)) (now («pin_node» .entry)) (now («pin_start» .entry)) (now («pin_end» .entry)) (now («pin_count» .entry)) (now (marks .entry)) (now (bytes .entry)) (now (books .entry))) s (take count spans) time counted ⌝ }
 {
     publicused::store_used(
         parent,
@@ -57,7 +56,7 @@ pub fn store_used(
         pin_count,
         marks,
         bytes,
-        x,
+        books,
         s,
         &spans[..count],
         time,

@@ -11,6 +11,7 @@ use lib.Dec.{leb}
 use lib.Ieee.{Float}
 use borrow.Author.Tests.{leb-true, leb-false}
 use Rattle.model.specs.declared.Span.{Span}
+use Rattle.model.specs.declared.TouchAnswer.{TouchAnswer}
 use Rattle.model.specs.State.{State, at, storesOf}
 use Rattle.model.specs.Sound.{Sound}
 use Rattle.model.specs.Refusals.{First, noSpan, storeUsedRefusals}
@@ -70,15 +71,15 @@ module _ {on from upto : List ℕ} (p : length from ≡ length on) (q : length u
 -- ---- more than 64
 
 module _ (st : State) (sound : Sound st) (s : ℕ) (sps : List Span) (time : Float) (counted : Bool) (many : 64 < length sps) where
-  refused-is : (n : ℕ) → First (storeUsedRefusals st s sps time counted) (suc n) → outcome {L = NoList} {A = ℕ} st tt (refused (suc n)) ≡ storeUsed st s sps time counted
+  refused-is : (n : ℕ) → First (storeUsedRefusals st s sps time counted) (suc n) → outcome {L = NoList} {A = TouchAnswer} st tt (refused (suc n)) ≡ storeUsed st s sps time counted
   unfolding storeUsed touchSpans bytesTouched
   refused-is n f = rw (first-is (storeUsedRefusals st s sps time counted) (storeUsed-exact st s sps time counted) (suc n) f)
 
-  pub too-many-is : {n : ℕ} → n ≡ tooMany (leb (storesOf st) s) → outcome {L = NoList} {A = ℕ} st tt (refused n) ≡ storeUsed st s sps time counted
+  pub too-many-is : {n : ℕ} → n ≡ tooMany (leb (storesOf st) s) → outcome {L = NoList} {A = TouchAnswer} st tt (refused n) ≡ storeUsed st s sps time counted
   too-many-is {n} e = go (leb (storesOf st) s) refl e
     where
       go : (b : Bool) → leb (storesOf st) s ≡ b → n ≡ tooMany b
-          → outcome {L = NoList} {A = ℕ} st tt (refused n) ≡ storeUsed st s sps time counted
+          → outcome {L = NoList} {A = TouchAnswer} st tt (refused n) ≡ storeUsed st s sps time counted
       go true t e = ap (λ (k : ℕ). outcome st tt (refused k)) e ∙ refused-is 1 (inr (λ n. n sound, inl (leb-true _ _ t, refl)))
       go false t e =
           ap (λ (k : ℕ). outcome st tt (refused k)) e ∙ refused-is 2 (inr (λ n. n sound, inr (λ l. omega (arith, leb-false (storesOf st) s t), inl (many, refl))))

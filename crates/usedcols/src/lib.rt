@@ -1,7 +1,5 @@
 // Touch with the spans in three lent lists, one for each number of a span, for callers that have no slice of spans.
-use answers::Count;
-use answers::Counted;
-use lent::Small;
+use answers::StoreUsed;
 use model::Span;
 ghost use mathlib.Core.Path.{_≡_};
 ghost use Prim.Native.Nat.{_≤_};
@@ -9,7 +7,7 @@ ghost use lib.ListN.{length, take};
 ghost use lib.Dec.{leb};
 ghost use Rattle.model.specs.Sound.{Sound};
 ghost use Rattle.model.specs.Calls.{storeUsed};
-ghost use Rattle.answers.specs.Answers.{stateFrom, outcome, countOf};
+ghost use Rattle.answers.specs.Answers.{stateFrom, outcome, storeUsedOf};
 ghost use Rattle.usedcols.specs.Spans.{spansOf, tooMany};
 
 // The spans in front of an array.
@@ -64,23 +62,21 @@ pub fn store_used(
     pin_count: &[u64],
     marks: &mut [usize],
     bytes: &[u64],
-    x: Small,
+    books: &mut [u64],
     s: usize,
     on: &[usize],
     from: &[usize],
     upto: &[usize],
     time: f64,
     counted: bool,
-) -> Counted
-    requires { ⌜ Sound (stateFrom (now parent) (now depth) (now len) (now run) (now words) (now node) (now start) (now end) (now id) (now stamp) (now touched) (now write) (now «pin_node») (now «pin_start») (now «pin_end») (now «pin_count») (now marks) (now bytes) x) × (length (now from) ≡ length (now on)) × (length (now upto) ≡ length (now on)) ⌝ }
-    ensures { λ r. ⌜ outcome (stateFrom (now (parent .entry)) (now (depth .entry)) (now (len .entry)) (now (run .entry)) (now (words .entry)) (now (node .exit)) (now (start .exit)) (now (end .exit)) (now (id .exit)) (now (stamp .exit)) (now (touched .exit)) (now (write .exit)) (now («pin_node» .entry)) (now («pin_start» .entry)) (now («pin_end» .entry)) (now («pin_count» .entry)) (now (marks .exit)) (now (bytes .entry)) (r .small)) tt (countOf (r .answer)) ≡ storeUsed (stateFrom (now (parent .entry)) (now (depth .entry)) (now (len .entry)) (now (run .entry)) (now (words .entry)) (now (node .entry)) (now (start .entry)) (now (end .entry)) (now (id .entry)) (now (stamp .entry)) (now (touched .entry)) (now (write .entry)) (now («pin_node» .entry)) (now («pin_start» .entry)) (now («pin_end» .entry)) (now («pin_count» .entry)) (now (marks .entry)) (now (bytes .entry)) x) s (spansOf (now (on .entry)) (now (from .entry)) (now (upto .entry))) time counted ⌝ }
+) -> StoreUsed
+    requires { ⌜ Sound (stateFrom (now parent) (now depth) (now len) (now run) (now words) (now node) (now start) (now end) (now id) (now stamp) (now touched) (now write) (now «pin_node») (now «pin_start») (now «pin_end») (now «pin_count») (now marks) (now bytes) (now books)) × (length (now from) ≡ length (now on)) × (length (now upto) ≡ length (now on)) ⌝ }
+    ensures { λ r. ⌜ outcome (stateFrom (now (parent .entry)) (now (depth .entry)) (now (len .entry)) (now (run .entry)) (now (words .entry)) (now (node .exit)) (now (start .exit)) (now (end .exit)) (now (id .exit)) (now (stamp .exit)) (now (touched .exit)) (now (write .exit)) (now («pin_node» .entry)) (now («pin_start» .entry)) (now («pin_end» .entry)) (now («pin_count» .entry)) (now (marks .exit)) (now (bytes .entry)) (now (books .exit))) tt (storeUsedOf r) ≡ storeUsed (stateFrom (now (parent .entry)) (now (depth .entry)) (now (len .entry)) (now (run .entry)) (now (words .entry)) (now (node .entry)) (now (start .entry)) (now (end .entry)) (now (id .entry)) (now (stamp .entry)) (now (touched .entry)) (now (write .entry)) (now («pin_node» .entry)) (now («pin_start» .entry)) (now («pin_end» .entry)) (now («pin_count» .entry)) (now (marks .entry)) (now (bytes .entry)) (now (books .entry))) s (spansOf (now (on .entry)) (now (from .entry)) (now (upto .entry))) time counted ⌝ }
 {
     let n = on.len();
     if 64 < n {
-        return Counted {
-            small: x,
-            answer: Count::Refused(too_many(x.books[2] as usize, s)),
-        };
+        let stores = books[2] as usize;
+        return StoreUsed::Refused(too_many(stores, s));
     }
     let spans = spans_of(on, from, upto);
     known::store_used_array(
@@ -102,7 +98,7 @@ pub fn store_used(
         pin_count,
         marks,
         bytes,
-        x,
+        books,
         s,
         spans,
         n,

@@ -2,19 +2,19 @@
 use Prim.Native.Nat.{ℕ}
 use mathlib.Core.Path.{_≡_}
 use mathlib.Core.Bool.{Bool, true, false}
+use mathlib.Core.List.{List}
 use lib.Ieee.{Float}
-use Rattle.model.specs.State.{State, nodesIn}
+use Rattle.model.specs.State.{State}
 use Rattle.model.specs.Sound.{Sound}
 use Rattle.model.specs.Words.{Says}
-use Rattle.lent.specs.declared.Small.{Small}
 use Rattle.usedspan.specs.declared.Turn.{Turn}
 use Rattle.usedspan.specs.Turn.{Begun}
 
 pub record Stopped (y : Turn) : Type 0 where
-  pub refused : y .refused ≡ 1
-  pub nodes : nodesIn (y .small .books) ≡ 0
+  pub number : y .run .number ≡ 1
+  pub nodes : y .nodes ≡ 0
 
-pub record Started (st : State) (x : Small) (s n : ℕ) (time : Float) (counted : Bool) (y : Turn) : Type 0 where
+pub record Started (st : State) (x : List ℕ) (s n : ℕ) (time : Float) (counted : Bool) (y : Turn) : Type 0 where
   pub tested : Bool
   pub says : Says tested (Sound st)
   pub begun : tested ≡ true → Begun x s n time counted y

@@ -1,22 +1,25 @@
 // Before the spans of a touch are looked at: the test for 1, then the tests that need no span.
-use lent::Small;
+use usedspan::Run;
 use usedspan::Turn;
 ghost use mathlib.Core.Path.{_≡_};
 ghost use Rattle.answers.specs.Answers.{stateFrom};
 ghost use Rattle.usedlist.specs.Started.{Stopped, Started};
 
 // A touch that is refused, 1. It has no node, so that a look at its spans looks no node up.
-fn stop(x: Small, s: usize, n: usize, time: f64, counted: bool) -> Turn
+fn stop(s: usize, time: f64, counted: bool) -> Turn
     ensures { λ y. ⌜ Stopped y ⌝ }
 {
-    let mut small = x;
-    small.books[0] = 0;
-    let mut y = usedspan::begin(small, s, n, time, counted);
-    y.refused = 1;
-    y
+    let run = Run {
+        n: 0,
+        top: 0,
+        next: 0,
+        sum: 0,
+        number: 1,
+    };
+    usedspan::fresh(0, false, run, s, time, counted)
 }
 
-// A touch of store s with n spans, before the first: 1, 2, 3, 5 or none. The pools come as they go.
+// A touch of store s with n spans, before the first: 1, 2, 3, 5 or none. The lent lists come as they go.
 pub fn start_touch(
     parent: &[usize],
     depth: &[usize],
@@ -36,13 +39,13 @@ pub fn start_touch(
     pin_count: &[u64],
     marks: &mut [usize],
     bytes: &[u64],
-    x: Small,
+    books: &mut [u64],
     s: usize,
     n: usize,
     time: f64,
     counted: bool,
 ) -> Turn
-    ensures { λ y. ⌜ Started (stateFrom (now (parent .entry)) (now (depth .entry)) (now (len .entry)) (now (run .entry)) (now (words .entry)) (now (node .entry)) (now (start .entry)) (now (end .entry)) (now (id .entry)) (now (stamp .entry)) (now (touched .entry)) (now (write .entry)) (now («pin_node» .entry)) (now («pin_start» .entry)) (now («pin_end» .entry)) (now («pin_count» .entry)) (now (marks .entry)) (now (bytes .entry)) x) x s n time counted y × (now (node .exit) ≡ now (node .entry)) × (now (start .exit) ≡ now (start .entry)) × (now (end .exit) ≡ now (end .entry)) × (now (id .exit) ≡ now (id .entry)) × (now (stamp .exit) ≡ now (stamp .entry)) × (now (touched .exit) ≡ now (touched .entry)) × (now (write .exit) ≡ now (write .entry)) × (now (marks .exit) ≡ now (marks .entry)) ⌝ }
+    ensures { λ y. ⌜ Started (stateFrom (now (parent .entry)) (now (depth .entry)) (now (len .entry)) (now (run .entry)) (now (words .entry)) (now (node .entry)) (now (start .entry)) (now (end .entry)) (now (id .entry)) (now (stamp .entry)) (now (touched .entry)) (now (write .entry)) (now («pin_node» .entry)) (now («pin_start» .entry)) (now («pin_end» .entry)) (now («pin_count» .entry)) (now (marks .entry)) (now (bytes .entry)) (now (books .entry))) (now (books .entry)) s n time counted y × (now (node .exit) ≡ now (node .entry)) × (now (start .exit) ≡ now (start .entry)) × (now (end .exit) ≡ now (end .entry)) × (now (id .exit) ≡ now (id .entry)) × (now (stamp .exit) ≡ now (stamp .entry)) × (now (touched .exit) ≡ now (touched .entry)) × (now (write .exit) ≡ now (write .entry)) × (now (marks .exit) ≡ now (marks .entry)) × (now (books .exit) ≡ now (books .entry)) ⌝ }
 {
     if sound::sound_state(
         parent,
@@ -63,9 +66,9 @@ pub fn start_touch(
         pin_count,
         marks,
         bytes,
-        x,
+        books,
     ) {
-        return usedspan::begin(x, s, n, time, counted);
+        return usedspan::begin(books, s, n, time, counted);
     }
-    stop(x, s, n, time, counted)
+    stop(s, time, counted)
 }

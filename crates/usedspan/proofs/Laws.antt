@@ -1,4 +1,5 @@
--- The laws of one turn over variables: what a turn is refused for, a touch on the pools, the small numbers after it, and the turn as a whole. Assumes nothing.
+-- The laws of one turn over variables: what a turn is refused for, a touch on the pools, the small numbers after it, and the turn as a whole; what is
+-- read before the turns and written after them. Assumes nothing.
 use Prim.Native.Nat.{ℕ, zero, suc, _+_, _-_, _*_, _≤_, _<_, min, max}
 use mathlib.Core.Path.{_≡_, refl, sym, ap, subst, _∙_}
 use mathlib.Core.Bool.{Bool, true, false, _||_}
@@ -11,19 +12,18 @@ use lib.Dec.{ltb, leb, eqb}
 use lib.Ieee.{Float}
 use mir.Val.{Fits}
 use mir.Syntax.{w64}
-use borrow.Author.Tests.{lt-ltb, le-ltb, le-leb, lt-leb, eq-eqb, ne-eqb, ltb-false}
+use borrow.Author.Tests.{lt-ltb, le-ltb, le-leb, lt-leb, eq-eqb, ne-eqb, ltb-false, leb-false}
 use Rattle.model.specs.declared.Span.{Span}
 use Rattle.model.specs.declared.Book.{Book}
 use Rattle.model.specs.Sizes.{storeRecords, storeMarks, maxStamp, maxSpans, maxBytes}
-use Rattle.model.specs.State.{Tree, Ranges, Pins, State, Range, nextIdIn, stallsIn, bookIn, nextIdOf, bookOf, recordsOf, stampOf, refreshes as renews}
+use Rattle.model.specs.State.{Tree, Ranges, Pins, State, Range, nodesIn, storesIn, nextIdIn, stallsIn, bookIn, storesOf, nextIdOf, recordsOf, stampOf, refreshes as renews}
 use Rattle.model.specs.Words.{Says}
 use Rattle.model.specs.Sound.{Sound, RangesLent, Finite}
 use Rattle.model.specs.SoundTest.{finite}
-use Rattle.model.specs.Store.{Store, storeOf, ranges, lay, layRanges, layBook, layNext, withRanges, withNext, meets, put}
+use Rattle.model.specs.Store.{Store, storeOf, ranges, lay, layRanges, layBook, layNext, ranged, withRanges, withNext, meets, put}
 use Rattle.model.specs.Touch.{Touched, overlapped, heldBytes, oneInside, markRead, bytesRead, renew, split, refresh, touchHits, touch}
 use Rattle.model.specs.Refusals.{SpanIn, touchedBy, touchSpan}
 use Rattle.refuse.proofs.Laws.{finite-is}
-use Rattle.lent.specs.declared.Small.{Small}
 use Rattle.parts.specs.Parts.{mid, back, midRanges, backRanges}
 use Rattle.parts.proofs.Parts.{mid-long, ranges-part, ranges-back, ranges-sized}
 use Rattle.kept.specs.StoreSound.{RangesSound, StoreSound}
@@ -44,7 +44,25 @@ use Rattle.undo.specs.declared.Old.{Old}
 use Rattle.undo.specs.Old.{oldRanges, oldFrom}
 use Rattle.usedspan.specs.declared.Turn.{Turn}
 use Rattle.usedspan.specs.declared.Run.{Run}
-use Rattle.usedspan.specs.Turn.{Others, whole, pick, firstNumber, four, looked, refusing, turnNumber, Placed, Judged, PoolReady, TouchedAt, renumbered, smallFor, keptOld, undone, TurnTaken, TurnReady, Ready, Taken, Gone, Turned, runOn, stopRun, smallWith, RunAt, Ran}
+use Rattle.usedspan.specs.Turn.{Others, whole, renumbered, booksWith, Stands, pick, firstNumber, Fresh, Begun, four, stopRun, looked, refusing, turnNumber, Placed, Judged, PoolReady, TouchedAt, runOn, RunAt, Ran, keptOld, TurnAt, Turned}
+
+-- ---- the small numbers
+
+-- the numbers that were read stand
+pub stands-read : (s : ℕ) (x : List ℕ) (b : Book) → b ≡ bookIn x s
+    → Stands s (renews b) x (record { n = b .records; top = b .stamp; next = nextIdIn x; sum = 0; number = 0 })
+stands-read s x b e =
+    record {
+      records = ap (λ (q : Book). q .records) e;
+      on = ap (λ (q : Book). renews q) e;
+      stamp = ap (λ (q : Book). q .stamp) e;
+      next = refl;
+    }
+
+-- the store's numbers written, then the next id
+pub run-laid : (s : ℕ) (y : Run) (x l r : List ℕ) (b : Book) → b ≡ bookIn x s → l ≡ layBook s (renumbered b (y .n) (y .top)) x
+    → r ≡ layNext (y .next) (stallsIn x) l → r ≡ booksWith s y x
+run-laid s y x l r b e f g = g ∙ ap (layNext (y .next) (stallsIn x)) (f ∙ ap (λ (q : Book). layBook s (renumbered q (y .n) (y .top)) x) e)
 
 -- ---- before the turns
 
@@ -65,6 +83,44 @@ module _ (stores s n : ℕ) (time : Float) where
       let f : finite time ≡ false = sym (finite-is time b says) ∙ e in
       simp (lt-leb stores s h, le-ltb 64 n m, f)
 
+-- nothing was refused: there is such a store
+pub first-less : (stores s n : ℕ) (time : Float) (r : ℕ) → r ≡ firstNumber stores s n time → r ≡ 0 → s < stores
+first-less stores s n time r e z = go (leb stores s) refl (sym e ∙ z)
+  where
+    go : (b : Bool) → leb stores s ≡ b → pick b 2 (pick (ltb 64 n) 3 (pick (finite time) 0 5)) ≡ 0 → s < stores
+    go true f g = absurd (omega arith)
+    go false f g = leb-false stores s f
+
+module _ (x : List ℕ) (s n : ℕ) (time : Float) (counted : Bool) (y : Turn) where
+  pub begun-refused : (k : ℕ) → k ≡ firstNumber (storesIn x) s n time → (k ≡ 0 → ⊥)
+      → Fresh (nodesIn x) false (record { n = 0; top = 0; next = 0; sum = 0; number = k }) s time counted y → Begun x s n time counted y
+  begun-refused k e some f =
+      record {
+        nodes = f .nodes;
+        store = f .store;
+        when = f .when;
+        counts = f .counts;
+        turns = f .turns;
+        sum = ap (λ (z : Run). z .sum) (f .run);
+        number = ap (λ (z : Run). z .number) (f .run) ∙ e;
+        stands = λ z. absurd (some (sym (ap (λ (q : Run). q .number) (f .run)) ∙ z));
+      }
+
+  pub begun-read : (k : ℕ) → k ≡ firstNumber (storesIn x) s n time → k ≡ 0 → (b : Book) → b ≡ bookIn x s
+      → Fresh (nodesIn x) (renews b) (record { n = b .records; top = b .stamp; next = nextIdIn x; sum = 0; number = 0 }) s time counted y
+      → Begun x s n time counted y
+  begun-read k e none b is f =
+      record {
+        nodes = f .nodes;
+        store = f .store;
+        when = f .when;
+        counts = f .counts;
+        turns = f .turns;
+        sum = ap (λ (z : Run). z .sum) (f .run);
+        number = ap (λ (z : Run). z .number) (f .run) ∙ sym none ∙ e;
+        stands = λ z. subst (λ (r : Bool). Stands s r x (y .run)) (sym (f .on)) (subst (λ (q : Run). Stands s (renews b) x q) (sym (f .run)) (stands-read s x b is));
+      }
+
 pub four-none : (n : ℕ) → n ≡ 0 → 4 ≡ four n
 four-none n e = simp (eq-eqb n 0 e)
 
@@ -77,7 +133,7 @@ four-else n o e = simp (ne-eqb n 0 o, ne-eqb n 5 e)
 pub looked-good : (y : Turn) (r s : Bool) → r ≡ s → r ≡ true → y ≡ looked s y
 looked-good y r s e t = ap (λ (b : Bool). looked b y) (sym t ∙ e)
 
-pub looked-bad : (y : Turn) (r s : Bool) (n : ℕ) → r ≡ s → r ≡ false → n ≡ four (y .refused) → refusing n y ≡ looked s y
+pub looked-bad : (y : Turn) (r s : Bool) (n : ℕ) → r ≡ s → r ≡ false → n ≡ four (y .run .number) → refusing n y ≡ looked s y
 looked-bad y r s n e t h = ap (λ (k : ℕ). refusing k y) h ∙ ap (λ (b : Bool). looked b y) (sym t ∙ e)
 
 -- ---- what a turn is refused for
@@ -271,77 +327,67 @@ module _ (t : Tree) (table : List ℕ) (x : Store) (next : ℕ) (sp : Span) (tim
 
 -- ---- what a sound state gives
 
-module _ {sp : Span} {st : State} {y : Turn} (h : TurnReady sp st y) where
-  own : StoreSound (st .tree) (nextIdOf st) (storeOf st (y .s))
-  own = store-sound st (y .s) (h .sound) (h .store)
+module _ (st : State) (s : ℕ) (sp : Span) (h : Sound st) (less : s < storesOf st) (inside : SpanIn (st .tree) sp) where
+  own : StoreSound (st .tree) (nextIdOf st) (storeOf st s)
+  own = store-sound st s h less
 
-  pub in-stores : y .s < 8
-  in-stores = omega (arith, h .store, h .sound .counts .stores)
+  in-stores : s < 8
+  in-stores = omega (arith, h .counts .stores)
 
-  few : recordsOf st (y .s) ≤ 128
-  few = h .sound .counts .each (y .s) (omega arith) (h .store) .records
-
-  top-most : stampOf st (y .s) ≤ maxStamp
-  top-most = h .sound .counts .each (y .s) (omega arith) (h .store) .stamp
-
-  pub pools-ready : (y .s < 8) × RangesLent (st .ranges) × (2048 ≤ length (st .marks))
-  pools-ready = (in-stores, h .sound .lent .ranges, h .sound .lent .marks)
+  few : recordsOf st s ≤ 128
+  few = h .counts .each s (omega arith) less .records
 
   -- the store's ranges stand at the front of its part
-  part-read : ranges (midRanges (128 * y .s) 128 (st .ranges)) 0 (recordsOf st (y .s)) ≡ storeOf st (y .s) .ranges
+  part-read : ranges (midRanges (128 * s) 128 (st .ranges)) 0 (recordsOf st s) ≡ storeOf st s .ranges
   unfolding storeOf
-  part-read = ranges-part (st .ranges) (128 * y .s) 128 (recordsOf st (y .s)) few
+  part-read = ranges-part (st .ranges) (128 * s) 128 (recordsOf st s) few
 
-  part-ordered : Ordered (mid (128 * y .s) 128 (st .ranges .node)) (mid (128 * y .s) 128 (st .ranges .start)) (mid (128 * y .s) 128 (st .ranges .end)) (recordsOf st (y .s))
+  part-ordered : Ordered (mid (128 * s) 128 (st .ranges .node)) (mid (128 * s) 128 (st .ranges .start)) (mid (128 * s) 128 (st .ranges .end)) (recordsOf st s)
   unfolding midRanges
   part-ordered =
-      sound-ordered (st .tree) (nextIdOf st) (storeOf st (y .s) .book .stamp) (recordsOf st (y .s)) (midRanges (128 * y .s) 128 (st .ranges))
-      (ranges-sized (128 * y .s) (st .ranges) (h .sound .lent .ranges) (omega (arith, in-stores))) few
-      (subst (λ rs. RangesSound (st .tree) (nextIdOf st) (storeOf st (y .s) .book .stamp) rs) (sym part-read) (own .ranges))
+      sound-ordered (st .tree) (nextIdOf st) (storeOf st s .book .stamp) (recordsOf st s) (midRanges (128 * s) 128 (st .ranges))
+      (ranges-sized (128 * s) (st .ranges) (h .lent .ranges) (omega (arith, in-stores))) few
+      (subst (λ rs. RangesSound (st .tree) (nextIdOf st) (storeOf st s .book .stamp) rs) (sym part-read) (own .ranges))
 
-  -- b is what was read
-  pub number-ready : (b : Book) → b ≡ bookOf st (y .s)
-      → Placed (y .s) (b .records) (st .ranges .node) (st .ranges .start) (st .ranges .end) × (b .records ≤ 128) × (b .stamp ≤ maxStamp) × (nextIdOf st ≤ maxStamp)
-  number-ready b e =
-      subst (λ (q : Book). Placed (y .s) (q .records) (st .ranges .node) (st .ranges .start) (st .ranges .end) × (q .records ≤ 128) × (q .stamp ≤ maxStamp) × (nextIdOf st ≤ maxStamp)) (sym e) (
-        record { store = in-stores; nodes = h .sound .lent .ranges .node; starts = h .sound .lent .ranges .start; ends = h .sound .lent .ranges .end; order = part-ordered },
-        few,
-        top-most,
-        h .sound .counts .nextId,
-      )
+  number-ready : Placed s (recordsOf st s) (st .ranges .node) (st .ranges .start) (st .ranges .end) × (recordsOf st s ≤ 128) × (stampOf st s ≤ maxStamp) × (nextIdOf st ≤ maxStamp)
+  number-ready = (
+    record { store = in-stores; nodes = h .lent .ranges .node; starts = h .lent .ranges .start; ends = h .lent .ranges .end; order = part-ordered },
+    few,
+    h .counts .each s (omega arith) less .stamp,
+    h .counts .nextId,
+  )
 
   priced : Priced (st .tree .depth) (st .bytes) sp
-  priced = sound-priced st (h .sound) sp (h .span .node) (omega (arith, h .span .filled)) (h .span .ends)
+  priced = sound-priced st h sp (inside .node) (omega (arith, inside .filled)) (inside .ends)
 
-  pub touch-ready : (refreshes : Bool) (r : ℕ) → r ≡ 0
-      → Judged (y .s) (recordsOf st (y .s)) (st .ranges .node) (st .ranges .start) (st .ranges .end) sp refreshes (stampOf st (y .s)) (nextIdOf st) r
-      → PoolReady (st .tree .depth) (st .bytes) (y .s) (recordsOf st (y .s)) (st .ranges) (st .marks) sp refreshes (stampOf st (y .s)) (nextIdOf st)
-  touch-ready refreshes r e j =
-      let f = number-fits (recordsOf st (y .s)) (j .needs .records) (stampOf st (y .s)) (j .needs .stamps) (nextIdOf st) (sym e ∙ j .number) in
-      record {
-        store = in-stores;
-        few = few;
-        ranges = h .sound .lent .ranges;
-        marks = h .sound .lent .marks;
-        order = part-ordered;
-        filled = h .span .filled;
-        node = omega (arith, h .span .node, h .sound .counts .nodes);
-        priced = priced;
-        fits = record { needs = j .needs; are = j .are; records = f .0; stamps = f .1; ids = f .2 };
-      }
+  module _ (refreshes : Bool) (r : ℕ) (e : r ≡ 0) (j : Judged s (recordsOf st s) (st .ranges .node) (st .ranges .start) (st .ranges .end) sp refreshes (stampOf st s) (nextIdOf st) r) where
+    all-fits : (recordsOf st s + j .needs .records ≤ 128) × (stampOf st s + j .needs .stamps ≤ maxStamp) × (nextIdOf st + j .needs .records ≤ maxStamp)
+    all-fits = number-fits (recordsOf st s) (j .needs .records) (stampOf st s) (j .needs .stamps) (nextIdOf st) (sym e ∙ j .number)
 
-  -- what the turn read is little
-  pub count-ready : (refreshes : Bool) (r : ℕ) → r ≡ 0
-      → Judged (y .s) (recordsOf st (y .s)) (st .ranges .node) (st .ranges .start) (st .ranges .end) sp refreshes (stampOf st (y .s)) (nextIdOf st) r
-      → renews (storeOf st (y .s) .book) ≡ refreshes → (used : Used) (c : Ranges) (ms : List ℕ)
-      → TouchedAt (y .s) (touchedBy st (y .s) sp (y .time) (y .counted)) (recordsOf st (y .s)) (st .ranges) (st .marks) c ms used
-      → (y .s < 8) × (stampOf st (y .s) + used .stamps ≤ maxStamp) × (nextIdOf st + used .need ≤ maxStamp) × (y .turns < 64) × (y .sum + used .bytes < 18446744073709551616)
-  unfolding midRanges
-  count-ready refreshes r e j re used c ms u =
-      let f = number-fits (recordsOf st (y .s)) (j .needs .records) (stampOf st (y .s)) (j .needs .stamps) (nextIdOf st) (sym e ∙ j .number) in
-      let k = j .are (mid (128 * y .s) 128 (st .ranges .id)) (mid (128 * y .s) 128 (st .ranges .stamp)) (mid (128 * y .s) 128 (st .ranges .write)) (mid (128 * y .s) 128 (st .ranges .touched)) (st .tree) (st .bytes) (storeOf st (y .s)) (nextIdOf st) (y .time) (y .counted) (sym part-read) re in
-      let b = touch-bytes-most (st .tree) (st .bytes) (storeOf st (y .s)) (nextIdOf st) sp (y .time) (y .counted) priced (own .few) in
-      (in-stores, omega (arith, f .1, k .1, u .stamps), omega (arith, f .2, k .0, u .need), h .turns, omega (arith, h .sum, h .turns, b, u .bytes))
+    touch-ready : PoolReady (st .tree .depth) (st .bytes) s (recordsOf st s) (st .ranges) (st .marks) sp refreshes (stampOf st s) (nextIdOf st)
+    touch-ready =
+        record {
+          store = in-stores;
+          few = few;
+          ranges = h .lent .ranges;
+          marks = h .lent .marks;
+          order = part-ordered;
+          filled = inside .filled;
+          node = omega (arith, inside .node, h .counts .nodes);
+          priced = priced;
+          fits = record { needs = j .needs; are = j .are; records = all-fits .0; stamps = all-fits .1; ids = all-fits .2 };
+        }
+
+    -- what the turn read is little
+    count-ready : renews (storeOf st s .book) ≡ refreshes → (time : Float) (counted : Bool) (used : Used) (c : Ranges) (ms : List ℕ)
+        → TouchedAt s (touchedBy st s sp time counted) (recordsOf st s) (st .ranges) (st .marks) c ms used
+        → (stampOf st s + used .stamps ≤ maxStamp) × (nextIdOf st + used .need ≤ maxStamp) × (used .bytes ≤ 128 * maxBytes)
+    unfolding midRanges
+    count-ready re time counted used c ms u =
+        let f = all-fits in
+        let k = j .are (mid (128 * s) 128 (st .ranges .id)) (mid (128 * s) 128 (st .ranges .stamp)) (mid (128 * s) 128 (st .ranges .write)) (mid (128 * s) 128 (st .ranges .touched)) (st .tree) (st .bytes) (storeOf st s) (nextIdOf st) time counted (sym part-read) re in
+        let b = touch-bytes-most (st .tree) (st .bytes) (storeOf st s) (nextIdOf st) sp time counted priced (own .few) in
+        (omega (arith, f .1, k .1, u .stamps), omega (arith, f .2, k .0, u .need), omega (arith, b, u .bytes))
 
 -- ---- the state after a turn
 
@@ -351,17 +397,6 @@ stateWith t c p ms table l = record { tree = t; ranges = c; pins = p; marks = ms
 state-eq : {t : Tree} {c c′ : Ranges} {p : Pins} {m m′ table l l′ : List ℕ} → c ≡ c′ → m ≡ m′ → l ≡ l′ → stateWith t c p m table l ≡ stateWith t c′ p m′ table l′
 state-eq f g h = cc
 
-book-eq : {b d : Book} → b .capacity ≡ d .capacity → b .policy ≡ d .policy → b .records ≡ d .records → b .held ≡ d .held → b .stamp ≡ d .stamp
-    → b .version ≡ d .version → b .entries ≡ d .entries → b .pinned ≡ d .pinned → b ≡ d
-book-eq p q r s t u v w =
-    (λ i. record { capacity = p i; policy = q i; records = r i; held = s i; stamp = t i; version = u i; entries = v i; pinned = w i })
-
-pub small-laid : (s n top next : ℕ) (x r : Small) (l : List ℕ) (b : Book) → b ≡ bookIn (x .books) s → l ≡ layBook s (renumbered b n top) (x .books)
-    → r .books ≡ layNext next (stallsIn (x .books)) l → r ≡ smallFor s n top next x
-small-laid s n top next x r l b e f g =
-    let k = g ∙ ap (layNext next (stallsIn (x .books))) (f ∙ ap (λ (q : Book). layBook s (renumbered q n top) (x .books)) e) in
-    (λ i. record { books = k i })
-
 -- a touch of the store x, as the definition lays it, and as the turn leaves the small numbers
 books-touched : (s : ℕ) (used : Used) (w : Touched) (x : Store) (l : List ℕ) → x .book ≡ bookIn l s → Steady x (w .store)
     → w .store .book .records ≡ length (w .store .ranges) → w .store .book .held ≡ x .book .held → w .store .book .version ≡ x .book .version
@@ -370,7 +405,7 @@ books-touched : (s : ℕ) (used : Used) (w : Touched) (x : Store) (l : List ℕ)
     ≡ layNext (nextIdIn l + w .need) (stallsIn l) (layBook s (w .store .book) l)
 books-touched s used w x l e k counted held version stamp n need stamps =
     let f : renumbered (x .book) (used .n) (x .book .stamp + used .stamps) ≡ w .store .book =
-    book-eq (sym (k .capacity)) (sym (k .policy)) (n ∙ sym counted) (sym held) (ap (λ (m : ℕ). x .book .stamp + m) stamps ∙ sym stamp) (sym version) (sym (k .entries)) (sym (k .pinned)) in
+    (λ i. ranged (x .book) ((n ∙ sym counted) i) (sym held i) ((ap (λ (m : ℕ). x .book .stamp + m) stamps ∙ sym stamp) i) (sym version i)) ∙ sym (k .book) in
     let g = ap (λ (b : Book). renumbered b (used .n) (b .stamp + used .stamps)) (sym e) ∙ f in
     (λ i. layNext (nextIdIn l + need i) (stallsIn l) (layBook s (g i) l))
 
@@ -378,237 +413,207 @@ full : (a w : ℕ) (xs pool : List ℕ) → length xs ≡ w → back a w xs pool
 unfolding lay
 full a w xs pool e = let z : w - length xs ≡ 0 = omega arith in rw z (ap (λ t. take a pool ++ (xs ++ t)) (drop-drop w a pool))
 
--- ---- the turn as a whole
+-- ---- a turn with no part kept
 
-pub idle-turn : {sp : Span} {st : State} {y : Turn} → (y .refused ≡ 0 → ⊥) → Turned sp st y st y
-idle-turn n = record { idle = λ l. (refl, refl); gone = λ e. absurd (n e) }
-
-module _ (sp : Span) (depth bytes : List ℕ) (c : Ranges) (ms : List ℕ) (y : Turn) (p : Ready sp depth bytes c ms y) (go : y .refused ≡ 0) where
-  abbrev ready : TurnReady sp (whole (p .others) depth bytes c ms (y .small)) y
-  ready = p .ready go
-
-  abbrev next₀ : ℕ
-  next₀ = nextIdIn (y .small .books)
-
-  -- what the calls say of a turn where b was read, and of the turn itself
-  abbrev JudgedBy : Book → ℕ → Type 0
-  JudgedBy b r = Judged (y .s) (b .records) (c .node) (c .start) (c .end) sp (renews b) (b .stamp) next₀ r
-
-  abbrev TouchedFrom : Book → Ranges → List ℕ → Used → Type 0
-  TouchedFrom b c′ ms′ used =
-      (t : Tree) (x : Store) → t .depth ≡ depth → x .ranges ≡ ranges c (128 * y .s) (b .records) → x .book .stamp ≡ b .stamp → renews (x .book) ≡ renews b
-      → x .marks ≡ mid (256 * y .s) 256 ms → TouchedAt (y .s) (touch t bytes x next₀ sp (y .time) (y .counted)) (b .records) c ms c′ ms′ used
+module _ (o : Others) (x : List ℕ) (sp : Span) (depth bytes : List ℕ) (c : Ranges) (ms : List ℕ) (s : ℕ) (refreshes : Bool) (y : Run) (time : Float) (counted : Bool)
+    (h : RunAt o x sp depth bytes c ms s refreshes y) where
+  abbrev st : State
+  st = whole o depth bytes c ms x
 
   abbrev book₀ : Book
-  book₀ = bookIn (y .small .books) (y .s)
+  book₀ = bookIn x s
 
-  abbrev JudgedHere : ℕ → Type 0
-  JudgedHere r = JudgedBy book₀ r
+  abbrev next₀ : ℕ
+  next₀ = nextIdIn x
 
-  module _ (o : Others) where
-    abbrev st : State
-    st = whole o depth bytes c ms (y .small)
+  abbrev w : Touched
+  w = touchedBy st s sp time counted
 
-    abbrev w : Touched
-    w = touchedBy st (y .s) sp (y .time) (y .counted)
+  abbrev x₀ : Store
+  x₀ = storeOf st s
 
-    store-read : storeOf st (y .s) .ranges ≡ ranges c (128 * y .s) (book₀ .records)
-    unfolding storeOf
-    store-read = refl
-
-    store-on : renews (storeOf st (y .s) .book) ≡ renews book₀
-    unfolding storeOf
-    store-on = refl
-
-    needs-here : (r : ℕ) (j : JudgedHere r) → (j .needs .records ≡ w .need) × (j .needs .stamps ≡ w .stamps)
-    unfolding midRanges
-    needs-here r j =
-        j .are (mid (128 * y .s) 128 (c .id)) (mid (128 * y .s) 128 (c .stamp)) (mid (128 * y .s) 128 (c .write)) (mid (128 * y .s) 128 (c .touched)) (st .tree) bytes (storeOf st (y .s)) next₀ (y .time) (y .counted)
-        (store-read ∙ sym (ranges-part c (128 * y .s) 128 (book₀ .records) (few ready))) store-on
-
-    number-here : (r : ℕ) → JudgedHere r → r ≡ turnNumber (book₀ .records) (w .need) (book₀ .stamp) (w .stamps) next₀
-    number-here r j = let k = needs-here r j in j .number ∙ (λ i. turnNumber (book₀ .records) (k .0 i) (book₀ .stamp) (k .1 i) next₀)
-
-  refused-here : (number : ℕ) (old : Old) (r : Turn) (c′ : Ranges) (ms′ : List ℕ) → (number ≡ 0 → ⊥) → JudgedHere number
-      → old ≡ keptOld (y .turns) (y .old) (y .s) c ms → r ≡ refusing number y
-      → c′ ≡ backRanges (128 * y .s) 128 (oldRanges old) c → ms′ ≡ back (256 * y .s) 256 (old .marks) ms
-      → (o : Others) → Turned sp (whole o depth bytes c ms (y .small)) y (whole o depth bytes c′ ms′ (r .small)) r
-  refused-here number old r c′ ms′ some j kept is ec em o =
-      subst (λ (q : Turn). Turned sp (whole o depth bytes c ms (y .small)) y (whole o depth bytes c′ ms′ (q .small)) q) (sym is)
-      (record {
-        idle = λ l. absurd (omega arith);
-        gone = λ e.
-            record {
-              store = refl;
-              when = refl;
-              counts = refl;
-              number = number-here o number j;
-              stopped = λ l.
-                  state-eq (ec ∙ ap (λ (q : Old). backRanges (128 * y .s) 128 (oldRanges q) c) kept)
-                  (em ∙ ap (λ (q : Old). back (256 * y .s) 256 (q .marks) ms) kept) refl;
-              taken = λ z. absurd (some z);
-            };
-      })
-
-  module _ (o : Others) (used : Used) (small : Small) (c′ : Ranges) (ms′ : List ℕ) (u : TouchedAt (y .s) (w o) (book₀ .records) c ms c′ ms′ used)
-      (q : small ≡ smallFor (y .s) (used .n) (book₀ .stamp + used .stamps) (next₀ + used .need) (y .small)) where
-    abbrev x₀ : Store
-    x₀ = storeOf (st o) (y .s)
-
-    marks-here : length (x₀ .marks) ≡ 256
-    unfolding storeOf
-    marks-here = mid-long (256 * y .s) 256 ms (omega (arith, in-stores ready, ready .sound .lent .marks))
-
-    books-here : smallFor (y .s) (used .n) (book₀ .stamp + used .stamps) (next₀ + used .need) (y .small) .books
-        ≡ layNext (next₀ + w o .need) (stallsIn (y .small .books)) (layBook (y .s) (w o .store .book) (y .small .books))
-    books-here =
-        books-touched (y .s) used (w o) x₀ (y .small .books) (store-book (st o) (y .s))
-        (touch-steady (st o .tree) bytes x₀ next₀ sp (y .time) (y .counted))
-        (touch-counted (st o .tree) bytes x₀ next₀ sp (y .time) (y .counted))
-        (touch-held (st o .tree) bytes x₀ next₀ sp (y .time) (y .counted))
-        (touch-version (st o .tree) bytes x₀ next₀ sp (y .time) (y .counted))
-        (touch-stamp (st o .tree) bytes x₀ next₀ sp (y .time) (y .counted)) (u .records) (u .need) (u .stamps)
-
-    state-here : whole o depth bytes c′ ms′ small ≡ touchSpan (st o) (y .s) sp (y .time) (y .counted)
-    unfolding touchSpan withRanges withNext layNext layBook
-    state-here =
-        ap (λ (a : Small). whole o depth bytes c′ ms′ a) q
-        ∙ state-eq (u .cols)
-        (u .marks ∙ full (256 * y .s) 256 (w o .store .marks) ms (touch-marks-long (st o .tree) bytes x₀ next₀ sp (y .time) (y .counted) ∙ marks-here))
-        books-here
-
-  taken-here : (number : ℕ) (old : Old) (used : Used) (r : Turn) (c′ : Ranges) (ms′ : List ℕ) → number ≡ 0 → JudgedHere number
-      → old ≡ keptOld (y .turns) (y .old) (y .s) c ms → TouchedFrom book₀ c′ ms′ used → TurnTaken y old used (book₀ .stamp) r
-      → (o : Others) → Turned sp (whole o depth bytes c ms (y .small)) y (whole o depth bytes c′ ms′ (r .small)) r
-  unfolding storeOf
-  taken-here number old used r c′ ms′ none j kept touched k o =
-      let u = touched (st o .tree) (storeOf (st o) (y .s)) refl refl refl refl refl in
-      record {
-        idle = λ l. absurd (omega arith);
-        gone = λ e.
-            record {
-              store = k .store;
-              when = k .when;
-              counts = k .counts;
-              number = k .refused ∙ sym none ∙ number-here o number j;
-              stopped = λ l. absurd (omega (arith, k .refused));
-              taken = λ z.
-                  record {
-                    state = state-here o used (r .small) c′ ms′ u (k .small);
-                    old = k .old ∙ kept;
-                    turns = k .turns;
-                    sum = k .sum ∙ ap (λ (b : ℕ). y .sum + b) (u .bytes);
-                  };
-            };
-      }
-
-  count-here : (number : ℕ) (used : Used) (c′ : Ranges) (ms′ : List ℕ) → number ≡ 0 → JudgedHere number → TouchedFrom book₀ c′ ms′ used
-      → (y .s < 8) × (book₀ .stamp + used .stamps ≤ maxStamp) × (next₀ + used .need ≤ maxStamp) × (y .turns < 64) × (y .sum + used .bytes < 18446744073709551616)
-  unfolding storeOf
-  count-here number used c′ ms′ none j touched =
-      count-ready ready (renews book₀) number none j refl used c′ ms′ (touched (st (p .others) .tree) (storeOf (st (p .others)) (y .s)) refl refl refl refl refl)
-
-  -- the same of the numbers that were read
-  module _ (b : Book) (is : b ≡ bookIn (y .small .books) (y .s)) (number : ℕ) (j : JudgedBy b number) where
-    judged-here : JudgedHere number
-    judged-here = subst (λ (q : Book). JudgedBy q number) is j
-
-    pub refused-turn : (old : Old) (r : Turn) (c′ : Ranges) (ms′ : List ℕ) → (number ≡ 0 → ⊥)
-        → old ≡ keptOld (y .turns) (y .old) (y .s) c ms → r ≡ refusing number y
-        → c′ ≡ backRanges (128 * y .s) 128 (oldRanges old) c → ms′ ≡ back (256 * y .s) 256 (old .marks) ms
-        → (o : Others) → Turned sp (whole o depth bytes c ms (y .small)) y (whole o depth bytes c′ ms′ (r .small)) r
-    refused-turn old r c′ ms′ some = refused-here number old r c′ ms′ some judged-here
-
-    pub touch-asks : number ≡ 0 → PoolReady depth bytes (y .s) (b .records) c ms sp (renews b) (b .stamp) next₀
-    touch-asks none =
-        subst (λ (q : Book). PoolReady depth bytes (y .s) (q .records) c ms sp (renews q) (q .stamp) next₀) (sym is)
-        (touch-ready ready (renews book₀) number none judged-here)
-
-    module _ (used : Used) (c′ : Ranges) (ms′ : List ℕ) (none : number ≡ 0) (touched : TouchedFrom b c′ ms′ used) where
-      touched-here : TouchedFrom book₀ c′ ms′ used
-      touched-here = subst (λ (q : Book). TouchedFrom q c′ ms′ used) is touched
-
-      pub taken-asks : (y .s < 8) × (b .stamp + used .stamps ≤ maxStamp) × (next₀ + used .need ≤ maxStamp) × (y .turns < 64) × (y .sum + used .bytes < 18446744073709551616)
-      taken-asks =
-          subst (λ (q : Book). (y .s < 8) × (q .stamp + used .stamps ≤ maxStamp) × (next₀ + used .need ≤ maxStamp) × (y .turns < 64) × (y .sum + used .bytes < 18446744073709551616)) (sym is)
-          (count-here number used c′ ms′ none judged-here touched-here)
-
-      pub taken-turn : (old : Old) (r : Turn) → old ≡ keptOld (y .turns) (y .old) (y .s) c ms → TurnTaken y old used (b .stamp) r
-          → (o : Others) → Turned sp (whole o depth bytes c ms (y .small)) y (whole o depth bytes c′ ms′ (r .small)) r
-      taken-turn old r kept k =
-          taken-here number old used r c′ ms′ none judged-here kept touched-here (subst (λ (q : Book). TurnTaken y old used (q .stamp) r) is k)
-
--- ---- a turn with no part kept: the same as that of a touch which would keep it
-
-module _ (o : Others) (x : Small) (sp : Span) (depth bytes : List ℕ) (c : Ranges) (ms : List ℕ) (s : ℕ) (refreshes : Bool) (y : Run) (time : Float) (counted : Bool)
-    (h : RunAt o x sp depth bytes c ms s refreshes y) where
-  abbrev before : State
-  before = whole o depth bytes c ms x
-
-  abbrev turn : Turn
-  turn = record { small = x; old = oldFrom s c ms; s = s; time = time; counted = counted; turns = 63; sum = y .sum; refused = 0 }
-
-  turn-ready : TurnReady sp before turn
-  turn-ready = record { sound = h .sound; store = h .store; span = h .span; turns = omega arith; sum = h .sum }
-
-  can-turn : Ready sp depth bytes c ms turn
-  can-turn = record { others = o; ready = λ e. turn-ready }
-
+  -- what the calls say of the turn, by the numbers of the run and by those of the list
   abbrev JudgedRun : ℕ → Type 0
   JudgedRun r = Judged s (y .n) (c .node) (c .start) (c .end) sp refreshes (y .top) (y .next) r
+
+  abbrev JudgedHere : ℕ → Type 0
+  JudgedHere r = Judged s (book₀ .records) (c .node) (c .start) (c .end) sp (renews book₀) (book₀ .stamp) next₀ r
 
   abbrev TouchedRun : Ranges → List ℕ → Used → Type 0
   TouchedRun c′ ms′ used =
       (t : Tree) (q : Store) → t .depth ≡ depth → q .ranges ≡ ranges c (128 * s) (y .n) → q .book .stamp ≡ y .top → renews (q .book) ≡ refreshes → q .marks ≡ mid (256 * s) 256 ms
       → TouchedAt s (touch t bytes q (y .next) sp time counted) (y .n) c ms c′ ms′ used
 
-  judged : (r : ℕ) → JudgedRun r → JudgedHere sp depth bytes c ms turn can-turn refl r
+  abbrev TouchedHere : Ranges → List ℕ → Used → Type 0
+  TouchedHere c′ ms′ used = TouchedAt s w (book₀ .records) c ms c′ ms′ used
+
+  judged : (r : ℕ) → JudgedRun r → JudgedHere r
   judged r j = rw (h .stands .records, h .stands .on, h .stands .stamp, h .stands .next) at j
 
-  touched-run : (c′ : Ranges) (ms′ : List ℕ) (used : Used) → TouchedRun c′ ms′ used
-      → TouchedFrom sp depth bytes c ms turn can-turn refl (bookIn (x .books) s) c′ ms′ used
-  touched-run c′ ms′ used u = rw (h .stands .records, h .stands .on, h .stands .stamp, h .stands .next) at u
+  touched-here : (c′ : Ranges) (ms′ : List ℕ) (used : Used) → TouchedRun c′ ms′ used → TouchedHere c′ ms′ used
+  unfolding storeOf
+  touched-here c′ ms′ used u =
+      let v = rw (h .stands .records, h .stands .on, h .stands .stamp, h .stands .next) at u in
+      v (st .tree) x₀ refl refl refl refl refl
+
+  store-read : x₀ .ranges ≡ ranges c (128 * s) (book₀ .records)
+  unfolding storeOf
+  store-read = refl
+
+  store-on : renews (x₀ .book) ≡ renews book₀
+  unfolding storeOf
+  store-on = refl
+
+  number-here : (r : ℕ) → JudgedHere r → r ≡ turnNumber (book₀ .records) (w .need) (book₀ .stamp) (w .stamps) next₀
+  unfolding midRanges
+  number-here r j =
+      let k =
+      j .are (mid (128 * s) 128 (c .id)) (mid (128 * s) 128 (c .stamp)) (mid (128 * s) 128 (c .write)) (mid (128 * s) 128 (c .touched)) (st .tree) bytes x₀ next₀ time counted
+      (store-read ∙ sym (ranges-part c (128 * s) 128 (book₀ .records) (few st s sp (h .sound) (h .store) (h .span)))) store-on in
+      j .number ∙ (λ i. turnNumber (book₀ .records) (k .0 i) (book₀ .stamp) (k .1 i) next₀)
 
   pub run-asks-number : Placed s (y .n) (c .node) (c .start) (c .end) × (y .n ≤ 128) × (y .top ≤ maxStamp) × (y .next ≤ maxStamp)
-  run-asks-number = rw (h .stands .records, h .stands .stamp, h .stands .next) (number-ready turn-ready (bookIn (x .books) s) refl)
+  run-asks-number = rw (h .stands .records, h .stands .stamp, h .stands .next) (number-ready st s sp (h .sound) (h .store) (h .span))
 
   pub run-asks-touch : (r : ℕ) → r ≡ 0 → JudgedRun r → PoolReady depth bytes s (y .n) c ms sp refreshes (y .top) (y .next)
   run-asks-touch r e j =
-      rw (h .stands .records, h .stands .on, h .stands .stamp, h .stands .next) (touch-ready turn-ready (renews (bookIn (x .books) s)) r e (judged r j))
+      rw (h .stands .records, h .stands .on, h .stands .stamp, h .stands .next)
+      (touch-ready st s sp (h .sound) (h .store) (h .span) (renews book₀) r e (judged r j))
 
   pub run-asks-on : (r : ℕ) (c′ : Ranges) (ms′ : List ℕ) (used : Used) → r ≡ 0 → JudgedRun r → TouchedRun c′ ms′ used
       → (y .top + used .stamps ≤ maxStamp) × (y .next + used .need ≤ maxStamp) × (y .sum + used .bytes < 18446744073709551616)
   run-asks-on r c′ ms′ used e j u =
-      let k = count-here sp depth bytes c ms turn can-turn refl r used c′ ms′ e (judged r j) (touched-run c′ ms′ used u) in
-      (rw (h .stands .stamp) (k .1), rw (h .stands .next) (k .2), k .4)
+      let k = count-ready st s sp (h .sound) (h .store) (h .span) (renews book₀) r e (judged r j) store-on time counted used c′ ms′ (touched-here c′ ms′ used u) in
+      (rw (h .stands .stamp) (k .0), rw (h .stands .next) (k .1), omega (arith, k .2, h .sum))
 
-  pub run-refused : (k : ℕ) (r : Run) → r ≡ stopRun k y → (k ≡ 0 → ⊥) → JudgedRun k → Ran sp s time counted before y (whole o depth bytes c ms (smallWith s r x)) r
+  pub run-refused : (k : ℕ) (r : Run) → r ≡ stopRun k y → (k ≡ 0 → ⊥) → JudgedRun k → Ran sp s time counted st y (whole o depth bytes c ms (booksWith s r x)) r
   run-refused k r is n j =
       let e = ap (λ (q : Run). q .number) is in
       record {
-        number = e ∙ number-here sp depth bytes c ms turn can-turn refl o k (judged k j);
+        number = e ∙ number-here k (judged k j);
         stopped = λ l. (refl, refl);
         taken = λ z. absurd (n (sym e ∙ z));
         sum = λ z. absurd (n (sym e ∙ z));
       }
 
-  settled-run : (used : Used)
-      → smallWith s (runOn y used) x ≡ smallFor s (used .n) (bookIn (x .books) s .stamp + used .stamps) (nextIdIn (x .books) + used .need) x
-  settled-run used =
-      let e = h .stands .stamp in
-      let f = h .stands .next in
-      (λ i. smallFor s (used .n) (e i + used .stamps) (f i + used .need) x)
+  module _ (used : Used) (c′ : Ranges) (ms′ : List ℕ) (u : TouchedHere c′ ms′ used) where
+    marks-here : length (x₀ .marks) ≡ 256
+    unfolding storeOf
+    marks-here = mid-long (256 * s) 256 ms (omega (arith, in-stores st s sp (h .sound) (h .store) (h .span), h .sound .lent .marks))
+
+    books-here : booksWith s (runOn y used) x ≡ layNext (next₀ + w .need) (stallsIn x) (layBook s (w .store .book) x)
+    books-here =
+        let e = h .stands .stamp in
+        let f = h .stands .next in
+        (λ i. layNext (f i + used .need) (stallsIn x) (layBook s (renumbered book₀ (used .n) (e i + used .stamps)) x))
+        ∙ books-touched s used w x₀ x (store-book st s)
+        (touch-steady (st .tree) bytes x₀ next₀ sp time counted)
+        (touch-counted (st .tree) bytes x₀ next₀ sp time counted)
+        (touch-held (st .tree) bytes x₀ next₀ sp time counted)
+        (touch-version (st .tree) bytes x₀ next₀ sp time counted)
+        (touch-stamp (st .tree) bytes x₀ next₀ sp time counted) (u .records) (u .need) (u .stamps)
+
+    state-here : whole o depth bytes c′ ms′ (booksWith s (runOn y used) x) ≡ touchSpan st s sp time counted
+    unfolding touchSpan withRanges withNext layNext layBook
+    state-here =
+        state-eq (u .cols)
+        (u .marks ∙ full (256 * s) 256 (w .store .marks) ms (touch-marks-long (st .tree) bytes x₀ next₀ sp time counted ∙ marks-here))
+        books-here
 
   pub run-taken : (k : ℕ) (c′ : Ranges) (ms′ : List ℕ) (used : Used) (r : Run) → r ≡ runOn y used → k ≡ 0 → JudgedRun k → TouchedRun c′ ms′ used
-      → Ran sp s time counted before y (whole o depth bytes c′ ms′ (smallWith s r x)) r
-  unfolding storeOf
+      → Ran sp s time counted st y (whole o depth bytes c′ ms′ (booksWith s r x)) r
   run-taken k c′ ms′ used r is none j v =
-      let u = touched-run c′ ms′ used v (before .tree) (storeOf before s) refl refl refl refl refl in
-      subst (λ (q : Run). Ran sp s time counted before y (whole o depth bytes c′ ms′ (smallWith s q x)) q) (sym is)
+      let u = touched-here c′ ms′ used v in
+      subst (λ (q : Run). Ran sp s time counted st y (whole o depth bytes c′ ms′ (booksWith s q x)) q) (sym is)
       (record {
-        number = sym none ∙ number-here sp depth bytes c ms turn can-turn refl o k (judged k j);
+        number = sym none ∙ number-here k (judged k j);
         stopped = λ l. absurd (omega arith);
-        taken = λ z.
-            state-here sp depth bytes c ms turn can-turn refl o used (smallWith s (runOn y used) x) c′ ms′ u (settled-run used);
+        taken = λ z. state-here used c′ ms′ u;
         sum = λ z. ap (λ (b : ℕ). y .sum + b) (u .bytes);
       })
+
+-- ---- a turn of a touch that keeps the store's part
+
+-- the columns, as long as they were
+pub record AsLong (c₀ : Ranges) (ms₀ : List ℕ) (c : Ranges) (ms : List ℕ) : Type 0 where
+  pub node : length (c .node) ≡ length (c₀ .node)
+  pub start : length (c .start) ≡ length (c₀ .start)
+  pub end : length (c .end) ≡ length (c₀ .end)
+  pub id : length (c .id) ≡ length (c₀ .id)
+  pub stamp : length (c .stamp) ≡ length (c₀ .stamp)
+  pub touched : length (c .touched) ≡ length (c₀ .touched)
+  pub write : length (c .write) ≡ length (c₀ .write)
+  pub marks : length ms ≡ length ms₀
+
+pub as-long : (c : Ranges) (ms : List ℕ) → AsLong c ms c ms
+as-long c ms = record { node = refl; start = refl; end = refl; id = refl; stamp = refl; touched = refl; write = refl; marks = refl }
+
+pub lent-still : {s : ℕ} {c₀ c : Ranges} {ms₀ ms : List ℕ} → AsLong c₀ ms₀ c ms → (s < 8) × RangesLent c₀ × (2048 ≤ length ms₀)
+    → (s < 8) × RangesLent c × (2048 ≤ length ms)
+lent-still a l = (
+  l .0,
+  record {
+    node = omega (arith, a .node, l .1 .node);
+    start = omega (arith, a .start, l .1 .start);
+    end = omega (arith, a .end, l .1 .end);
+    id = omega (arith, a .id, l .1 .id);
+    stamp = omega (arith, a .stamp, l .1 .stamp);
+    touched = omega (arith, a .touched, l .1 .touched);
+    write = omega (arith, a .write, l .1 .write);
+  },
+  omega (arith, a .marks, l .2),
+)
+
+pub turn-asks : {o : Others} {x : List ℕ} {sp : Span} {depth bytes : List ℕ} {c : Ranges} {ms : List ℕ} {y : Turn} → TurnAt o x sp depth bytes c ms y
+    → (y .s < 8) × RangesLent c × (2048 ≤ length ms)
+turn-asks h = (omega (arith, h .run .store, h .run .sound .counts .stores), h .run .sound .lent .ranges, h .run .sound .lent .marks)
+
+module _ (o : Others) (x : List ℕ) (sp : Span) (depth bytes : List ℕ) (c : Ranges) (ms : List ℕ) (y : Turn) where
+  abbrev after : Old → Run → Turn
+  after old r =
+      record { nodes = y .nodes; refreshes = y .refreshes; run = r; old = old; s = y .s; time = y .time; counted = y .counted; turns = y .turns + 1 }
+
+  pub idle-turn : (y .run .number ≡ 0 → ⊥) → Turned sp (whole o depth bytes c ms x) y (whole o depth bytes c ms (booksWith (y .s) (y .run) x)) y
+  idle-turn n = record { idle = λ l. (refl, refl, refl); gone = λ e. absurd (n e) }
+
+  module _ (go : y .run .number ≡ 0) (old : Old) (kept : old ≡ keptOld (y .turns) (y .old) (y .s) c ms) (c₁ : Ranges) (ms₁ : List ℕ) (r : Run)
+      (ran : Ran sp (y .s) (y .time) (y .counted) (whole o depth bytes c ms x) (y .run) (whole o depth bytes c₁ ms₁ (booksWith (y .s) r x)) r) where
+    pub taken-turn : r .number ≡ 0 → Turned sp (whole o depth bytes c ms x) y (whole o depth bytes c₁ ms₁ (booksWith (y .s) r x)) (after old r)
+    taken-turn none =
+        record {
+          idle = λ l. absurd (omega arith);
+          gone = λ e.
+              record {
+                on = refl;
+                store = refl;
+                when = refl;
+                counts = refl;
+                turns = refl;
+                old = kept;
+                number = ran .number;
+                stopped = λ l. absurd (omega arith);
+                taken = ran .taken;
+                sum = ran .sum;
+              };
+        }
+
+    pub refused-turn : (r .number ≡ 0 → ⊥) → (c′ : Ranges) (ms′ : List ℕ) → c′ ≡ backRanges (128 * y .s) 128 (oldRanges old) c₁ → ms′ ≡ back (256 * y .s) 256 (old .marks) ms₁
+        → Turned sp (whole o depth bytes c ms x) y (whole o depth bytes c′ ms′ (booksWith (y .s) r x)) (after old r)
+    refused-turn some c′ ms′ ec em =
+        record {
+          idle = λ l. absurd (omega arith);
+          gone = λ e.
+              record {
+                on = refl;
+                store = refl;
+                when = refl;
+                counts = refl;
+                turns = refl;
+                old = kept;
+                number = ran .number;
+                stopped = λ l.
+                    (ec ∙ ap (backRanges (128 * y .s) 128 (oldRanges old)) (ran .stopped l .0), em ∙ ap (back (256 * y .s) 256 (old .marks)) (ran .stopped l .1));
+                taken = λ z. absurd (some z);
+                sum = λ z. absurd (some z);
+              };
+        }

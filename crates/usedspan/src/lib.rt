@@ -1,37 +1,22 @@
-use answers::Count;
-use answers::Counted;
-use lent::Small;
+use answers::StoreUsed;
 use model::Span;
+use model::TouchAnswer;
 use touch::Used;
 use undo::Old;
 ghost use mathlib.Core.Path.{_≡_};
-ghost use mathlib.Core.Bool.{true, false};
-ghost use Prim.Native.Nat.{_+_, _*_, _≤_, _<_};
+ghost use mathlib.Core.List.{List};
+ghost use Prim.Native.Nat.{ℕ, _+_, _*_, _≤_, _<_};
 ghost use lib.Dec.{eqb};
 ghost use lib.ListN.{length};
-ghost use Rattle.model.specs.Sizes.{maxStamp};
-ghost use Rattle.model.specs.State.{Tree, nodesIn, nextIdIn};
+ghost use Rattle.model.specs.Sizes.{maxStores, maxNumbers, maxStamp};
+ghost use Rattle.model.specs.State.{Tree, storesIn};
 ghost use Rattle.model.specs.Sound.{RangesLent};
 ghost use Rattle.model.specs.Store.{Store, ranges};
 ghost use Rattle.model.specs.Touch.{touch as touchOf};
 ghost use Rattle.model.specs.Refusals.{spanIn};
 ghost use Rattle.lent.specs.Lent.{rangesOf};
-ghost use Rattle.parts.specs.Parts.{mid, back, backRanges};
-ghost use Rattle.undo.specs.Old.{oldRanges};
-ghost use Rattle.usedspan.specs.Turn.{Others, whole, firstNumber, Begun, four, looked, Placed, Judged, PoolReady, TouchedAt, refusing, keptOld, smallFor, TurnTaken, Finished, Ready, Turned, runOn, smallWith, RunAt, RunReady, Ran};
-
-// A touch between two of its spans: the small numbers that the turns so far left, the store's part before the first of them,
-// the store, the time, whether reads are counted, how many turns there were, the bytes read, and the refusal's number, 0 for none.
-pub struct Turn {
-    pub small: Small,
-    pub old: Old,
-    pub s: usize,
-    pub time: f64,
-    pub counted: bool,
-    pub turns: usize,
-    pub sum: u64,
-    pub refused: u8,
-}
+ghost use Rattle.parts.specs.Parts.{mid};
+ghost use Rattle.usedspan.specs.Turn.{Others, whole, firstNumber, Fresh, Begun, four, looked, Placed, Judged, PoolReady, TouchedAt, keptOld, booksWith, runOn, RunAt, RunReady, Ran, TurnAt, Ready, Turned, Writes, Finished};
 
 // What a touch changes of the small numbers, between two of its spans: the store's records and stamp and the next id; the bytes read;
 // and the refusal's number, 0 for none.
@@ -41,6 +26,19 @@ pub struct Run {
     pub next: u64,
     pub sum: u64,
     pub number: u8,
+}
+
+// A touch between two of its spans: how many nodes there are, whether the store refreshes, what the turns so far left, the store's part before the first
+// of them, the store, the time, whether reads are counted, and how many turns there were.
+pub struct Turn {
+    pub nodes: usize,
+    pub refreshes: bool,
+    pub run: Run,
+    pub old: Old,
+    pub s: usize,
+    pub time: f64,
+    pub counted: bool,
+    pub turns: usize,
 }
 
 // ---- before the turns
@@ -61,9 +59,9 @@ pub fn first_number(stores: usize, s: usize, n: usize, time: f64) -> u8
     5
 }
 
-// A touch of store s with n spans, before the first.
-pub fn begin(x: Small, s: usize, n: usize, time: f64, counted: bool) -> Turn
-    ensures { λ y. ⌜ Begun x s n time counted y ⌝ }
+// A touch of store s before its first turn, with nothing kept.
+pub fn fresh(nodes: usize, refreshes: bool, run: Run, s: usize, time: f64, counted: bool) -> Turn
+    ensures { λ y. ⌜ Fresh nodes refreshes run s time counted y ⌝ }
 {
     let old = Old {
         node: [0usize; 128],
@@ -76,15 +74,44 @@ pub fn begin(x: Small, s: usize, n: usize, time: f64, counted: bool) -> Turn
         marks: [0usize; 256],
     };
     Turn {
-        small: x,
+        nodes,
+        refreshes,
+        run,
         old,
         s,
         time,
         counted,
         turns: 0,
-        sum: 0,
-        refused: first_number(x.books[2] as usize, s, n, time),
     }
+}
+
+// A touch of store s with n spans, before the first. One that is refused reads nothing of the store.
+pub fn begin(books: &[u64], s: usize, n: usize, time: f64, counted: bool) -> Turn
+    requires { ⌜ (maxNumbers ≤ length (now books)) × (storesIn (now books) ≤ maxStores) ⌝ }
+    ensures { λ y. ⌜ Begun (now (books .entry)) s n time counted y ⌝ }
+{
+    let nodes = books[0] as usize;
+    let stores = books[2] as usize;
+    let number = first_number(stores, s, n, time);
+    if number != 0 {
+        let none = Run {
+            n: 0,
+            top: 0,
+            next: 0,
+            sum: 0,
+            number,
+        };
+        return fresh(nodes, false, none, s, time, counted);
+    }
+    let b = books::book_of(books, s);
+    let run = Run {
+        n: b.records,
+        top: b.stamp,
+        next: books[3],
+        sum: 0,
+        number: 0,
+    };
+    fresh(nodes, b.policy == 1, run, s, time, counted)
 }
 
 // 4 goes before 5, and behind 2 and 3.
@@ -102,15 +129,16 @@ pub fn four_first(n: u8) -> u8
 
 // One span looked at: 4, unless it is one of the tree.
 pub fn check_one(sp: Span, len: &[usize], y: Turn) -> Turn
-    requires { ⌜ nodesIn (y .small .books) ≤ length (now len) ⌝ }
-    ensures { λ r. ⌜ ((t : Tree) → t .len ≡ now (len .entry) → t .nodes ≡ nodesIn (y .small .books) → r ≡ looked (spanIn t sp) y) ⌝ }
+    requires { ⌜ y .nodes ≤ length (now len) ⌝ }
+    ensures { λ r. ⌜ ((t : Tree) → t .len ≡ now (len .entry) → t .nodes ≡ y .nodes → r ≡ looked (spanIn t sp) y) ⌝ }
 {
-    let x = y.small;
-    if refuse::span_in(len, x.books[0] as usize, sp) {
+    if refuse::span_in(len, y.nodes, sp) {
         return y;
     }
+    let mut run = y.run;
+    run.number = four_first(run.number);
     let mut z = y;
-    z.refused = four_first(y.refused);
+    z.run = run;
     z
 }
 
@@ -216,21 +244,6 @@ fn touch_pools(
     )
 }
 
-// The small numbers with so many records and this stamp of store s, and this next id.
-pub fn small_for(x: Small, s: usize, n: usize, top: u64, next: u64) -> Small
-    requires { ⌜ s < 8 ⌝ }
-    ensures { λ r. ⌜ r ≡ smallFor s n top next x ⌝ }
-{
-    let mut b = books::book_of(&x.books, s);
-    b.records = n;
-    b.stamp = top;
-    let stalls = x.books[4];
-    let mut r = x;
-    books::put_book(&mut r.books, s, b);
-    books::put_next(&mut r.books, next, stalls);
-    r
-}
-
 // The numbers after a taken turn.
 fn run_on(y: Run, w: Used) -> Run
     requires { ⌜ (y .top + w .stamps ≤ maxStamp) × (y .next + w .need ≤ maxStamp) × (y .sum + w .bytes < 18446744073709551616) ⌝ }
@@ -265,7 +278,7 @@ pub fn one_turn(
     y: Run,
 ) -> Run
     requires { ⌜ RunReady sp (now depth) (now bytes) (rangesOf (now node) (now start) (now end) (now id) (now stamp) (now touched) (now write)) (now marks) s refreshes y ⌝ }
-    ensures { λ r. ⌜ ((o : Others) (x : Small) → RunAt o x sp (now (depth .entry)) (now (bytes .entry)) (rangesOf (now (node .entry)) (now (start .entry)) (now (end .entry)) (now (id .entry)) (now (stamp .entry)) (now (touched .entry)) (now (write .entry))) (now (marks .entry)) s refreshes y → Ran sp s time counted (whole o (now (depth .entry)) (now (bytes .entry)) (rangesOf (now (node .entry)) (now (start .entry)) (now (end .entry)) (now (id .entry)) (now (stamp .entry)) (now (touched .entry)) (now (write .entry))) (now (marks .entry)) x) y (whole o (now (depth .entry)) (now (bytes .entry)) (rangesOf (now (node .exit)) (now (start .exit)) (now (end .exit)) (now (id .exit)) (now (stamp .exit)) (now (touched .exit)) (now (write .exit))) (now (marks .exit)) (smallWith s r x)) r) ⌝ }
+    ensures { λ r. ⌜ ((o : Others) (x : List ℕ) → RunAt o x sp (now (depth .entry)) (now (bytes .entry)) (rangesOf (now (node .entry)) (now (start .entry)) (now (end .entry)) (now (id .entry)) (now (stamp .entry)) (now (touched .entry)) (now (write .entry))) (now (marks .entry)) s refreshes y → Ran sp s time counted (whole o (now (depth .entry)) (now (bytes .entry)) (rangesOf (now (node .entry)) (now (start .entry)) (now (end .entry)) (now (id .entry)) (now (stamp .entry)) (now (touched .entry)) (now (write .entry))) (now (marks .entry)) x) y (whole o (now (depth .entry)) (now (bytes .entry)) (rangesOf (now (node .exit)) (now (start .exit)) (now (end .exit)) (now (id .exit)) (now (stamp .exit)) (now (touched .exit)) (now (write .exit))) (now (marks .exit)) (booksWith s r x)) r) ⌝ }
 {
     let number = turn_number(node, start, end, s, y.n, sp, refreshes, y.top, y.next);
     if number != 0 {
@@ -296,48 +309,7 @@ pub fn one_turn(
     run_on(y, used)
 }
 
-// A turn that is refused: what the earlier ones changed is put back.
-fn refuse_turn(
-    node: &mut [usize],
-    start: &mut [usize],
-    end: &mut [usize],
-    id: &mut [u64],
-    stamp: &mut [u64],
-    touched: &mut [f64],
-    write: &mut [u32],
-    marks: &mut [usize],
-    y: Turn,
-    old: Old,
-    number: u8,
-) -> Turn
-    requires { ⌜ (y .s < 8) × RangesLent (rangesOf (now node) (now start) (now end) (now id) (now stamp) (now touched) (now write)) × (2048 ≤ length (now marks)) ⌝ }
-    ensures { λ r. ⌜ (r ≡ refusing number y) × ((rangesOf (now (node .exit)) (now (start .exit)) (now (end .exit)) (now (id .exit)) (now (stamp .exit)) (now (touched .exit)) (now (write .exit))) ≡ backRanges (128 * y .s) 128 (oldRanges old) (rangesOf (now (node .entry)) (now (start .entry)) (now (end .entry)) (now (id .entry)) (now (stamp .entry)) (now (touched .entry)) (now (write .entry)))) × (now (marks .exit) ≡ back (256 * y .s) 256 (old .marks) (now (marks .entry))) ⌝ }
-{
-    undo::undo(node, start, end, id, stamp, touched, write, marks, y.s, old);
-    let mut z = y;
-    z.refused = number;
-    z
-}
-
-// A turn that is taken, the store's stamp being `top`: the small numbers and the bytes read with it.
-fn take_turn(y: Turn, old: Old, used: Used, top: u64) -> Turn
-    requires { ⌜ (y .s < 8) × (top + used .stamps ≤ maxStamp) × (nextIdIn (y .small .books) + used .need ≤ maxStamp) × (y .turns < 64) × (y .sum + used .bytes < 18446744073709551616) ⌝ }
-    ensures { λ r. ⌜ TurnTaken y old used top r ⌝ }
-{
-    let x = y.small;
-    let next = x.books[3] + used.need as u64;
-    let small = small_for(x, y.s, used.n, top + used.stamps, next);
-    Turn {
-        small,
-        old,
-        s: y.s,
-        time: y.time,
-        counted: y.counted,
-        turns: y.turns + 1,
-        sum: y.sum + used.bytes,
-        refused: 0,
-    }
-}
+// ---- a turn of a touch that keeps the store's part
 
 // One span of a touch, at its turn: nothing once a turn was refused; refused, 8 or 11, with what the earlier turns changed put back; or taken.
 pub fn one(
@@ -355,34 +327,16 @@ pub fn one(
     y: Turn,
 ) -> Turn
     requires { ⌜ Ready sp (now depth) (now bytes) (rangesOf (now node) (now start) (now end) (now id) (now stamp) (now touched) (now write)) (now marks) y ⌝ }
-    ensures { λ r. ⌜ ((o : Others) → Turned sp (whole o (now (depth .entry)) (now (bytes .entry)) (rangesOf (now (node .entry)) (now (start .entry)) (now (end .entry)) (now (id .entry)) (now (stamp .entry)) (now (touched .entry)) (now (write .entry))) (now (marks .entry)) (y .small)) y (whole o (now (depth .entry)) (now (bytes .entry)) (rangesOf (now (node .exit)) (now (start .exit)) (now (end .exit)) (now (id .exit)) (now (stamp .exit)) (now (touched .exit)) (now (write .exit))) (now (marks .exit)) (r .small)) r) ⌝ }
+    ensures { λ r. ⌜ ((o : Others) (x : List ℕ) → (y .run .number ≡ 0 → TurnAt o x sp (now (depth .entry)) (now (bytes .entry)) (rangesOf (now (node .entry)) (now (start .entry)) (now (end .entry)) (now (id .entry)) (now (stamp .entry)) (now (touched .entry)) (now (write .entry))) (now (marks .entry)) y) → Turned sp (whole o (now (depth .entry)) (now (bytes .entry)) (rangesOf (now (node .entry)) (now (start .entry)) (now (end .entry)) (now (id .entry)) (now (stamp .entry)) (now (touched .entry)) (now (write .entry))) (now (marks .entry)) x) y (whole o (now (depth .entry)) (now (bytes .entry)) (rangesOf (now (node .exit)) (now (start .exit)) (now (end .exit)) (now (id .exit)) (now (stamp .exit)) (now (touched .exit)) (now (write .exit))) (now (marks .exit)) (booksWith (y .s) (r .run) x)) r) ⌝ }
 {
-    if y.refused != 0 {
+    let was = y.run;
+    if was.number != 0 {
         return y;
     }
-    let x = y.small;
     let s = y.s;
-    let b = books::book_of(&x.books, s);
-    let refreshes = b.policy == 1;
-    let next = x.books[3];
     let old = keep_first(node, start, end, id, stamp, touched, write, marks, y);
-    let number = turn_number(node, start, end, s, b.records, sp, refreshes, b.stamp, next);
-    if number != 0 {
-        return refuse_turn(
-            node,
-            start,
-            end,
-            id,
-            stamp,
-            touched,
-            write,
-            marks,
-            y,
-            old,
-            number,
-        );
-    }
-    let used = touch_pools(
+    let run = one_turn(
+        sp,
         node,
         start,
         end,
@@ -394,30 +348,52 @@ pub fn one(
         depth,
         bytes,
         s,
-        b.records,
-        sp,
+        y.refreshes,
         y.time,
         y.counted,
-        refreshes,
-        b.stamp,
-        next,
+        was,
     );
-    take_turn(y, old, used, b.stamp)
+    let z = Turn {
+        nodes: y.nodes,
+        refreshes: y.refreshes,
+        run,
+        old,
+        s,
+        time: y.time,
+        counted: y.counted,
+        turns: y.turns + 1,
+    };
+    if run.number == 0 {
+        return z;
+    }
+    undo::undo(node, start, end, id, stamp, touched, write, marks, s, old);
+    z
 }
 
-// The answer, from the small numbers that the touch began with.
-pub fn finish(x: Small, y: Turn) -> Counted
-    ensures { λ r. ⌜ Finished x y r ⌝ }
+// ---- after the turns
+
+// The numbers of a run of store s, and nothing else, written to the small numbers.
+pub fn put_run(books: &mut [u64], s: usize, y: Run)
+    requires { ⌜ (s < maxStores) × (maxNumbers ≤ length (now books)) ⌝ }
+    ensures { λ _. ⌜ now (books .exit) ≡ booksWith s y (now (books .entry)) ⌝ }
 {
-    if y.refused != 0 {
-        return Counted {
-            small: x,
-            answer: Count::Refused(y.refused),
-        };
+    let mut b = books::book_of(books, s);
+    b.records = y.n;
+    b.stamp = y.top;
+    let stalls = books[4];
+    books::put_book(books, s, b);
+    books::put_next(books, y.next, stalls);
+}
+
+// The answer, with the numbers written where nothing was refused.
+pub fn finish(books: &mut [u64], y: Turn) -> StoreUsed
+    requires { ⌜ Writes (now books) y ⌝ }
+    ensures { λ r. ⌜ Finished (now (books .entry)) y (now (books .exit)) r ⌝ }
+{
+    let run = y.run;
+    if run.number != 0 {
+        return StoreUsed::Refused(run.number);
     }
-    let small = y.small;
-    Counted {
-        small,
-        answer: Count::Done(y.sum),
-    }
+    put_run(books, y.s, run);
+    StoreUsed::Done(TouchAnswer { bytes: run.sum })
 }

@@ -1,114 +1,31 @@
--- `books::book_of` meets its contract: each number is read from its place. Assumes nothing.
+-- `books::book_of` meets its contract: the store's row is read, and its book is made of it. Assumes nothing.
+use Prim.Native.Nat.{ℕ}
+use mathlib.Core.Path.{ap, _∙_}
+use mathlib.Core.List.{List}
+use lib.ListN.{take, drop}
 use borrow.Author.Needs.{needs}
+use Rattle.model.specs.Sizes.{storeNumbers}
+use Rattle.model.specs.State.{bookFrom}
 use Rattle.books.proofs.Laws.{book-at}
 use Rattle.books.proofs.book_of.Statement.{statement}
 use Rattle.books.proofs.book_of.Tie as tie
 
-mul-a : tie.Need-mul-a
-mul-a c = search needs
+first-of-requires : tie.Need-first-of-requires
+first-of-requires c κs = search needs
 
-add-a : tie.Need-add-a
-add-a c = search needs
+row-at-requires : tie.Need-row-at-requires
+row-at-requires c κs = search needs
 
-mul-t4 : tie.Need-mul-t4
-mul-t4 c = search needs
-
-element-copy-out-t7 : tie.Need-element-copy-out-t7
-element-copy-out-t7 c = search needs
-
-add-t8 : tie.Need-add-t8
-add-t8 c = search needs
-
-mul-t9 : tie.Need-mul-t9
-mul-t9 c = search needs
-
-element-copy-out-t12 : tie.Need-element-copy-out-t12
-element-copy-out-t12 c = search needs
-
-add-t13 : tie.Need-add-t13
-add-t13 c = search needs
-
-mul-t14 : tie.Need-mul-t14
-mul-t14 c = search needs
-
-element-copy-out-t17 : tie.Need-element-copy-out-t17
-element-copy-out-t17 c = search needs
-
-add-t19 : tie.Need-add-t19
-add-t19 c = search needs
-
-mul-t20 : tie.Need-mul-t20
-mul-t20 c = search needs
-
-element-copy-out-t23 : tie.Need-element-copy-out-t23
-element-copy-out-t23 c = search needs
-
-add-t24 : tie.Need-add-t24
-add-t24 c = search needs
-
-mul-t25 : tie.Need-mul-t25
-mul-t25 c = search needs
-
-element-copy-out-t28 : tie.Need-element-copy-out-t28
-element-copy-out-t28 c = search needs
-
-add-t29 : tie.Need-add-t29
-add-t29 c = search needs
-
-mul-t30 : tie.Need-mul-t30
-mul-t30 c = search needs
-
-element-copy-out-t33 : tie.Need-element-copy-out-t33
-element-copy-out-t33 c = search needs
-
-add-t34 : tie.Need-add-t34
-add-t34 c = search needs
-
-mul-t35 : tie.Need-mul-t35
-mul-t35 c = search needs
-
-element-copy-out-t38 : tie.Need-element-copy-out-t38
-element-copy-out-t38 c = search needs
-
-add-t40 : tie.Need-add-t40
-add-t40 c = search needs
-
-mul-t41 : tie.Need-mul-t41
-mul-t41 c = search needs
-
-element-copy-out-t44 : tie.Need-element-copy-out-t44
-element-copy-out-t44 c = search needs
+book-from-requires : tie.Need-book-from-requires
+book-from-requires c κs = search needs
 
 returns : tie.Need-returns
-returns c = book-at _ _
+returns c =
+    let z = c .before .before .before .before in
+    let l = z .args .books .now in
+    c .book-from .ensures
+    ∙ ap bookFrom (c .before .row-at .ensures ∙ ap (λ (a : ℕ). take storeNumbers (drop a l)) (c .before .before .first-of .ensures))
+    ∙ book-at l (z .args .s)
 
 pub book-of-spec : {M : Type 1} → statement M
-book-of-spec =
-    tie.close
-    (tie.spec
-    mul-a
-    add-a
-    mul-t4
-    element-copy-out-t7
-    add-t8
-    mul-t9
-    element-copy-out-t12
-    add-t13
-    mul-t14
-    element-copy-out-t17
-    add-t19
-    mul-t20
-    element-copy-out-t23
-    add-t24
-    mul-t25
-    element-copy-out-t28
-    add-t29
-    mul-t30
-    element-copy-out-t33
-    add-t34
-    mul-t35
-    element-copy-out-t38
-    add-t40
-    mul-t41
-    element-copy-out-t44
-    returns)
+book-of-spec = tie.close (tie.spec first-of-requires row-at-requires book-from-requires returns)

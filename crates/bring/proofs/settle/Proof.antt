@@ -4,14 +4,14 @@ use Rattle.bring.proofs.Laws.{books-settled}
 use Rattle.bring.proofs.settle.Statement.{statement}
 use Rattle.bring.proofs.settle.Tie as tie
 
-element-copy-out-next : tie.Need-element-copy-out-next
-element-copy-out-next c = search needs
+slice-read-next : tie.Need-slice-read-next
+slice-read-next c = search needs
 
 add-next : tie.Need-add-next
 add-next c = search needs
 
-element-copy-out-stalls-after : tie.Need-element-copy-out-stalls-after
-element-copy-out-stalls-after c = search needs
+slice-read-stalls-after : tie.Need-slice-read-stalls-after
+slice-read-stalls-after c = search needs
 
 stalls-after-requires : tie.Need-stalls-after-requires
 stalls-after-requires c κs = search needs
@@ -28,22 +28,26 @@ put-book-requires c κs = search needs
 put-next-requires : tie.Need-put-next-requires
 put-next-requires c κs = search needs
 
+same-length : tie.Need-same-length
+same-length c = search needs
+
 returns : tie.Need-returns
 returns c =
-    let a = c .before .before .before .before .before .before .before .before .before .args in
-    books-settled (a .s) (a .need) (a .t .n) (a .t .held) (a .t .outs) (a .t .stalled) (a .b) (a .books .now) (c .before .before .put-book .last .0) (c .put-next .last .0) (c .before .before .before .before .before .before .stalls-after .result) (c .before .before .before .before .wrapping-add-u64 .result)
-    (c .before .before .before .before .before .before .stalls-after .ensures) (c .before .before .before .before .wrapping-add-u64 .ensures) (c .before .before .put-book .ensures) (c .put-next .ensures)
+    let a = c .before .before .before .before .before .before .before .before .before .before .before .before .before .before .args in
+    books-settled (a .s) (a .need) (a .t .n) (a .t .held) (a .t .outs) (a .t .stalled) (a .b) (a .books .now) (c .before .before .before .before .before .before .put-book .last .0) (c .before .before .put-next .last .0) (c .before .before .before .before .before .before .before .before .before .before .stalls-after .result) (c .before .before .before .before .before .before .before .before .wrapping-add-u64 .result)
+    (c .before .before .before .before .before .before .before .before .before .before .stalls-after .ensures) (c .before .before .before .before .before .before .before .before .wrapping-add-u64 .ensures) (c .before .before .before .before .before .before .put-book .ensures) (c .before .before .put-next .ensures)
 
 pub settle-spec : {M : Type 1} → statement M
 settle-spec =
     tie.close
     (tie.spec
-    element-copy-out-next
+    slice-read-next
     add-next
-    element-copy-out-stalls-after
+    slice-read-stalls-after
     stalls-after-requires
     add-c
     wrapping-add-u64-requires
     put-book-requires
     put-next-requires
+    same-length
     returns)

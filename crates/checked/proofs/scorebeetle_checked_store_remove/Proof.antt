@@ -1,67 +1,57 @@
--- `checked::scorebeetle_checked_store_remove` meets its contract: the inner call's equation, with the small numbers read from the books and kept in them. Assumes nothing.
-use mathlib.Core.Path.{ap, _∙_}
-use Rattle.model.specs.Calls.{storeRemove}
-use Rattle.answers.specs.Answers.{stateFrom}
-use Rattle.exported.specs.Books.{smallFrom}
-use Rattle.exported.proofs.Telling.{counted, storeRemove-numbered}
+-- `checked::scorebeetle_checked_store_remove` meets its contract: the inner call's equation, its answer told as a number and a list. Assumes nothing.
+use Rattle.answers.specs.Answers.{storeRemovedOf}
+use Rattle.exported.specs.Told.{removeAt, removeValues}
+use Rattle.exported.proofs.Telling.{telling, remove-told, storeRemove-numbered}
 use Rattle.checked.proofs.scorebeetle_checked_store_remove.Statement.{statement}
 use Rattle.checked.proofs.scorebeetle_checked_store_remove.Tie as tie
-
-small-from-requires : tie.Need-small-from-requires
-small-from-requires c κs = tt
 
 store-remove-requires : tie.Need-store-remove-requires
 store-remove-requires c κs = tt
 
-keep-small-requires : tie.Need-keep-small-requires
-keep-small-requires c κs =
-    let z = c .before .before .before .before .before .before .before .before .before .before .before .before .before .before .before .before .before .before .before .before .before .before .before .before .before .before .before .before .before .before .before .before .before .before .before .before .before .before .before .before .before .before .before .before .before .before .before .before .before .before .before in
-    (z .pre .0)
-
-count-requires : tie.Need-count-requires
-count-requires c κs = tt
+store-removed-requires : tie.Need-store-removed-requires
+store-removed-requires c κs = tt
 
 same-length : tie.Need-same-length
-same-length c = c .before .before .before .before .before .before .before .before .before .before .before .before .before .before .before .before .before .before .before .before .before .before .before .store-remove .kept .1 .1 .1 .1 .1 .0
+same-length c = c .before .before .before .before .before .before .before .before .before .before .before .before .before .before .before .before .before .before .before .before .before .before .store-remove .kept .1 .1 .1 .1 .1 .0
 
 same-length-2 : tie.Need-same-length-2
-same-length-2 c = c .before .before .before .before .before .before .before .before .before .before .before .before .before .before .before .before .before .before .before .before .before .before .before .store-remove .kept .1 .1 .1 .1 .1 .1 .0
+same-length-2 c = c .before .before .before .before .before .before .before .before .before .before .before .before .before .before .before .before .before .before .before .before .before .before .store-remove .kept .1 .1 .1 .1 .1 .1 .0
 
 same-length-3 : tie.Need-same-length-3
-same-length-3 c = c .before .before .before .before .before .before .before .before .before .before .before .before .before .before .before .before .before .before .before .before .before .before .before .store-remove .kept .1 .1 .1 .1 .1 .1 .1 .0
+same-length-3 c = c .before .before .before .before .before .before .before .before .before .before .before .before .before .before .before .before .before .before .before .before .before .before .store-remove .kept .1 .1 .1 .1 .1 .1 .1 .0
 
 same-length-4 : tie.Need-same-length-4
-same-length-4 c = c .before .before .before .before .before .before .before .before .before .before .before .before .before .before .before .before .before .before .before .before .before .before .before .store-remove .kept .1 .1 .1 .1 .1 .1 .1 .1 .0
+same-length-4 c = c .before .before .before .before .before .before .before .before .before .before .before .before .before .before .before .before .before .before .before .before .before .before .store-remove .kept .1 .1 .1 .1 .1 .1 .1 .1 .0
 
 same-length-5 : tie.Need-same-length-5
-same-length-5 c = c .before .before .before .before .before .before .before .before .before .before .before .before .before .before .before .before .before .before .before .before .before .before .before .store-remove .kept .1 .1 .1 .1 .1 .1 .1 .1 .1 .0
+same-length-5 c = c .before .before .before .before .before .before .before .before .before .before .before .before .before .before .before .before .before .before .before .before .before .before .store-remove .kept .1 .1 .1 .1 .1 .1 .1 .1 .1 .0
 
 same-length-6 : tie.Need-same-length-6
-same-length-6 c = c .before .before .before .before .before .before .before .before .before .before .before .before .before .before .before .before .before .before .before .before .before .before .before .store-remove .kept .1 .1 .1 .1 .1 .1 .1 .1 .1 .1 .0
+same-length-6 c = c .before .before .before .before .before .before .before .before .before .before .before .before .before .before .before .before .before .before .before .before .before .before .store-remove .kept .1 .1 .1 .1 .1 .1 .1 .1 .1 .1 .0
 
 same-length-7 : tie.Need-same-length-7
-same-length-7 c = c .before .before .before .before .before .before .before .before .before .before .before .before .before .before .before .before .before .before .before .before .before .before .before .store-remove .kept .1 .1 .1 .1 .1 .1 .1 .1 .1 .1 .1 .0
+same-length-7 c = c .before .before .before .before .before .before .before .before .before .before .before .before .before .before .before .before .before .before .before .before .before .before .store-remove .kept .1 .1 .1 .1 .1 .1 .1 .1 .1 .1 .1 .0
 
 same-length-8 : tie.Need-same-length-8
-same-length-8 c = c .before .before .before .before .before .before .before .before .before .before .before .before .before .before .before .before .before .before .before .before .before .before .before .store-remove .kept .1 .1 .1 .1 .1 .1 .1 .1 .1 .1 .1 .1 .1 .1 .1 .1 .0
+same-length-8 c = c .before .before .before .before .before .before .before .before .before .before .before .before .before .before .before .before .before .before .before .before .before .before .store-remove .kept .1 .1 .1 .1 .1 .1 .1 .1 .1 .1 .1 .1 .1 .1 .1 .1 .0
 
 same-length-9 : tie.Need-same-length-9
-same-length-9 c = c .before .before .before .before .before .before .before .before .before .before .before .before .before .before .before .before .before .before .before .before .before .before .before .store-remove .kept .1 .1 .1 .1 .1 .1 .1 .1 .1 .1 .1 .1 .1 .1 .1 .1 .1 .1 .0
+same-length-9 c = c .before .before .before .before .before .before .before .before .before .before .before .before .before .before .before .before .before .before .before .before .before .before .store-remove .kept .1 .1 .1 .1 .1 .1 .1 .1 .1 .1 .1 .1 .1 .1 .1 .1 .1 .1 .0
+
+same-length-10 : tie.Need-same-length-10
+same-length-10 c = c .before .before .before .before .before .before .before .before .before .before .before .before .before .before .before .before .before .before .before .before .before .before .store-remove .kept .1 .1 .1 .1 .1 .1 .1 .1 .1 .1 .1 .1 .1 .1 .1 .1 .1 .1 .1 .0
 
 returns : tie.Need-returns
 returns c =
-    let z = c .before .before .before .before .before .before .before .before .before .before .before .before .before .before .before .before .before .before .before .before .before .before .before .before .before .before .before .before .before .before .before .before .before .before .before .before .before .before .before .before .before .before .before .before .before .before .before .before .before .before .before .before .before .before in
-    let k = c .before .before .before .before .before .before .before .before .before .before .before .before .before .before .before .before .before .before .before .before .before .before .before .store-remove in
-    counted (k .last .1 .1 .1 .1 .1 .1 .1 .1 .1 .1 .1 .1 .1 .1 .1 .1 .1 .1 .0) (λ t. stateFrom (z .args .parent .now) (z .args .depth .now) (z .args .len .now) (z .args .run .now) (z .args .words .now) (k .last .1 .1 .1 .1 .1 .0) (k .last .1 .1 .1 .1 .1 .1 .0) (k .last .1 .1 .1 .1 .1 .1 .1 .0) (k .last .1 .1 .1 .1 .1 .1 .1 .1 .0) (k .last .1 .1 .1 .1 .1 .1 .1 .1 .1 .0) (k .last .1 .1 .1 .1 .1 .1 .1 .1 .1 .1 .0) (k .last .1 .1 .1 .1 .1 .1 .1 .1 .1 .1 .1 .0) (z .args .pin-node .now) (z .args .pin-start .now) (z .args .pin-end .now) (z .args .pin-count .now) (k .last .1 .1 .1 .1 .1 .1 .1 .1 .1 .1 .1 .1 .1 .1 .1 .1 .0) (z .args .bytes .now) t) (k .result .answer) (z .args .answer .now) (k .ensures ∙ ap (λ t. storeRemove (stateFrom (z .args .parent .now) (z .args .depth .now) (z .args .len .now) (z .args .run .now) (z .args .words .now) (z .args .node .now) (z .args .start .now) (z .args .end .now) (z .args .id .now) (z .args .stamp .now) (z .args .touched .now) (z .args .write .now) (z .args .pin-node .now) (z .args .pin-start .now) (z .args .pin-end .now) (z .args .pin-count .now) (z .args .marks .now) (z .args .bytes .now) t) (z .args .list .now) (z .args .s) (record { node = z .args .on; start = z .args .from; end = z .args .upto })) (c .before .before .before .before .before .before .before .before .before .before .before .before .before .before .before .before .before .before .before .before .before .before .before .before .before .before .before .before .before .before .before .before .before .small-from .ensures)) (storeRemove-numbered (stateFrom (z .args .parent .now) (z .args .depth .now) (z .args .len .now) (z .args .run .now) (z .args .words .now) (z .args .node .now) (z .args .start .now) (z .args .end .now) (z .args .id .now) (z .args .stamp .now) (z .args .touched .now) (z .args .write .now) (z .args .pin-node .now) (z .args .pin-start .now) (z .args .pin-end .now) (z .args .pin-count .now) (z .args .marks .now) (z .args .bytes .now) (smallFrom (z .args .books .now))) (z .args .list .now) (z .args .s) (record { node = z .args .on; start = z .args .from; end = z .args .upto })) (c .before .before .keep-small .ensures .1) (z .pre .1) (c .count .ensures .0) (c .count .ensures .1)
+    let k = c .before .before .before .before .before .before .before .before .before .before .before .before .before .before .before .before .before .before .before .before .before .before .store-remove in
+    telling removeAt removeValues (storeRemovedOf (k .result)) (remove-told _) (c .before .before .before .before .before .before .before .before .before .before .before .before .before .before .before .before .before .before .before .before .before .before .before .before .before .before .before .before .before .before .before .before .before .before .before .before .before .before .before .before .before .before .before .before .before .before .before .before .before .before .before .before .before .args .answer .now) (k .ensures) (storeRemove-numbered _ _ _ _) (c .before .before .before .before .before .before .before .before .before .before .before .before .before .before .before .before .before .before .before .before .before .before .before .before .before .before .before .before .before .before .before .before .before .before .before .before .before .before .before .before .before .before .before .before .before .before .before .before .before .before .before .before .before .pre) (c .store-removed .ensures .0) (c .store-removed .ensures .1)
 
 pub scorebeetle-checked-store-remove-spec : {M : Type 1} → statement M
 scorebeetle-checked-store-remove-spec =
     tie.close
     (tie.spec
-    small-from-requires
     store-remove-requires
-    keep-small-requires
-    count-requires
+    store-removed-requires
     same-length
     same-length-2
     same-length-3
@@ -71,4 +61,5 @@ scorebeetle-checked-store-remove-spec =
     same-length-7
     same-length-8
     same-length-9
+    same-length-10
     returns)

@@ -4,11 +4,11 @@ use Rattle.counters.proofs.Laws.{stalls-is}
 use Rattle.counters.proofs.pin_stalls.Statement.{statement}
 use Rattle.counters.proofs.pin_stalls.Tie as tie
 
-element-copy-out-t5 : tie.Need-element-copy-out-t5
-element-copy-out-t5 c = search needs
+shared-slice-read-t3 : tie.Need-shared-slice-read-t3
+shared-slice-read-t3 c = search needs
 
 returns : tie.Need-returns
-returns c = stalls-is (c .before .args .t1)
+returns c = stalls-is (c .before .args .books .now)
 
 pub pin-stalls-spec : {M : Type 1} → statement M
-pin-stalls-spec = tie.close (tie.spec element-copy-out-t5 returns)
+pin-stalls-spec = tie.close (tie.spec shared-slice-read-t3 returns)

@@ -2,64 +2,70 @@
 -- Assumes nothing.
 use Prim.Native.Nat.{_-_}
 use native.Mathlib.Omega.{arith}
-use borrow.Author.Needs.{needs}
 use Rattle.lent.specs.Lent.{rangesOf, pinsOf}
-use Rattle.cutstate.proofs.Laws.{Turning, turning-start, turning-asks, turning-turn, turning-end, turn-fits}
+use Rattle.cutstate.proofs.Laws.{stores-long, Turning, turning-start, turning-asks, turning-turn, turning-end, turn-fits}
 use Rattle.cutstate.proofs.cut_stores.Statement.{statement}
 use Rattle.cutstate.proofs.cut_stores.Tie as tie
 
 abbrev Inv-loop : tie.InvT-loop
-Inv-loop node₀ start₀ end₀ id₀ stamp₀ touched₀ write₀ pin-node₀ pin-start₀ pin-end₀ pin-count₀ marks₀ j k m stores y₀ s₀ node start end id stamp touched write pin-node pin-start pin-end pin-count marks y s =
+Inv-loop node₀ start₀ end₀ id₀ stamp₀ touched₀ write₀ pin-node₀ pin-start₀ pin-end₀ pin-count₀ marks₀ books₀ j k m stores s₀ node start end id stamp touched write pin-node pin-start pin-end pin-count marks books s =
     Turning j k m (rangesOf node₀ start₀ end₀ id₀ stamp₀ touched₀ write₀)
-    (pinsOf pin-node₀ pin-start₀ pin-end₀ pin-count₀) marks₀ (y₀ .books) s
-    (rangesOf node start end id stamp touched write) (pinsOf pin-node pin-start pin-end pin-count) marks (y .books)
+    (pinsOf pin-node₀ pin-start₀ pin-end₀ pin-count₀) marks₀ books₀ s
+    (rangesOf node start end id stamp touched write) (pinsOf pin-node pin-start pin-end pin-count) marks books
 
 abbrev μ-loop : tie.MeasureT-loop
-μ-loop node₀ start₀ end₀ id₀ stamp₀ touched₀ write₀ pin-node₀ pin-start₀ pin-end₀ pin-count₀ marks₀ j k m stores y₀ s₀ node start end id stamp touched write pin-node pin-start pin-end pin-count marks y s = stores - s
+μ-loop node₀ start₀ end₀ id₀ stamp₀ touched₀ write₀ pin-node₀ pin-start₀ pin-end₀ pin-count₀ marks₀ books₀ j k m stores s₀ node start end id stamp touched write pin-node pin-start pin-end pin-count marks books s = stores - s
 
-element-copy-out-stores : tie.Need-element-copy-out-stores Inv-loop μ-loop
-element-copy-out-stores c = search needs
+slice-read-stores : tie.Need-slice-read-stores Inv-loop μ-loop
+slice-read-stores c =
+    let z = c .before .before .before .before .before .before .before .before .before .before .before .before .before .before in
+    let a = z .args in
+    omega (
+      arith,
+      stores-long (a .j) (a .k) (a .m) (rangesOf (a .node .now) (a .start .now) (a .end .now) (a .id .now) (a .stamp .now) (a .touched .now) (a .write .now))
+          (pinsOf (a .pin-node .now) (a .pin-start .now) (a .pin-end .now) (a .pin-count .now)) (a .marks .now) (a .books .now) (z .pre),
+    )
 
 loop-holds : tie.Need-loop-holds Inv-loop μ-loop
 loop-holds c =
-    let a = c .before .before .before .before .before .before .before .before .before .before .before .before .before .args in
+    let a = c .before .before .before .before .before .before .before .before .before .before .before .before .before .before .args in
     turning-start (a .j) (a .k) (a .m) (rangesOf (a .node .now) (a .start .now) (a .end .now) (a .id .now) (a .stamp .now) (a .touched .now) (a .write .now))
-    (pinsOf (a .pin-node .now) (a .pin-start .now) (a .pin-end .now) (a .pin-count .now)) (a .marks .now) (a .t13 .books)
+    (pinsOf (a .pin-node .now) (a .pin-start .now) (a .pin-end .now) (a .pin-count .now)) (a .marks .now) (a .books .now)
 
 cut-store-requires : tie.Need-cut-store-requires Inv-loop μ-loop
 cut-store-requires c κs =
-    let z = c .before .before .before .before .before .before .before .before .before .before .before .before .before .before .before .before .before .before .before .before .before .before .before .before .before .before .before in
+    let z = c .before .before .before .before .before .before .before .before .before .before .before .before .before .before .before .before .before .before .before .before .before .before .before .before .before .before .before .before .before in
     let a = z .args in
-    let l = c .before .before .before .before .before .before .before .before .before .before .before .before .before .loop in
+    let l = c .before .before .before .before .before .before .before .before .before .before .before .before .before .before .loop in
     turning-asks (a .j) (a .k) (a .m) (rangesOf (a .node .now) (a .start .now) (a .end .now) (a .id .now) (a .stamp .now) (a .touched .now) (a .write .now))
-    (pinsOf (a .pin-node .now) (a .pin-start .now) (a .pin-end .now) (a .pin-count .now)) (a .marks .now) (a .t13 .books) (l .s)
-    (rangesOf (l .node) (l .start) (l .end) (l .id) (l .stamp) (l .touched) (l .write)) (pinsOf (l .pin-node) (l .pin-start) (l .pin-end) (l .pin-count)) (l .marks) (l .y .books)
-    (l .inv) (z .pre) (c .before .before .before .before .before .before .before .before .before .before .before .before .loop-test .taken)
+    (pinsOf (a .pin-node .now) (a .pin-start .now) (a .pin-end .now) (a .pin-count .now)) (a .marks .now) (a .books .now) (l .s)
+    (rangesOf (l .node) (l .start) (l .end) (l .id) (l .stamp) (l .touched) (l .write)) (pinsOf (l .pin-node) (l .pin-start) (l .pin-end) (l .pin-count)) (l .marks) (l .books)
+    (l .inv) (z .pre) (c .before .before .before .before .before .before .before .before .before .before .before .before .before .loop-test .taken)
 
 add-s : tie.Need-add-s Inv-loop μ-loop
 add-s c =
-    let z = c .before .before .before .before .before .before .before .before .before .before .before .before .before .before .before .before .before .before .before .before .before .before .before .before .before .before .before .before .before .before .before .before .before .before .before .before .before .before .before .before .before .before .before .before .before .before .before .before .before .before .before .before in
+    let z = c .before .before .before .before .before .before .before .before .before .before .before .before .before .before .before .before .before .before .before .before .before .before .before .before .before .before .before .before .before .before .before .before .before .before .before .before .before .before .before .before .before .before .before .before .before .before .before .before .before .before .before .before .before .before .before .before in
     let a = z .args in
     record {
       fits = turn-fits (a .j) (a .k) (a .m) (rangesOf (a .node .now) (a .start .now) (a .end .now) (a .id .now) (a .stamp .now) (a .touched .now) (a .write .now))
-          (pinsOf (a .pin-node .now) (a .pin-start .now) (a .pin-end .now) (a .pin-count .now)) (a .marks .now) (a .t13 .books) (z .pre) (c .before .before .before .before .before .before .before .before .before .before .before .before .before .before .before .before .before .before .before .before .before .before .before .before .before .before .before .before .before .before .before .before .before .before .before .before .before .before .loop .s) (c .before .before .before .before .before .before .before .before .before .before .before .before .before .before .before .before .before .before .before .before .before .before .before .before .before .before .before .before .before .before .before .before .before .before .before .before .before .loop-test .taken);
+          (pinsOf (a .pin-node .now) (a .pin-start .now) (a .pin-end .now) (a .pin-count .now)) (a .marks .now) (a .books .now) (z .pre) (c .before .before .before .before .before .before .before .before .before .before .before .before .before .before .before .before .before .before .before .before .before .before .before .before .before .before .before .before .before .before .before .before .before .before .before .before .before .before .before .before .before .loop .s) (c .before .before .before .before .before .before .before .before .before .before .before .before .before .before .before .before .before .before .before .before .before .before .before .before .before .before .before .before .before .before .before .before .before .before .before .before .before .before .before .before .loop-test .taken);
     }
 
 loop-less : tie.Need-loop-less Inv-loop μ-loop
-loop-less c = omega (arith, c .before .before .before .before .before .before .before .before .before .before .before .before .before .before .before .before .before .before .before .before .before .before .before .before .before .before .before .before .before .before .before .before .before .before .before .before .before .loop-test .taken)
+loop-less c = omega (arith, c .before .before .before .before .before .before .before .before .before .before .before .before .before .before .before .before .before .before .before .before .before .before .before .before .before .before .before .before .before .before .before .before .before .before .before .before .before .before .before .before .loop-test .taken)
 
 loop-again : tie.Need-loop-again Inv-loop μ-loop
 loop-again c =
-    let a = c .before .before .before .before .before .before .before .before .before .before .before .before .before .before .before .before .before .before .before .before .before .before .before .before .before .before .before .before .before .before .before .before .before .before .before .before .before .before .before .before .before .before .before .before .before .before .before .before .before .before .before .before .args in
-    let l = c .before .before .before .before .before .before .before .before .before .before .before .before .before .before .before .before .before .before .before .before .before .before .before .before .before .before .before .before .before .before .before .before .before .before .before .before .before .before .loop in
-    let f = c .before .before .before .before .before .before .before .before .before .before .before .before .before .before .before .before .before .before .before .before .before .before .before .before .cut-store in
+    let a = c .before .before .before .before .before .before .before .before .before .before .before .before .before .before .before .before .before .before .before .before .before .before .before .before .before .before .before .before .before .before .before .before .before .before .before .before .before .before .before .before .before .before .before .before .before .before .before .before .before .before .before .before .before .before .before .before .args in
+    let l = c .before .before .before .before .before .before .before .before .before .before .before .before .before .before .before .before .before .before .before .before .before .before .before .before .before .before .before .before .before .before .before .before .before .before .before .before .before .before .before .before .before .loop in
+    let f = c .before .before .before .before .before .before .before .before .before .before .before .before .before .before .before .before .before .before .before .before .before .before .before .before .before .before .cut-store in
     turning-turn (a .j) (a .k) (a .m) (rangesOf (a .node .now) (a .start .now) (a .end .now) (a .id .now) (a .stamp .now) (a .touched .now) (a .write .now))
-    (pinsOf (a .pin-node .now) (a .pin-start .now) (a .pin-end .now) (a .pin-count .now)) (a .marks .now) (a .t13 .books) (l .s)
-    (rangesOf (l .node) (l .start) (l .end) (l .id) (l .stamp) (l .touched) (l .write)) (pinsOf (l .pin-node) (l .pin-start) (l .pin-end) (l .pin-count)) (l .marks) (l .y .books)
+    (pinsOf (a .pin-node .now) (a .pin-start .now) (a .pin-end .now) (a .pin-count .now)) (a .marks .now) (a .books .now) (l .s)
+    (rangesOf (l .node) (l .start) (l .end) (l .id) (l .stamp) (l .touched) (l .write)) (pinsOf (l .pin-node) (l .pin-start) (l .pin-end) (l .pin-count)) (l .marks) (l .books)
     (l .inv)
     (rangesOf (f .last .0) (f .last .1 .0) (f .last .1 .1 .0) (f .last .1 .1 .1 .0) (f .last .1 .1 .1 .1 .0) (f .last .1 .1 .1 .1 .1 .0) (f .last .1 .1 .1 .1 .1 .1 .0))
-    (pinsOf (f .last .1 .1 .1 .1 .1 .1 .1 .0) (f .last .1 .1 .1 .1 .1 .1 .1 .1 .0) (f .last .1 .1 .1 .1 .1 .1 .1 .1 .1 .0) (f .last .1 .1 .1 .1 .1 .1 .1 .1 .1 .1 .0)) (f .last .1 .1 .1 .1 .1 .1 .1 .1 .1 .1 .1 .0) (f .result .books)
-    (c .before .before .before .before .before .before .before .before .before .before .before .before .before .before .before .before .before .before .before .before .before .before .before .before .before .before .before .before .before .before .before .before .before .before .before .before .before .loop-test .taken) (f .ensures)
+    (pinsOf (f .last .1 .1 .1 .1 .1 .1 .1 .0) (f .last .1 .1 .1 .1 .1 .1 .1 .1 .0) (f .last .1 .1 .1 .1 .1 .1 .1 .1 .1 .0) (f .last .1 .1 .1 .1 .1 .1 .1 .1 .1 .1 .0)) (f .last .1 .1 .1 .1 .1 .1 .1 .1 .1 .1 .1 .0) (f .last .1 .1 .1 .1 .1 .1 .1 .1 .1 .1 .1 .1 .0)
+    (c .before .before .before .before .before .before .before .before .before .before .before .before .before .before .before .before .before .before .before .before .before .before .before .before .before .before .before .before .before .before .before .before .before .before .before .before .before .before .before .before .loop-test .taken) (f .ensures)
     (record {
       node = f .kept .0;
       start = f .kept .1 .0;
@@ -73,6 +79,7 @@ loop-again c =
       pinEnd = f .kept .1 .1 .1 .1 .1 .1 .1 .1 .1 .0;
       pinCount = f .kept .1 .1 .1 .1 .1 .1 .1 .1 .1 .1 .0;
       marks = f .kept .1 .1 .1 .1 .1 .1 .1 .1 .1 .1 .1 .0;
+      books = f .kept .1 .1 .1 .1 .1 .1 .1 .1 .1 .1 .1 .1 .0;
     })
 
 same-length : tie.Need-same-length Inv-loop μ-loop
@@ -111,13 +118,16 @@ same-length-11 c = c .before .loop .inv .long .pinCount
 same-length-12 : tie.Need-same-length-12 Inv-loop μ-loop
 same-length-12 c = c .before .loop .inv .long .marks
 
+same-length-13 : tie.Need-same-length-13 Inv-loop μ-loop
+same-length-13 c = c .before .loop .inv .long .books
+
 returns : tie.Need-returns Inv-loop μ-loop
 returns c =
-    let a = c .before .before .before .before .before .before .before .before .before .before .before .before .before .before .before .args in
+    let a = c .before .before .before .before .before .before .before .before .before .before .before .before .before .before .before .before .args in
     let l = c .before .loop in
     turning-end (a .j) (a .k) (a .m) (rangesOf (a .node .now) (a .start .now) (a .end .now) (a .id .now) (a .stamp .now) (a .touched .now) (a .write .now))
-    (pinsOf (a .pin-node .now) (a .pin-start .now) (a .pin-end .now) (a .pin-count .now)) (a .marks .now) (a .t13 .books) (l .s)
-    (rangesOf (l .node) (l .start) (l .end) (l .id) (l .stamp) (l .touched) (l .write)) (pinsOf (l .pin-node) (l .pin-start) (l .pin-end) (l .pin-count)) (l .marks) (l .y .books)
+    (pinsOf (a .pin-node .now) (a .pin-start .now) (a .pin-end .now) (a .pin-count .now)) (a .marks .now) (a .books .now) (l .s)
+    (rangesOf (l .node) (l .start) (l .end) (l .id) (l .stamp) (l .touched) (l .write)) (pinsOf (l .pin-node) (l .pin-start) (l .pin-end) (l .pin-count)) (l .marks) (l .books)
     (l .inv) (c .loop-test .left)
 
 pub cut-stores-spec : {M : Type 1} → statement M
@@ -126,7 +136,7 @@ cut-stores-spec =
     (tie.spec
     Inv-loop
     μ-loop
-    element-copy-out-stores
+    slice-read-stores
     loop-holds
     cut-store-requires
     add-s
@@ -144,4 +154,5 @@ cut-stores-spec =
     same-length-10
     same-length-11
     same-length-12
+    same-length-13
     returns)

@@ -4,7 +4,7 @@ use native.Mathlib.Omega.{arith}
 use borrow.Author.Needs.{needs}
 use lib.Dec.{ltb}
 use Rattle.model.specs.State.{at}
-use Rattle.insert.proofs.Laws.{plus-few, none-added, node-in, node-small, few-nodes, cut-asks, six, seven, not-inside, inside}
+use Rattle.insert.proofs.Laws.{plus-few, none-added, node-in, node-small, few-nodes, long, cut-asks, six, seven, not-inside, inside}
 use Rattle.insert.proofs.insert_refusal.Statement.{statement}
 use Rattle.insert.proofs.insert_refusal.Tie as tie
 
@@ -12,31 +12,31 @@ returns : tie.Need-returns
 returns c = λ st hs w. none-added st hs w (c .if1 .taken)
 
 mul-inside : tie.Need-mul-inside
-mul-inside c = let p = c .before .before .before .before .before .before .pre in omega (arith, node-small (p .0) (p .1) (p .2) (c .if1 .left))
+mul-inside c = let p = c .before .before .before .before .before .before .before .pre in omega (arith, node-small (p .0) (p .1) (p .2) (c .if1 .left))
 
 shared-slice-read-inside : tie.Need-shared-slice-read-inside
-shared-slice-read-inside c = let p = c .before .before .before .before .before .before .before .pre in node-in (p .0) (p .1) (p .2) (c .before .if1 .left)
+shared-slice-read-inside c = let p = c .before .before .before .before .before .before .before .before .pre in node-in (p .0) (p .1) (p .2) (c .before .if1 .left)
 
-element-copy-out-nodes : tie.Need-element-copy-out-nodes
-element-copy-out-nodes c = search needs
+shared-slice-read-nodes : tie.Need-shared-slice-read-nodes
+shared-slice-read-nodes c = let p = c .before .before .before .before .before .before .before .before .before .pre in omega (arith, long (p .0) (p .1) (p .2))
 
 node-need-requires : tie.Need-node-need-requires
 node-need-requires c κs = search needs
 
 add-if2 : tie.Need-add-if2
 add-if2 c =
-    let z = c .before .before .before .before .before .before .before .before .before in
+    let z = c .before .before .before .before .before .before .before .before .before .before in
     let a = z .args in
     omega (arith, few-nodes (z .pre .0) (z .pre .1) (z .pre .2), c .node-need .ensures, plus-few (ltb (a .m .len) (at (a .len .now) (a .m .node))))
 
 returns-2 : tie.Need-returns-2
 returns-2 c =
-    let z = c .before .before .before .before .before .before .before .before .before .before in
+    let z = c .before .before .before .before .before .before .before .before .before .before .before in
     let a = z .args in
     λ st hs w. six st hs w (c .before .before .before .before .if1 .left) (ltb (a .m .len) (at (a .len .now) (a .m .node))) (c .before .node-need .result) refl (c .before .node-need .ensures) (c .if2 .taken)
 
-element-copy-out-used : tie.Need-element-copy-out-used
-element-copy-out-used c = search needs
+shared-slice-read-used : tie.Need-shared-slice-read-used
+shared-slice-read-used c = let p = c .before .before .before .before .before .before .before .before .before .before .before .before .pre in omega (arith, long (p .0) (p .1) (p .2))
 
 sub-if3 : tie.Need-sub-if3
 sub-if3 c = search needs
@@ -46,33 +46,33 @@ add-if3 c = search needs
 
 returns-3 : tie.Need-returns-3
 returns-3 c =
-    let z = c .before .before .before .before .before .before .before .before .before .before .before .before .before in
+    let z = c .before .before .before .before .before .before .before .before .before .before .before .before .before .before in
     let a = z .args in
     λ st hs w. seven st hs w (c .before .before .before .before .before .before .before .if1 .left) (ltb (a .m .len) (at (a .len .now) (a .m .node))) (c .before .before .before .before .node-need .result) refl (c .before .before .before .before .node-need .ensures) (c .before .before .before .if2 .left) (c .if3 .taken)
 
 returns-4 : tie.Need-returns-4
 returns-4 c =
-    let z = c .before .before .before .before .before .before .before .before .before .before .before .before .before .before in
+    let z = c .before .before .before .before .before .before .before .before .before .before .before .before .before .before .before in
     let a = z .args in
     λ st hs w. not-inside st hs w (c .before .before .before .before .before .before .before .before .if1 .left) (ltb (a .m .len) (at (a .len .now) (a .m .node))) (c .before .before .before .before .before .node-need .result) refl (c .before .before .before .before .before .node-need .ensures) (c .before .before .before .before .if2 .left) (c .before .if3 .left) (c .if4 .taken)
 
-element-copy-out-stores : tie.Need-element-copy-out-stores
-element-copy-out-stores c = search needs
+shared-slice-read-stores : tie.Need-shared-slice-read-stores
+shared-slice-read-stores c = let p = c .before .before .before .before .before .before .before .before .before .before .before .before .before .before .before .before .pre in omega (arith, long (p .0) (p .1) (p .2))
 
-element-copy-out-next : tie.Need-element-copy-out-next
-element-copy-out-next c = search needs
+shared-slice-read-next : tie.Need-shared-slice-read-next
+shared-slice-read-next c = let p = c .before .before .before .before .before .before .before .before .before .before .before .before .before .before .before .before .before .pre in omega (arith, long (p .0) (p .1) (p .2))
 
 records-of-requires : tie.Need-records-of-requires
-records-of-requires c κs = search needs
+records-of-requires c κs = let p = c .before .before .before .before .before .before .before .before .before .before .before .before .before .before .before .before .before .pre in long (p .0) (p .1) (p .2)
 
 cut-refusal-requires : tie.Need-cut-refusal-requires
-cut-refusal-requires c κs = let p = c .before .before .before .before .before .before .before .before .before .before .before .before .before .before .before .before .before .before .before .pre in cut-asks (p .0) (p .1) (p .2) (c .records-of .result) (c .records-of .ensures)
+cut-refusal-requires c κs = let p = c .before .before .before .before .before .before .before .before .before .before .before .before .before .before .before .before .before .before .pre in cut-asks (p .0) (p .1) (p .2) (c .records-of .result) (c .records-of .ensures)
 
 returns-5 : tie.Need-returns-5
 returns-5 c =
-    let z = c .before .before .before .before .before .before .before .before .before .before .before .before .before .before .before .before .before .before .before .before in
+    let z = c .before .before .before .before .before .before .before .before .before .before .before .before .before .before .before .before .before .before .before in
     let a = z .args in
-    λ st hs w. inside st hs w (c .before .before .before .before .before .before .before .before .before .before .before .before .before .before .if1 .left) (ltb (a .m .len) (at (a .len .now) (a .m .node))) (c .before .before .before .before .before .before .before .before .before .before .before .node-need .result) refl (c .before .before .before .before .before .before .before .before .before .before .before .node-need .ensures) (c .before .before .before .before .before .before .before .before .before .before .if2 .left) (c .before .before .before .before .before .before .before .if3 .left) (c .before .before .before .before .before .before .if4 .left) (c .before .records-of .result) (c .before .records-of .ensures) (c .cut-refusal .result) (c .cut-refusal .ensures)
+    λ st hs w. inside st hs w (c .before .before .before .before .before .before .before .before .before .before .before .before .if1 .left) (ltb (a .m .len) (at (a .len .now) (a .m .node))) (c .before .before .before .before .before .before .before .before .before .node-need .result) refl (c .before .before .before .before .before .before .before .before .before .node-need .ensures) (c .before .before .before .before .before .before .before .before .if2 .left) (c .before .before .before .before .before .if3 .left) (c .before .before .before .before .if4 .left) (c .before .records-of .result) (c .before .records-of .ensures) (c .cut-refusal .result) (c .cut-refusal .ensures)
 
 pub insert-refusal-spec : {M : Type 1} → statement M
 insert-refusal-spec =
@@ -81,17 +81,17 @@ insert-refusal-spec =
     returns
     mul-inside
     shared-slice-read-inside
-    element-copy-out-nodes
+    shared-slice-read-nodes
     node-need-requires
     add-if2
     returns-2
-    element-copy-out-used
+    shared-slice-read-used
     sub-if3
     add-if3
     returns-3
     returns-4
-    element-copy-out-stores
-    element-copy-out-next
+    shared-slice-read-stores
+    shared-slice-read-next
     records-of-requires
     cut-refusal-requires
     returns-5)

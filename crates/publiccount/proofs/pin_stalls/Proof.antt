@@ -13,7 +13,7 @@ returns : tie.Need-returns
 returns c = stalls-unsound _ (says-no (c .before .sound-state .result) (c .if1 .taken) (c .before .sound-state .ensures))
 
 pin-stalls-requires : tie.Need-pin-stalls-requires
-pin-stalls-requires c κs = tt
+pin-stalls-requires c κs = (says-yes (c .before .sound-state .result) (c .if1 .left) (c .before .sound-state .ensures)) .lent .books
 
 returns-2 : tie.Need-returns-2
 returns-2 c = stalls-is _ (c .pin-stalls .ensures _ (record { books = refl; sound = (says-yes (c .before .before .sound-state .result) (c .before .if1 .left) (c .before .before .sound-state .ensures)) }))

@@ -20,26 +20,32 @@ same-length-3 c = refl
 same-length-4 : tie.Need-same-length-4
 same-length-4 c = refl
 
+same-length-5 : tie.Need-same-length-5
+same-length-5 c = refl
+
 returns : tie.Need-returns
-returns c = unpin-unsound _ (says-no (c .before .sound-state .result) (c .if1 .taken) (c .before .sound-state .ensures)) (c .before .before .before .before .before .before .before .before .before .before .before .before .before .before .before .before .before .before .before .before .before .before .before .before .args .s) (c .before .before .before .before .before .before .before .before .before .before .before .before .before .before .before .before .before .before .before .before .before .before .before .before .args .sp)
+returns c = unpin-unsound _ (says-no (c .before .sound-state .result) (c .if1 .taken) (c .before .sound-state .ensures)) (c .before .before .before .before .before .before .before .before .before .before .before .before .before .before .before .before .before .before .before .before .before .before .before .before .before .before .args .s) (c .before .before .before .before .before .before .before .before .before .before .before .before .before .before .before .before .before .before .before .before .before .before .before .before .before .before .args .sp)
 
 unpin-source-requires : tie.Need-unpin-source-requires
-unpin-source-requires c κs = says-yes (c .before .before .before .before .before .sound-state .result) (c .before .before .before .before .if1 .left) (c .before .before .before .before .before .sound-state .ensures)
-
-same-length-5 : tie.Need-same-length-5
-same-length-5 c = c .before .before .before .before .before .before .before .before .unpin-source .kept .1 .1 .1 .1 .1 .1 .1 .1 .1 .1 .1 .1 .0
+unpin-source-requires c κs = says-yes (c .before .before .before .before .before .before .sound-state .result) (c .before .before .before .before .before .if1 .left) (c .before .before .before .before .before .before .sound-state .ensures)
 
 same-length-6 : tie.Need-same-length-6
-same-length-6 c = c .before .before .before .before .before .before .before .before .unpin-source .kept .1 .1 .1 .1 .1 .1 .1 .1 .1 .1 .1 .1 .1 .0
+same-length-6 c = c .before .before .before .before .before .before .before .before .before .before .unpin-source .kept .1 .1 .1 .1 .1 .1 .1 .1 .1 .1 .1 .1 .0
 
 same-length-7 : tie.Need-same-length-7
-same-length-7 c = c .before .before .before .before .before .before .before .before .unpin-source .kept .1 .1 .1 .1 .1 .1 .1 .1 .1 .1 .1 .1 .1 .1 .0
+same-length-7 c = c .before .before .before .before .before .before .before .before .before .before .unpin-source .kept .1 .1 .1 .1 .1 .1 .1 .1 .1 .1 .1 .1 .1 .0
 
 same-length-8 : tie.Need-same-length-8
-same-length-8 c = c .before .before .before .before .before .before .before .before .unpin-source .kept .1 .1 .1 .1 .1 .1 .1 .1 .1 .1 .1 .1 .1 .1 .1 .0
+same-length-8 c = c .before .before .before .before .before .before .before .before .before .before .unpin-source .kept .1 .1 .1 .1 .1 .1 .1 .1 .1 .1 .1 .1 .1 .1 .0
+
+same-length-9 : tie.Need-same-length-9
+same-length-9 c = c .before .before .before .before .before .before .before .before .before .before .unpin-source .kept .1 .1 .1 .1 .1 .1 .1 .1 .1 .1 .1 .1 .1 .1 .1 .0
+
+same-length-10 : tie.Need-same-length-10
+same-length-10 c = c .before .before .before .before .before .before .before .before .before .before .unpin-source .kept .1 .1 .1 .1 .1 .1 .1 .1 .1 .1 .1 .1 .1 .1 .1 .1 .1 .1 .0
 
 returns-2 : tie.Need-returns-2
-returns-2 c = c .before .before .before .before .before .before .before .before .unpin-source .ensures
+returns-2 c = c .before .before .before .before .before .before .before .before .before .before .unpin-source .ensures
 
 pub unpin-source-spec : {M : Type 1} → statement M
 unpin-source-spec =
@@ -50,10 +56,12 @@ unpin-source-spec =
     same-length-2
     same-length-3
     same-length-4
+    same-length-5
     returns
     unpin-source-requires
-    same-length-5
     same-length-6
     same-length-7
     same-length-8
+    same-length-9
+    same-length-10
     returns-2)

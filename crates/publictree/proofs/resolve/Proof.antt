@@ -10,7 +10,7 @@ sound-state-requires : tie.Need-sound-state-requires
 sound-state-requires c κs = tt
 
 returns : tie.Need-returns
-returns c = resolve-unsound _ (says-no (c .before .sound-state .result) (c .if1 .taken) (c .before .sound-state .ensures)) (pathListOf (c .before .before .before .before .before .before .before .before .before .before .before .before .before .before .before .before .before .before .before .before .before .before .before .args .path-node .now) (c .before .before .before .before .before .before .before .before .before .before .before .before .before .before .before .before .before .before .before .before .before .before .before .args .path-len .now)) (c .before .before .before .before .before .before .before .before .before .before .before .before .before .before .before .before .before .before .before .before .before .before .before .args .hashes .now)
+returns c = resolve-unsound _ (says-no (c .before .sound-state .result) (c .if1 .taken) (c .before .sound-state .ensures)) (pathListOf (c .before .before .before .before .before .before .before .before .before .before .before .before .before .before .before .before .before .before .before .before .before .before .before .before .args .path-node .now) (c .before .before .before .before .before .before .before .before .before .before .before .before .before .before .before .before .before .before .before .before .before .before .before .before .args .path-len .now)) (c .before .before .before .before .before .before .before .before .before .before .before .before .before .before .before .before .before .before .before .before .before .before .before .before .args .hashes .now)
 
 path-fits-requires : tie.Need-path-fits-requires
 path-fits-requires c κs = tt
@@ -22,16 +22,16 @@ same-length-2 : tie.Need-same-length-2
 same-length-2 c = refl
 
 returns-2 : tie.Need-returns-2
-returns-2 c = resolve-short _ (says-yes (c .before .before .before .before .before .sound-state .result) (c .before .before .before .before .if1 .left) (c .before .before .before .before .before .sound-state .ensures)) (pathListOf (c .before .before .before .before .before .before .before .before .before .before .before .before .before .before .before .before .before .before .before .before .before .before .before .before .before .before .before .args .path-node .now) (c .before .before .before .before .before .before .before .before .before .before .before .before .before .before .before .before .before .before .before .before .before .before .before .before .before .before .before .args .path-len .now)) (c .before .before .before .before .before .before .before .before .before .before .before .before .before .before .before .before .before .before .before .before .before .before .before .before .before .before .before .args .hashes .now) (says-no (c .before .path-fits .result) (c .if2 .taken) (c .before .path-fits .ensures))
+returns-2 c = resolve-short _ (says-yes (c .before .before .before .before .before .sound-state .result) (c .before .before .before .before .if1 .left) (c .before .before .before .before .before .sound-state .ensures)) (pathListOf (c .before .before .before .before .before .before .before .before .before .before .before .before .before .before .before .before .before .before .before .before .before .before .before .before .before .before .before .before .args .path-node .now) (c .before .before .before .before .before .before .before .before .before .before .before .before .before .before .before .before .before .before .before .before .before .before .before .before .before .before .before .before .args .path-len .now)) (c .before .before .before .before .before .before .before .before .before .before .before .before .before .before .before .before .before .before .before .before .before .before .before .before .before .before .before .before .args .hashes .now) (says-no (c .before .path-fits .result) (c .if2 .taken) (c .before .path-fits .ensures))
 
 resolve-requires : tie.Need-resolve-requires
 resolve-requires c κs = ((says-yes (c .before .before .before .before .before .before .before .sound-state .result) (c .before .before .before .before .before .before .if1 .left) (c .before .before .before .before .before .before .before .sound-state .ensures)), (says-yes (c .before .before .before .path-fits .result) (c .before .before .if2 .left) (c .before .before .before .path-fits .ensures)))
 
 same-length-3 : tie.Need-same-length-3
-same-length-3 c = c .before .before .before .before .resolve .kept .1 .1 .1 .1 .1 .1 .1 .1 .1 .1 .1 .1 .1 .1 .1 .1 .1 .1 .0
+same-length-3 c = c .before .before .before .before .resolve .kept .1 .1 .1 .1 .1 .1 .1 .1 .1 .1 .1 .1 .1 .1 .1 .1 .1 .1 .1 .0
 
 same-length-4 : tie.Need-same-length-4
-same-length-4 c = c .before .before .before .before .resolve .kept .1 .1 .1 .1 .1 .1 .1 .1 .1 .1 .1 .1 .1 .1 .1 .1 .1 .1 .1 .0
+same-length-4 c = c .before .before .before .before .resolve .kept .1 .1 .1 .1 .1 .1 .1 .1 .1 .1 .1 .1 .1 .1 .1 .1 .1 .1 .1 .1 .0
 
 returns-3 : tie.Need-returns-3
 returns-3 c = c .before .before .before .before .resolve .ensures

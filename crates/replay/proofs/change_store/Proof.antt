@@ -10,25 +10,25 @@ enum-known-op : tie.Need-enum-known-op
 enum-known-op c = search needs
 
 bring-requires : tie.Need-bring-requires
-bring-requires c κs = (c .before .before .before .before .before .before .before .before .before .before .before .before .pre .1, c .before .before .before .before .before .before .before .before .before .before .before .before .pre .2)
+bring-requires c κs = (c .before .before .before .before .before .before .before .before .before .before .before .before .before .pre .1, c .before .before .before .before .before .before .before .before .before .before .before .before .before .pre .2)
 
 enum-known-op-2 : tie.Need-enum-known-op-2
 enum-known-op-2 c = search needs
 
 touch-requires : tie.Need-touch-requires
-touch-requires c κs = (c .before .before .before .before .before .before .before .before .before .before .before .before .pre .1, c .before .before .before .before .before .before .before .before .before .before .before .before .pre .2, subst Filled (c .before .before .before .before .before .before .before .before .before .before .op2 .given .1) (c .before .before .before .before .before .before .before .before .before .before .before .before .pre .0))
+touch-requires c κs = (c .before .before .before .before .before .before .before .before .before .before .before .before .before .pre .1, c .before .before .before .before .before .before .before .before .before .before .before .before .before .pre .2, subst Filled (c .before .before .before .before .before .before .before .before .before .before .before .op2 .given .1) (c .before .before .before .before .before .before .before .before .before .before .before .before .before .pre .0))
 
 enum-known-op-3 : tie.Need-enum-known-op-3
 enum-known-op-3 c = search needs
 
 remove-requires : tie.Need-remove-requires
-remove-requires c κs = (c .before .before .before .before .before .before .before .before .before .before .before .before .pre .1, c .before .before .before .before .before .before .before .before .before .before .before .before .pre .2)
+remove-requires c κs = (c .before .before .before .before .before .before .before .before .before .before .before .before .before .pre .1, c .before .before .before .before .before .before .before .before .before .before .before .before .before .pre .2)
 
 enum-known-op-4 : tie.Need-enum-known-op-4
 enum-known-op-4 c = search needs
 
 expire-requires : tie.Need-expire-requires
-expire-requires c κs = (c .before .before .before .before .before .before .before .before .before .before .before .before .pre .1, c .before .before .before .before .before .before .before .before .before .before .before .before .pre .2)
+expire-requires c κs = (c .before .before .before .before .before .before .before .before .before .before .before .before .before .pre .1, c .before .before .before .before .before .before .before .before .before .before .before .before .before .pre .2)
 
 returns : tie.Need-returns
 returns c = c .bring .ensures

@@ -22,7 +22,7 @@ enum-told : tie.Need-enum-told
 enum-told c = search needs
 
 put-state-requires : tie.Need-put-state-requires
-put-state-requires c κs = (c .before .before .before .before .before .before .before .before .before .before .before .before .before .before .before .before .before .before .before .before .before .pre .1, search needs)
+put-state-requires c κs = (c .before .before .before .before .before .before .before .before .before .before .before .before .before .before .before .before .before .before .before .before .before .before .pre .1, search needs)
 
 enum-told-2 : tie.Need-enum-told-2
 enum-told-2 c = search needs
@@ -40,7 +40,7 @@ returns-2 : tie.Need-returns-2
 returns-2 c = c .lookup .ensures
 
 returns-3 : tie.Need-returns-3
-returns-3 c = omega (arith, c .put-state .ensures .high, c .before .before .before .before .before .before .before .before .before .before .before .before .before .before .before .before .before .before .before .before .before .before .pre .2)
+returns-3 c = omega (arith, c .put-state .ensures .high, c .before .before .before .before .before .before .before .before .before .before .before .before .before .before .before .before .before .before .before .before .before .before .before .pre .2)
 
 returns-4 : tie.Need-returns-4
 returns-4 c = omega (arith, c .put-line .ensures .high, c .before .before .before .before .before .pre .2)

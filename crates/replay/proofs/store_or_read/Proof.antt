@@ -8,13 +8,13 @@ changes-store-requires : tie.Need-changes-store-requires
 changes-store-requires c κs = tt
 
 change-store-requires : tie.Need-change-store-requires
-change-store-requires c κs = c .before .before .before .before .before .before .before .before .before .before .before .before .before .before .before .pre
+change-store-requires c κs = c .before .before .before .before .before .before .before .before .before .before .before .before .before .before .before .before .pre
 
 returns : tie.Need-returns
 returns c = c .change-store .ensures
 
 read-or-pin-requires : tie.Need-read-or-pin-requires
-read-or-pin-requires c κs = c .before .before .before .before .before .before .before .before .before .before .before .before .before .before .before .pre
+read-or-pin-requires c κs = c .before .before .before .before .before .before .before .before .before .before .before .before .before .before .before .before .pre
 
 returns-2 : tie.Need-returns-2
 returns-2 c = c .read-or-pin .ensures

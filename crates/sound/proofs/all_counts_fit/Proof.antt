@@ -16,8 +16,8 @@ Inv-loop books stores s₀ s = (0 ≤ s) × Each 0 s (CountsFit books)
 abbrev μ-loop : tie.MeasureT-loop
 μ-loop books stores s₀ s = stores - s
 
-element-copy-out-stores : tie.Need-element-copy-out-stores Inv-loop μ-loop
-element-copy-out-stores c = search needs
+shared-slice-read-stores : tie.Need-shared-slice-read-stores Inv-loop μ-loop
+shared-slice-read-stores c = search needs
 
 loop-holds : tie.Need-loop-holds Inv-loop μ-loop
 loop-holds c = (omega arith, each-none _ 0)
@@ -30,7 +30,7 @@ counts-fit-requires c κs = search needs
 
 returns : tie.Need-returns Inv-loop μ-loop
 returns c =
-    let said = counts-said (c .before .before .before .before .before .before .args .books .now) (c .before .before .before .before .loop .s) (c .before .before .book-of .ensures) (c .before .counts-fit .result) (c .before .counts-fit .ensures) in
+    let said = counts-said (c .before .before .before .before .before .before .before .args .books .now) (c .before .before .before .before .loop .s) (c .before .before .book-of .ensures) (c .before .counts-fit .result) (c .before .counts-fit .ensures) in
     each-not (c .before .before .before .before .loop .inv .0) (c .before .before .before .loop-test .taken) (says-no (c .before .counts-fit .result) (c .if1 .taken) said)
 
 add-s : tie.Need-add-s Inv-loop μ-loop
@@ -41,7 +41,7 @@ loop-less c = search needs
 
 loop-again : tie.Need-loop-again Inv-loop μ-loop
 loop-again c =
-    let said = counts-said (c .before .before .before .before .before .before .args .books .now) (c .before .before .before .before .loop .s) (c .before .before .book-of .ensures) (c .before .counts-fit .result) (c .before .counts-fit .ensures) in
+    let said = counts-said (c .before .before .before .before .before .before .before .args .books .now) (c .before .before .before .before .loop .s) (c .before .before .book-of .ensures) (c .before .counts-fit .result) (c .before .counts-fit .ensures) in
     (omega arith, each-more (c .before .before .before .before .loop .inv .1) (says-yes (c .before .counts-fit .result) (c .if1 .left) said))
 
 returns-2 : tie.Need-returns-2 Inv-loop μ-loop
@@ -53,7 +53,7 @@ all-counts-fit-spec =
     (tie.spec
     Inv-loop
     μ-loop
-    element-copy-out-stores
+    shared-slice-read-stores
     loop-holds
     book-of-requires
     counts-fit-requires

@@ -17,11 +17,11 @@ Inv-loop len node marks books nodes stores s₀ s = (0 ≤ s) × Each 0 s (Store
 abbrev μ-loop : tie.MeasureT-loop
 μ-loop len node marks books nodes stores s₀ s = stores - s
 
-element-copy-out-nodes : tie.Need-element-copy-out-nodes Inv-loop μ-loop
-element-copy-out-nodes c = search needs
+shared-slice-read-nodes : tie.Need-shared-slice-read-nodes Inv-loop μ-loop
+shared-slice-read-nodes c = search needs
 
-element-copy-out-stores : tie.Need-element-copy-out-stores Inv-loop μ-loop
-element-copy-out-stores c = search needs
+shared-slice-read-stores : tie.Need-shared-slice-read-stores Inv-loop μ-loop
+shared-slice-read-stores c = search needs
 
 loop-holds : tie.Need-loop-holds Inv-loop μ-loop
 loop-holds c = (omega arith, each-none _ 0)
@@ -35,8 +35,8 @@ mul-a c = search needs
 add-marks-fit : tie.Need-add-marks-fit Inv-loop μ-loop
 add-marks-fit c =
     let k =
-    counts-by (c .before .before .before .before .before .before .before .before .before .args .books .now) (c .before .before .before .loop .s) (c .before .book-of .ensures)
-    (c .before .before .before .before .before .before .before .before .before .pre .5 (c .before .before .before .loop .s) (c .before .before .before .loop .inv .0) (c .before .before .loop-test .taken)) in
+    counts-by (c .before .before .before .before .before .before .before .before .before .before .args .books .now) (c .before .before .before .loop .s) (c .before .book-of .ensures)
+    (c .before .before .before .before .before .before .before .before .before .before .pre .6 (c .before .before .before .loop .s) (c .before .before .before .loop .inv .0) (c .before .before .loop-test .taken)) in
     omega (arith, k .records)
 
 mul-marks-fit : tie.Need-mul-marks-fit Inv-loop μ-loop
@@ -45,15 +45,15 @@ mul-marks-fit c = search needs
 marks-fit-requires : tie.Need-marks-fit-requires Inv-loop μ-loop
 marks-fit-requires c κs =
     let k =
-    counts-by (c .before .before .before .before .before .before .before .before .before .args .books .now) (c .before .before .before .loop .s) (c .before .book-of .ensures)
-    (c .before .before .before .before .before .before .before .before .before .pre .5 (c .before .before .before .loop .s) (c .before .before .before .loop .inv .0) (c .before .before .loop-test .taken)) in
-    let p = c .before .before .before .before .before .before .before .before .before .pre in
-    let on = each-by (c .before .before .before .before .before .before .before .before .before .args .books .now) (c .before .before .before .loop .s) (c .before .book-of .ensures) (p .6 (c .before .before .before .loop .s) (c .before .before .before .loop .inv .0) (c .before .before .loop-test .taken)) in
-    (omega arith, omega (arith, k .records), omega arith, p .1, p .2, omega (arith, k .records), omega arith, on)
+    counts-by (c .before .before .before .before .before .before .before .before .before .before .args .books .now) (c .before .before .before .loop .s) (c .before .book-of .ensures)
+    (c .before .before .before .before .before .before .before .before .before .before .pre .6 (c .before .before .before .loop .s) (c .before .before .before .loop .inv .0) (c .before .before .loop-test .taken)) in
+    let p = c .before .before .before .before .before .before .before .before .before .before .pre in
+    let on = each-by (c .before .before .before .before .before .before .before .before .before .before .args .books .now) (c .before .before .before .loop .s) (c .before .book-of .ensures) (p .7 (c .before .before .before .loop .s) (c .before .before .before .loop .inv .0) (c .before .before .loop-test .taken)) in
+    (omega arith, omega (arith, k .records), omega arith, p .2, p .3, omega (arith, k .records), omega arith, on)
 
 returns : tie.Need-returns Inv-loop μ-loop
 returns c =
-    let a = c .before .before .before .before .before .before .before .before .before .before .before .args in
+    let a = c .before .before .before .before .before .before .before .before .before .before .before .before .args in
     let said =
     marks-said (a .books .now) (c .before .before .before .before .before .loop .s) (c .before .before .before .book-of .ensures) (a .len .now) (a .node .now) (a .marks .now) (nodesIn (a .books .now))
     (c .before .marks-fit .result) (c .before .marks-fit .ensures) in
@@ -67,7 +67,7 @@ loop-less c = search needs
 
 loop-again : tie.Need-loop-again Inv-loop μ-loop
 loop-again c =
-    let a = c .before .before .before .before .before .before .before .before .before .before .before .args in
+    let a = c .before .before .before .before .before .before .before .before .before .before .before .before .args in
     let said =
     marks-said (a .books .now) (c .before .before .before .before .before .loop .s) (c .before .before .before .book-of .ensures) (a .len .now) (a .node .now) (a .marks .now) (nodesIn (a .books .now))
     (c .before .marks-fit .result) (c .before .marks-fit .ensures) in
@@ -82,8 +82,8 @@ all-marks-fit-spec =
     (tie.spec
     Inv-loop
     μ-loop
-    element-copy-out-nodes
-    element-copy-out-stores
+    shared-slice-read-nodes
+    shared-slice-read-stores
     loop-holds
     book-of-requires
     mul-a

@@ -17,11 +17,11 @@ Inv-loop len node start end count books nodes stores s₀ s = (0 ≤ s) × Each 
 abbrev μ-loop : tie.MeasureT-loop
 μ-loop len node start end count books nodes stores s₀ s = stores - s
 
-element-copy-out-nodes : tie.Need-element-copy-out-nodes Inv-loop μ-loop
-element-copy-out-nodes c = search needs
+shared-slice-read-nodes : tie.Need-shared-slice-read-nodes Inv-loop μ-loop
+shared-slice-read-nodes c = search needs
 
-element-copy-out-stores : tie.Need-element-copy-out-stores Inv-loop μ-loop
-element-copy-out-stores c = search needs
+shared-slice-read-stores : tie.Need-shared-slice-read-stores Inv-loop μ-loop
+shared-slice-read-stores c = search needs
 
 loop-holds : tie.Need-loop-holds Inv-loop μ-loop
 loop-holds c = (omega arith, each-none _ 0)
@@ -35,14 +35,14 @@ mul-a c = search needs
 pins-fit-requires : tie.Need-pins-fit-requires Inv-loop μ-loop
 pins-fit-requires c κs =
     let k =
-    counts-by (c .before .before .before .before .before .before .before .before .before .before .args .books .now) (c .before .before .loop .s) (c .book-of .ensures)
-    (c .before .before .before .before .before .before .before .before .before .before .pre .7 (c .before .before .loop .s) (c .before .before .loop .inv .0) (c .before .loop-test .taken)) in
-    let p = c .before .before .before .before .before .before .before .before .before .before .pre in
-    (k .entries, omega (arith, k .entries), p .1, p .2, p .3, p .4, p .5, k .pinned, p .6)
+    counts-by (c .before .before .before .before .before .before .before .before .before .before .before .args .books .now) (c .before .before .loop .s) (c .book-of .ensures)
+    (c .before .before .before .before .before .before .before .before .before .before .before .pre .8 (c .before .before .loop .s) (c .before .before .loop .inv .0) (c .before .loop-test .taken)) in
+    let p = c .before .before .before .before .before .before .before .before .before .before .before .pre in
+    (k .entries, omega (arith, k .entries), p .2, p .3, p .4, p .5, p .6, k .pinned, p .7)
 
 returns : tie.Need-returns Inv-loop μ-loop
 returns c =
-    let a = c .before .before .before .before .before .before .before .before .before .before .before .before .args in
+    let a = c .before .before .before .before .before .before .before .before .before .before .before .before .before .args in
     let said =
     pins-said (a .books .now) (c .before .before .before .before .loop .s) (c .before .before .book-of .ensures) (a .len .now) (a .node .now) (a .start .now) (a .end .now) (a .count .now) (nodesIn (a .books .now))
     (c .before .pins-fit .result) (c .before .pins-fit .ensures) in
@@ -56,7 +56,7 @@ loop-less c = search needs
 
 loop-again : tie.Need-loop-again Inv-loop μ-loop
 loop-again c =
-    let a = c .before .before .before .before .before .before .before .before .before .before .before .before .args in
+    let a = c .before .before .before .before .before .before .before .before .before .before .before .before .before .args in
     let said =
     pins-said (a .books .now) (c .before .before .before .before .loop .s) (c .before .before .book-of .ensures) (a .len .now) (a .node .now) (a .start .now) (a .end .now) (a .count .now) (nodesIn (a .books .now))
     (c .before .pins-fit .result) (c .before .pins-fit .ensures) in
@@ -71,8 +71,8 @@ all-pins-fit-spec =
     (tie.spec
     Inv-loop
     μ-loop
-    element-copy-out-nodes
-    element-copy-out-stores
+    shared-slice-read-nodes
+    shared-slice-read-stores
     loop-holds
     book-of-requires
     mul-a

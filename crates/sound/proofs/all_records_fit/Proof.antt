@@ -17,14 +17,14 @@ Inv-loop len node start end id stamp touched books nodes stores next s₀ s = (0
 abbrev μ-loop : tie.MeasureT-loop
 μ-loop len node start end id stamp touched books nodes stores next s₀ s = stores - s
 
-element-copy-out-nodes : tie.Need-element-copy-out-nodes Inv-loop μ-loop
-element-copy-out-nodes c = search needs
+shared-slice-read-nodes : tie.Need-shared-slice-read-nodes Inv-loop μ-loop
+shared-slice-read-nodes c = search needs
 
-element-copy-out-stores : tie.Need-element-copy-out-stores Inv-loop μ-loop
-element-copy-out-stores c = search needs
+shared-slice-read-stores : tie.Need-shared-slice-read-stores Inv-loop μ-loop
+shared-slice-read-stores c = search needs
 
-element-copy-out-next : tie.Need-element-copy-out-next Inv-loop μ-loop
-element-copy-out-next c = search needs
+shared-slice-read-next : tie.Need-shared-slice-read-next Inv-loop μ-loop
+shared-slice-read-next c = search needs
 
 loop-holds : tie.Need-loop-holds Inv-loop μ-loop
 loop-holds c = (omega arith, each-none _ 0)
@@ -38,14 +38,14 @@ mul-records-fit c = search needs
 records-fit-requires : tie.Need-records-fit-requires Inv-loop μ-loop
 records-fit-requires c κs =
     let k =
-    counts-by (c .before .before .before .before .before .before .before .before .before .before .before .before .before .args .books .now) (c .before .before .loop .s) (c .book-of .ensures)
-    (c .before .before .before .before .before .before .before .before .before .before .before .before .before .pre .9 (c .before .before .loop .s) (c .before .before .loop .inv .0) (c .before .loop-test .taken)) in
-    let p = c .before .before .before .before .before .before .before .before .before .before .before .before .before .pre in
-    (k .records, omega (arith, k .records), p .1, p .2, p .3, p .4, p .5, p .6, p .7, p .8)
+    counts-by (c .before .before .before .before .before .before .before .before .before .before .before .before .before .before .args .books .now) (c .before .before .loop .s) (c .book-of .ensures)
+    (c .before .before .before .before .before .before .before .before .before .before .before .before .before .before .pre .10 (c .before .before .loop .s) (c .before .before .loop .inv .0) (c .before .loop-test .taken)) in
+    let p = c .before .before .before .before .before .before .before .before .before .before .before .before .before .before .pre in
+    (k .records, omega (arith, k .records), p .2, p .3, p .4, p .5, p .6, p .7, p .8, p .9)
 
 returns : tie.Need-returns Inv-loop μ-loop
 returns c =
-    let a = c .before .before .before .before .before .before .before .before .before .before .before .before .before .before .before .args in
+    let a = c .before .before .before .before .before .before .before .before .before .before .before .before .before .before .before .before .args in
     let said =
     records-said (a .books .now) (c .before .before .before .before .loop .s) (c .before .before .book-of .ensures) (a .len .now) (a .node .now) (a .start .now) (a .end .now) (a .id .now) (a .stamp .now) (a .touched .now) (nodesIn (a .books .now))
     (c .before .records-fit .result) (c .before .records-fit .ensures) in
@@ -59,7 +59,7 @@ loop-less c = search needs
 
 loop-again : tie.Need-loop-again Inv-loop μ-loop
 loop-again c =
-    let a = c .before .before .before .before .before .before .before .before .before .before .before .before .before .before .before .args in
+    let a = c .before .before .before .before .before .before .before .before .before .before .before .before .before .before .before .before .args in
     let said =
     records-said (a .books .now) (c .before .before .before .before .loop .s) (c .before .before .book-of .ensures) (a .len .now) (a .node .now) (a .start .now) (a .end .now) (a .id .now) (a .stamp .now) (a .touched .now) (nodesIn (a .books .now))
     (c .before .records-fit .result) (c .before .records-fit .ensures) in
@@ -74,9 +74,9 @@ all-records-fit-spec =
     (tie.spec
     Inv-loop
     μ-loop
-    element-copy-out-nodes
-    element-copy-out-stores
-    element-copy-out-next
+    shared-slice-read-nodes
+    shared-slice-read-stores
+    shared-slice-read-next
     loop-holds
     book-of-requires
     mul-records-fit

@@ -15,14 +15,17 @@ put-refused-requires c κs = search needs
 enum-known-a-2 : tie.Need-enum-known-a-2
 enum-known-a-2 c = search needs
 
-put-whole-requires : tie.Need-put-whole-requires
-put-whole-requires c κs = let h = subst InsertIn (c .before .before .a2 .given .1) (c .before .before .before .before .before .before .before .pre .0) in (search needs, search needs, search needs, search needs)
+enum-told : tie.Need-enum-told
+enum-told c = search needs
 
-enum-known-a-3 : tie.Need-enum-known-a-3
-enum-known-a-3 c = search needs
+put-whole-requires : tie.Need-put-whole-requires
+put-whole-requires c κs = let h = subst InsertIn (c .before .before .before .before .a2 .given .1) (c .before .before .before .before .before .before .before .before .before .pre .0) in (search needs, search needs, search needs, search needs)
+
+enum-known-s : tie.Need-enum-known-s
+enum-known-s c = search needs
 
 put-split-requires : tie.Need-put-split-requires
-put-split-requires c κs = let h = subst InsertIn (c .before .before .a3 .given .1) (c .before .before .before .before .before .before .before .pre .0) in (search needs, search needs, search needs, search needs)
+put-split-requires c κs = let h = subst InsertIn (c .before .before .before .before .before .a2 .given .1) (c .before .before .before .before .before .before .before .before .before .before .pre .0) in (search needs, search needs, search needs, search needs)
 
 same-length : tie.Need-same-length
 same-length c = search needs
@@ -49,8 +52,9 @@ put-inserted-spec =
     enum-known-a
     put-refused-requires
     enum-known-a-2
+    enum-told
     put-whole-requires
-    enum-known-a-3
+    enum-known-s
     put-split-requires
     same-length
     returns

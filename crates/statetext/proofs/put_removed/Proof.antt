@@ -1,7 +1,7 @@
 -- `statetext::put_removed` has room: an answer counts at most 128 writes. Assumes nothing.
 use native.Mathlib.Omega.{arith}
 use mathlib.Core.Path.{subst}
-use Rattle.statetext.specs.Text.{CountIn}
+use Rattle.statetext.specs.Text.{RemoveIn}
 use borrow.Author.Needs.{needs}
 use Rattle.statetext.proofs.put_removed.Statement.{statement}
 use Rattle.statetext.proofs.put_removed.Tie as tie
@@ -16,7 +16,7 @@ enum-known-a-2 : tie.Need-enum-known-a-2
 enum-known-a-2 c = search needs
 
 put-writes-requires : tie.Need-put-writes-requires
-put-writes-requires c κs = let h = subst CountIn (c .before .before .a2 .given .1) (c .before .before .before .before .before .before .pre .0) in (search needs, search needs, search needs)
+put-writes-requires c κs = let h = subst RemoveIn (c .before .before .a2 .given .1) (c .before .before .before .before .before .before .pre .0) in (search needs, search needs, search needs)
 
 same-length : tie.Need-same-length
 same-length c = search needs

@@ -12,22 +12,22 @@ use Rattle.statetext.proofs.put_state.Statement.{statement}
 use Rattle.statetext.proofs.put_state.Tie as tie
 
 abbrev Inv-loop : tie.InvT-loop
-Inv-loop out₀ at parent depth len run words node start end id stamp touched write pin-node pin-start pin-end pin-count marks bytes x nodes stores a next₀ s₀ out next s = (at ≤ next) × (next ≤ at + 36992 + 60928 * s) × (s ≤ storesIn (x .books)) × (length out ≡ length out₀) × (at + 540672 ≤ length out) × Sound (stateFrom parent depth len run words node start end id stamp touched write pin-node pin-start pin-end pin-count marks bytes x)
+Inv-loop out₀ at parent depth len run words node start end id stamp touched write pin-node pin-start pin-end pin-count marks bytes books nodes stores a next₀ s₀ out next s = (at ≤ next) × (next ≤ at + 36992 + 60928 * s) × (s ≤ storesIn books) × (length out ≡ length out₀) × (at + 540672 ≤ length out) × Sound (stateFrom parent depth len run words node start end id stamp touched write pin-node pin-start pin-end pin-count marks bytes books)
 
 abbrev μ-loop : tie.MeasureT-loop
-μ-loop out₀ at parent depth len run words node start end id stamp touched write pin-node pin-start pin-end pin-count marks bytes x nodes stores a next₀ s₀ out next s = storesIn (x .books) - s
+μ-loop out₀ at parent depth len run words node start end id stamp touched write pin-node pin-start pin-end pin-count marks bytes books nodes stores a next₀ s₀ out next s = storesIn books - s
 
-element-copy-out-nodes : tie.Need-element-copy-out-nodes Inv-loop μ-loop
-element-copy-out-nodes c = search needs
+shared-slice-read-nodes : tie.Need-shared-slice-read-nodes Inv-loop μ-loop
+shared-slice-read-nodes c = omega (arith, c .before .before .before .before .before .before .before .before .before .before .before .before .before .before .before .before .before .before .before .before .before .pre .0 .lent .books)
 
-element-copy-out-stores : tie.Need-element-copy-out-stores Inv-loop μ-loop
-element-copy-out-stores c = search needs
+shared-slice-read-stores : tie.Need-shared-slice-read-stores Inv-loop μ-loop
+shared-slice-read-stores c = omega (arith, c .before .before .before .before .before .before .before .before .before .before .before .before .before .before .before .before .before .before .before .before .before .before .pre .0 .lent .books)
 
 put-head-requires : tie.Need-put-head-requires Inv-loop μ-loop
-put-head-requires c κs = omega (arith, c .before .before .before .before .before .before .before .before .before .before .before .before .before .before .before .before .before .before .before .before .before .before .pre .1)
+put-head-requires c κs = (c .before .before .before .before .before .before .before .before .before .before .before .before .before .before .before .before .before .before .before .before .before .before .before .pre .0 .lent .books, omega (arith, c .before .before .before .before .before .before .before .before .before .before .before .before .before .before .before .before .before .before .before .before .before .before .before .pre .1))
 
 put-nodes-requires : tie.Need-put-nodes-requires Inv-loop μ-loop
-put-nodes-requires c κs = (nodes-of _ (c .before .before .before .before .before .before .before .before .before .before .before .before .before .before .before .before .before .before .before .before .before .before .before .before .before .before .pre .0), omega (arith, c .before .before .before .put-head .ensures .high, c .before .before .before .put-head .kept .0, c .before .before .before .before .before .before .before .before .before .before .before .before .before .before .before .before .before .before .before .before .before .before .before .before .before .before .pre .1))
+put-nodes-requires c κs = (nodes-of _ (c .before .before .before .before .before .before .before .before .before .before .before .before .before .before .before .before .before .before .before .before .before .before .before .before .before .before .before .pre .0), omega (arith, c .before .before .before .put-head .ensures .high, c .before .before .before .put-head .kept .0, c .before .before .before .before .before .before .before .before .before .before .before .before .before .before .before .before .before .before .before .before .before .before .before .before .before .before .before .pre .1))
 
 loop-holds : tie.Need-loop-holds Inv-loop μ-loop
 loop-holds c = (
@@ -35,8 +35,8 @@ loop-holds c = (
   omega (arith, c .before .before .before .before .before .before .put-head .ensures .high, c .before .before .put-nodes .ensures .high),
   omega arith,
   omega (arith, c .before .before .before .before .before .before .put-head .kept .0, c .before .before .put-nodes .kept .0),
-  omega (arith, c .before .before .before .before .before .before .put-head .kept .0, c .before .before .put-nodes .kept .0, c .before .before .before .before .before .before .before .before .before .before .before .before .before .before .before .before .before .before .before .before .before .before .before .before .before .before .before .before .before .pre .1),
-  c .before .before .before .before .before .before .before .before .before .before .before .before .before .before .before .before .before .before .before .before .before .before .before .before .before .before .before .before .before .pre .0,
+  omega (arith, c .before .before .before .before .before .before .put-head .kept .0, c .before .before .put-nodes .kept .0, c .before .before .before .before .before .before .before .before .before .before .before .before .before .before .before .before .before .before .before .before .before .before .before .before .before .before .before .before .before .before .pre .1),
+  c .before .before .before .before .before .before .before .before .before .before .before .before .before .before .before .before .before .before .before .before .before .before .before .before .before .before .before .before .before .before .pre .0,
 )
 
 put-whole-store-requires : tie.Need-put-whole-store-requires Inv-loop μ-loop
@@ -76,8 +76,8 @@ put-state-spec =
     (tie.spec
     Inv-loop
     μ-loop
-    element-copy-out-nodes
-    element-copy-out-stores
+    shared-slice-read-nodes
+    shared-slice-read-stores
     put-head-requires
     put-nodes-requires
     loop-holds

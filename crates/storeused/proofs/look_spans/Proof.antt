@@ -48,11 +48,11 @@ use denote.Triple.Table.{entered, cited}
 use denote.Triple.Walked.{says, needs, Stays, stay-none, stay-none-slice, stay-slice, walkOf, goes-none, goes-none-slice, goes-slice, Walks, ends-at, walked, walk-meets}
 use denote.Exit.{yes}
 use Rattle.model.specs.Refusals.{spanIn, noSpan}
-use Rattle.model.specs.State.{Tree, nodesIn}
+use Rattle.model.specs.State.{Tree}
 use Rattle.usedspan.specs.Turn.{looked}
 use Rattle.storeused.specs.Looking.{Looks}
 use Rattle.model.specs.declared.Span.{Span}
-use Rattle.usedspan.specs.declared.Turn.{Turn as Small}
+use Rattle.usedspan.specs.declared.Turn.{Turn as Carried}
 use Rattle.storeused.proofs.Lent.{Have, Lent, lends, backs}
 use Rattle.storeused.proofs.Laws.{looks-start, looks-ask, looks-more, looks-end}
 use Rattle.model.proofs.Span as T
@@ -80,7 +80,7 @@ stayed = (stay-none-slice (0 ∷ []) tt (plain (λ _. T.the-row)) yes, (stay-non
 
 -- what a turn changes, but for i
 record Vars : Type 0 where
-  y : Small
+  y : Carried
 
 -- the rest of a body after its first statement
 abbrev after : Body → Body
@@ -99,7 +99,7 @@ after (call f xs d) = skip
 abbrev One : {M : Type 1} (𝓤 : URA M) (H : Heap 𝓤) (A : Atoms 𝓤) (mem : Memory → SProp 𝓤) (run : Routine → Fun 𝓤) → Contract 𝓤
 One 𝓤 H A mem run = tripleOf 𝓤 H A one.signature (one.spec 𝓤 H A mem run)
 
-module _ {M : Type 1} (𝓤 : URA M) (H : Heap 𝓤) (A : Atoms 𝓤) (W : Given 𝓤 H A) (mem : Memory → SProp 𝓤) (run : Routine → Fun 𝓤) (κ₀ : Lft) (q₀ : Share) (b₀ o₀ : ℕ) (γ₀ : GName) (ss : List Span) (κ₁ : Lft) (q₁ : Share) (b₁ o₁ : ℕ) (γ₁ : GName) (ys₁ : List (usize .Denot)) (x : Small) where
+module _ {M : Type 1} (𝓤 : URA M) (H : Heap 𝓤) (A : Atoms 𝓤) (W : Given 𝓤 H A) (mem : Memory → SProp 𝓤) (run : Routine → Fun 𝓤) (κ₀ : Lft) (q₀ : Share) (b₀ o₀ : ℕ) (γ₀ : GName) (ss : List Span) (κ₁ : Lft) (q₁ : Share) (b₁ o₁ : ℕ) (γ₁ : GName) (ys₁ : List (usize .Denot)) (x : Carried) where
   -- the arguments, and their machine values
   abbrev x₀ : RefT (List Span)
   x₀ = record { ptr = (b₀, o₀); name = γ₀; now = ss }
@@ -143,10 +143,10 @@ module _ {M : Type 1} (𝓤 : URA M) (H : Heap 𝓤) (A : Atoms 𝓤) (W : Given
 
   -- what a look asks for, what it says, and what the looks so far made
   abbrev Asks : Span → Vars → Type 0
-  Asks sp s = nodesIn (s .y .small .books) ≤ length ys₁
+  Asks sp s = s .y .nodes ≤ length ys₁
 
   abbrev Said : Span → Vars → Vars → Type 0
-  Said sp s z = (t : Tree) → t .len ≡ ys₁ → t .nodes ≡ nodesIn (s .y .small .books) → z .y ≡ looked (spanIn t sp) (s .y)
+  Said sp s z = (t : Tree) → t .len ≡ ys₁ → t .nodes ≡ s .y .nodes → z .y ≡ looked (spanIn t sp) (s .y)
 
   abbrev s₀ : Vars
   s₀ = record { y = x }
@@ -155,7 +155,7 @@ module _ {M : Type 1} (𝓤 : URA M) (H : Heap 𝓤) (A : Atoms 𝓤) (W : Given
   Made i s = Looks ss ys₁ x i (s .y)
 
   abbrev First : Type 0
-  First = nodesIn (x .small .books) ≤ length ys₁
+  First = x .nodes ≤ length ys₁
 
   -- what the callee's triple binds outside: a lifetime and a name for each column
   abbrev Names : Type 0
@@ -192,7 +192,7 @@ module _ {M : Type 1} (𝓤 : URA M) (H : Heap 𝓤) (A : Atoms 𝓤) (W : Given
 
   back-all : (sp : Span) (s : Vars) (p : Names) (u : Val) → ent 𝓤 (sep 𝓤 (One 𝓤 H A mem run .post (to sp s p) u) (Kept s p)) (H .⇛ (ex 𝓤 (λ (z : Vars). guard 𝓤 (Next sp s u z) (Cols z))))
   back-all sp s p u =
-      qed W (raw (One 𝓤 H A mem run .post (to sp s p) u) ∷ raw (Kept s p) ∷ []) ∵ updating ! $ use1 W (later (some (λ (r : Small). ((‵ (flft κ₁ q₁) ⊛ ‵ ftrue) ⊛ ‵ (Q .own r (u ∷ []))) ⊛ raw (ensured 𝓤 H A one.ended (one.clauses 𝓤 H A mem run) (κs′ p) (args′ sp s p) tt r)))) (id⊢ 𝓤 _) $ await ! tt $ pick ! (λ r. split ! $ move ! (1 ∷ []) $
+      qed W (raw (One 𝓤 H A mem run .post (to sp s p) u) ∷ raw (Kept s p) ∷ []) ∵ updating ! $ use1 W (later (some (λ (r : Carried). ((‵ (flft κ₁ q₁) ⊛ ‵ ftrue) ⊛ ‵ (Q .own r (u ∷ []))) ⊛ raw (ensured 𝓤 H A one.ended (one.clauses 𝓤 H A mem run) (κs′ p) (args′ sp s p) tt r)))) (id⊢ 𝓤 _) $ await ! tt $ pick ! (λ r. split ! $ move ! (1 ∷ []) $
       use1 W (some (λ (ws : Lasts one.ended (κs′ p) (args′ sp s p)). ‵ (lasts one.ended (κs′ p) (args′ sp s p) ws) ⊛ raw (fact 𝓤 (Said sp s (record { y = r }))))) (id⊢ 𝓤 _) $ pick ! (λ ws. split ! $ move ! (1 ∷ []) $ heard ! (Said sp s (record { y = r })) (λ e.
       fsplit ! $ drop ! $ drop ! $
       split ! $ move ! (1 ∷ []) $ peeks ! Q (Is Q) (shows 𝓤 H A Q) r (u ∷ []) (λ is. drop ! $ split ! $ move ! (1 ∷ []) $ drop ! $

@@ -1,13 +1,14 @@
 -- `storeused::take_turns` meets its contract: each turn is the next of the list, and the first that is refused ends them. Assumes nothing.
-use Prim.Native.Nat.{_≤_, _-_}
+use Prim.Native.Nat.{ℕ, _≤_, _-_}
 use mathlib.Core.Path.{_≡_, _∙_}
+use mathlib.Core.List.{List}
 use native.Mathlib.Omega.{arith}
 use lib.ListN.{length, take}
-use Rattle.lent.specs.declared.Small.{Small}
 use Rattle.lent.specs.Lent.{rangesOf}
-use Rattle.usedspan.specs.Turn.{Others, smallWith}
+use Rattle.usedspan.specs.Turn.{Others, booksWith}
 use Rattle.storeused.specs.Running.{Starts}
-use Rattle.storeused.proofs.Laws.{AsLong, as-long, array-long, array-at, array-in, array-over, span-fits}
+use Rattle.usedspan.proofs.Laws.{AsLong, as-long}
+use Rattle.storeused.proofs.Laws.{array-long, array-at, array-in, array-over, span-fits}
 use Rattle.storeused.proofs.Running.{Running, running-start, running-at, running-next, running-stop, running-end}
 use Rattle.storeused.proofs.take_turns.Statement.{statement}
 use Rattle.storeused.proofs.take_turns.Tie as tie
@@ -15,8 +16,8 @@ use Rattle.storeused.proofs.take_turns.Tie as tie
 abbrev Inv-loop : tie.InvT-loop
 Inv-loop node₀ start₀ end₀ id₀ stamp₀ touched₀ write₀ marks₀ depth bytes s refreshes count time counted spans y j₀ node start end id stamp touched write marks z j =
     (length spans ≡ 64) × AsLong (rangesOf node₀ start₀ end₀ id₀ stamp₀ touched₀ write₀) marks₀ (rangesOf node start end id stamp touched write) marks × (z .number ≡ 0) × (j ≤ count)
-    × ((o : Others) (x : Small) → Starts o x (take count spans) depth bytes (rangesOf node₀ start₀ end₀ id₀ stamp₀ touched₀ write₀) marks₀ s refreshes time counted y
-    → Running o x (take count spans) depth bytes (rangesOf node₀ start₀ end₀ id₀ stamp₀ touched₀ write₀) marks₀ s time counted j (rangesOf node start end id stamp touched write) marks z)
+    × ((o : Others) (x : List ℕ) → Starts o x (take count spans) depth bytes (rangesOf node₀ start₀ end₀ id₀ stamp₀ touched₀ write₀) marks₀ s refreshes time counted y
+    → Running o x (take count spans) depth bytes (rangesOf node₀ start₀ end₀ id₀ stamp₀ touched₀ write₀) marks₀ s refreshes time counted j (rangesOf node start end id stamp touched write) marks z)
 
 abbrev μ-loop : tie.MeasureT-loop
 μ-loop node₀ start₀ end₀ id₀ stamp₀ touched₀ write₀ marks₀ depth bytes s refreshes count time counted spans y j₀ node start end id stamp touched write marks z j = count - j
@@ -41,8 +42,8 @@ one-turn-requires c κs =
     let p = z .pre .0 in
     record {
       others = p .others;
-      small = smallWith (z .args .s) (l .z) (p .small);
-      ready = running-at (p .others) (p .small) (take (z .args .count) (z .args .t13)) (z .args .depth .now) (z .args .bytes .now) (rangesOf (z .args .node .now) (z .args .start .now) (z .args .end .now) (z .args .id .now) (z .args .stamp .now) (z .args .touched .now) (z .args .write .now)) (z .args .marks .now) (z .args .s) (z .args .refreshes) (z .args .time) (z .args .counted) (z .args .y) (p .starts) (l .j) (rangesOf (l .node) (l .start) (l .end) (l .id) (l .stamp) (l .touched) (l .write)) (l .marks) (l .z) (l .inv .4 (p .others) (p .small) (p .starts)) _ (array-in _ _ (l .inv .0) (z .pre .1) t)
+      books = booksWith (z .args .s) (l .z) (p .books);
+      ready = running-at (p .others) (p .books) (take (z .args .count) (z .args .t13)) (z .args .depth .now) (z .args .bytes .now) (rangesOf (z .args .node .now) (z .args .start .now) (z .args .end .now) (z .args .id .now) (z .args .stamp .now) (z .args .touched .now) (z .args .write .now)) (z .args .marks .now) (z .args .s) (z .args .refreshes) (z .args .time) (z .args .counted) (z .args .y) (p .starts) (l .j) (rangesOf (l .node) (l .start) (l .end) (l .id) (l .stamp) (l .touched) (l .write)) (l .marks) (l .z) (l .inv .4 (p .others) (p .books) (p .starts)) _ (array-in _ _ (l .inv .0) (z .pre .1) t)
           (array-at (z .args .t13) (z .args .count) (l .inv .0) (z .pre .1) (l .j) _ t);
     }
 
@@ -78,7 +79,7 @@ returns c =
     let k = c .before .before .before .before .before .before .before .before .before .before .before .before .before .before .before .before .before .before .one-turn in
     λ o x q. running-stop o x (take (z .args .count) (z .args .t13)) (z .args .depth .now) (z .args .bytes .now) (rangesOf (z .args .node .now) (z .args .start .now) (z .args .end .now) (z .args .id .now) (z .args .stamp .now) (z .args .touched .now) (z .args .write .now)) (z .args .marks .now) (z .args .s) (z .args .refreshes) (z .args .time) (z .args .counted) (z .args .y) q (l .j) (rangesOf (l .node) (l .start) (l .end) (l .id) (l .stamp) (l .touched) (l .write)) (l .marks) (l .z) (l .inv .4 o x q) _ (array-in _ _ (l .inv .0) (z .pre .1) t)
     (array-at (z .args .t13) (z .args .count) (l .inv .0) (z .pre .1) (l .j) _ t) (rangesOf (k .last .1 .0) (k .last .1 .1 .0) (k .last .1 .1 .1 .0) (k .last .1 .1 .1 .1 .0) (k .last .1 .1 .1 .1 .1 .0) (k .last .1 .1 .1 .1 .1 .1 .0) (k .last .1 .1 .1 .1 .1 .1 .1 .0)) (k .last .1 .1 .1 .1 .1 .1 .1 .1 .0) (k .result)
-    (k .ensures o (smallWith (z .args .s) (l .z) x) (running-at o x (take (z .args .count) (z .args .t13)) (z .args .depth .now) (z .args .bytes .now) (rangesOf (z .args .node .now) (z .args .start .now) (z .args .end .now) (z .args .id .now) (z .args .stamp .now) (z .args .touched .now) (z .args .write .now)) (z .args .marks .now) (z .args .s) (z .args .refreshes) (z .args .time) (z .args .counted) (z .args .y) q (l .j) (rangesOf (l .node) (l .start) (l .end) (l .id) (l .stamp) (l .touched) (l .write)) (l .marks) (l .z) (l .inv .4 o x q) _ (array-in _ _ (l .inv .0) (z .pre .1) t)
+    (k .ensures o (booksWith (z .args .s) (l .z) x) (running-at o x (take (z .args .count) (z .args .t13)) (z .args .depth .now) (z .args .bytes .now) (rangesOf (z .args .node .now) (z .args .start .now) (z .args .end .now) (z .args .id .now) (z .args .stamp .now) (z .args .touched .now) (z .args .write .now)) (z .args .marks .now) (z .args .s) (z .args .refreshes) (z .args .time) (z .args .counted) (z .args .y) q (l .j) (rangesOf (l .node) (l .start) (l .end) (l .id) (l .stamp) (l .touched) (l .write)) (l .marks) (l .z) (l .inv .4 o x q) _ (array-in _ _ (l .inv .0) (z .pre .1) t)
     (array-at (z .args .t13) (z .args .count) (l .inv .0) (z .pre .1) (l .j) _ t))) (c .if1 .taken)
 
 add-j : tie.Need-add-j Inv-loop μ-loop
@@ -99,7 +100,7 @@ loop-again c =
       omega (arith, t),
       λ o x q. running-next o x (take (z .args .count) (z .args .t13)) (z .args .depth .now) (z .args .bytes .now) (rangesOf (z .args .node .now) (z .args .start .now) (z .args .end .now) (z .args .id .now) (z .args .stamp .now) (z .args .touched .now) (z .args .write .now)) (z .args .marks .now) (z .args .s) (z .args .refreshes) (z .args .time) (z .args .counted) (z .args .y) q (l .j) (rangesOf (l .node) (l .start) (l .end) (l .id) (l .stamp) (l .touched) (l .write)) (l .marks) (l .z) (l .inv .4 o x q) _ (array-in _ _ (l .inv .0) (z .pre .1) t)
           (array-at (z .args .t13) (z .args .count) (l .inv .0) (z .pre .1) (l .j) _ t) (rangesOf (k .last .1 .0) (k .last .1 .1 .0) (k .last .1 .1 .1 .0) (k .last .1 .1 .1 .1 .0) (k .last .1 .1 .1 .1 .1 .0) (k .last .1 .1 .1 .1 .1 .1 .0) (k .last .1 .1 .1 .1 .1 .1 .1 .0)) (k .last .1 .1 .1 .1 .1 .1 .1 .1 .0) (k .result)
-          (k .ensures o (smallWith (z .args .s) (l .z) x) (running-at o x (take (z .args .count) (z .args .t13)) (z .args .depth .now) (z .args .bytes .now) (rangesOf (z .args .node .now) (z .args .start .now) (z .args .end .now) (z .args .id .now) (z .args .stamp .now) (z .args .touched .now) (z .args .write .now)) (z .args .marks .now) (z .args .s) (z .args .refreshes) (z .args .time) (z .args .counted) (z .args .y) q (l .j) (rangesOf (l .node) (l .start) (l .end) (l .id) (l .stamp) (l .touched) (l .write)) (l .marks) (l .z) (l .inv .4 o x q) _ (array-in _ _ (l .inv .0) (z .pre .1) t)
+          (k .ensures o (booksWith (z .args .s) (l .z) x) (running-at o x (take (z .args .count) (z .args .t13)) (z .args .depth .now) (z .args .bytes .now) (rangesOf (z .args .node .now) (z .args .start .now) (z .args .end .now) (z .args .id .now) (z .args .stamp .now) (z .args .touched .now) (z .args .write .now)) (z .args .marks .now) (z .args .s) (z .args .refreshes) (z .args .time) (z .args .counted) (z .args .y) q (l .j) (rangesOf (l .node) (l .start) (l .end) (l .id) (l .stamp) (l .touched) (l .write)) (l .marks) (l .z) (l .inv .4 o x q) _ (array-in _ _ (l .inv .0) (z .pre .1) t)
           (array-at (z .args .t13) (z .args .count) (l .inv .0) (z .pre .1) (l .j) _ t))) (c .if1 .left),
     )
 

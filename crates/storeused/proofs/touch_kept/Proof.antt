@@ -1,28 +1,29 @@
--- `storeused::touch_kept` meets its contract: the part that was kept gives the pools back where a turn was refused. Assumes nothing.
+-- `storeused::touch_kept` meets its contract: the part that was kept gives the pools back where a turn was refused, and the numbers are written where none was. Assumes nothing.
 use mathlib.Core.Path.{_∙_}
 use lib.ListN.{take}
 use Rattle.lent.specs.Lent.{rangesOf}
-use Rattle.storeused.proofs.Running.{low, lends, lent-still, went-done, went-refused}
+use Rattle.usedspan.proofs.Laws.{lent-still}
+use Rattle.storeused.proofs.Running.{low, lends, went-done, went-refused}
 use Rattle.storeused.proofs.touch_kept.Statement.{statement}
 use Rattle.storeused.proofs.touch_kept.Tie as tie
 
 keep-requires : tie.Need-keep-requires
 keep-requires c κs =
-    let z = c .before .before .before .before .before .before .before .before .before .before .before .before .before .before .before .before .before .before in
+    let z = c .before .before .before .before .before .before .before .before .before .before .before .before .before .before .before .before .before .before .before in
     let p = z .pre .0 in
-    lends (p .others) (p .small) (take (z .args .count) (z .args .spans)) (z .args .depth .now) (z .args .bytes .now) (rangesOf (z .args .node .now) (z .args .start .now) (z .args .end .now) (z .args .id .now) (z .args .stamp .now) (z .args .touched .now) (z .args .write .now)) (z .args .marks .now) (z .args .s) (z .args .refreshes) (z .args .time) (z .args .counted) (z .args .y) (p .starts)
+    lends (p .others) (p .books) (take (z .args .count) (z .args .spans)) (z .args .depth .now) (z .args .bytes .now) (rangesOf (z .args .node .now) (z .args .start .now) (z .args .end .now) (z .args .id .now) (z .args .stamp .now) (z .args .touched .now) (z .args .write .now)) (z .args .marks .now) (z .args .s) (z .args .refreshes) (z .args .time) (z .args .counted) (z .args .y) (p .starts)
 
 take-turns-requires : tie.Need-take-turns-requires
-take-turns-requires c κs = c .before .before .before .before .before .before .before .before .before .before .before .before .before .before .before .before .before .before .before .before .before .before .before .before .before .before .before .pre
+take-turns-requires c κs = (c .before .before .before .before .before .before .before .before .before .before .before .before .before .before .before .before .before .before .before .before .before .before .before .before .before .before .before .before .pre .0, c .before .before .before .before .before .before .before .before .before .before .before .before .before .before .before .before .before .before .before .before .before .before .before .before .before .before .before .before .pre .1)
 
 undo-requires : tie.Need-undo-requires
 undo-requires c κs =
-    let z = c .before .before .before .before .before .before .before .before .before .before .before .before .before .before .before .before .before .before .before .before .before .before .before .before .before .before .before .before .before .before .before .before .before .before .before .before .before .before .before .before .before .before .before .before .before .before .before .before .before .before .before .before .before .before in
+    let z = c .before .before .before .before .before .before .before .before .before .before .before .before .before .before .before .before .before .before .before .before .before .before .before .before .before .before .before .before .before .before .before .before .before .before .before .before .before .before .before .before .before .before .before .before .before .before .before .before .before .before .before .before .before .before .before in
     let p = z .pre .0 in
     let k = c .before .before .before .before .before .before .before .before .before .before .before .before .before .before .before .before .before .before .before .before .before .before .before .before .before .before .take-turns in
-    lent-still {c₀ = (rangesOf (z .args .node .now) (z .args .start .now) (z .args .end .now) (z .args .id .now) (z .args .stamp .now) (z .args .touched .now) (z .args .write .now))} {c = (rangesOf (k .last .0) (k .last .1 .0) (k .last .1 .1 .0) (k .last .1 .1 .1 .0) (k .last .1 .1 .1 .1 .0) (k .last .1 .1 .1 .1 .1 .0) (k .last .1 .1 .1 .1 .1 .1 .0))} {ms₀ = z .args .marks .now} {ms = k .last .1 .1 .1 .1 .1 .1 .1 .0}
+    lent-still {c₀ = (rangesOf (z .args .node .now) (z .args .start .now) (z .args .end .now) (z .args .id .now) (z .args .stamp .now) (z .args .touched .now) (z .args .write .now))} {c = (rangesOf (k .last .0) (k .last .1 .0) (k .last .1 .1 .0) (k .last .1 .1 .1 .0) (k .last .1 .1 .1 .1 .0) (k .last .1 .1 .1 .1 .1 .0) (k .last .1 .1 .1 .1 .1 .1 .0))} {ms₀ = z .args .marks .now} {ms = (k .last .1 .1 .1 .1 .1 .1 .1 .0)}
     (record { node = k .kept .0; start = k .kept .1 .0; end = k .kept .1 .1 .0; id = k .kept .1 .1 .1 .0; stamp = k .kept .1 .1 .1 .1 .0; touched = k .kept .1 .1 .1 .1 .1 .0; write = k .kept .1 .1 .1 .1 .1 .1 .0; marks = k .kept .1 .1 .1 .1 .1 .1 .1 .0 })
-    (lends (p .others) (p .small) (take (z .args .count) (z .args .spans)) (z .args .depth .now) (z .args .bytes .now) (rangesOf (z .args .node .now) (z .args .start .now) (z .args .end .now) (z .args .id .now) (z .args .stamp .now) (z .args .touched .now) (z .args .write .now)) (z .args .marks .now) (z .args .s) (z .args .refreshes) (z .args .time) (z .args .counted) (z .args .y) (p .starts))
+    (lends (p .others) (p .books) (take (z .args .count) (z .args .spans)) (z .args .depth .now) (z .args .bytes .now) (rangesOf (z .args .node .now) (z .args .start .now) (z .args .end .now) (z .args .id .now) (z .args .stamp .now) (z .args .touched .now) (z .args .write .now)) (z .args .marks .now) (z .args .s) (z .args .refreshes) (z .args .time) (z .args .counted) (z .args .y) (p .starts))
 
 same-length : tie.Need-same-length
 same-length c = c .before .before .before .before .before .before .before .before .before .before .before .before .before .before .before .before .undo .kept .0 ∙ c .before .before .before .before .before .before .before .before .before .before .before .before .before .before .before .before .before .before .before .before .before .before .before .before .before .before .before .before .before .before .before .before .before .before .before .before .before .before .before .before .before .before .before .take-turns .kept .0
@@ -50,46 +51,53 @@ same-length-8 c = c .before .before .before .before .before .before .before .bef
 
 returns : tie.Need-returns
 returns c =
-    let z = c .before .before .before .before .before .before .before .before .before .before .before .before .before .before .before .before .before .before .before .before .before .before .before .before .before .before .before .before .before .before .before .before .before .before .before .before .before .before .before .before .before .before .before .before .before .before .before .before .before .before .before .before .before .before .before .before .before .before .before .before .before .before .before .before .before .before .before .before .before .before .before in
+    let z = c .before .before .before .before .before .before .before .before .before .before .before .before .before .before .before .before .before .before .before .before .before .before .before .before .before .before .before .before .before .before .before .before .before .before .before .before .before .before .before .before .before .before .before .before .before .before .before .before .before .before .before .before .before .before .before .before .before .before .before .before .before .before .before .before .before .before .before .before .before .before .before .before in
     let k = c .before .before .before .before .before .before .before .before .before .before .before .before .before .before .before .before .before .before .before .before .before .before .before .before .before .before .before .before .before .before .before .before .before .before .before .before .before .before .before .before .before .before .before .take-turns in
     let u = c .before .before .before .before .before .before .before .before .before .before .before .before .before .before .before .before .undo in
-    λ o q. went-refused o (z .args .x) (take (z .args .count) (z .args .spans)) (z .args .depth .now) (z .args .bytes .now) (rangesOf (z .args .node .now) (z .args .start .now) (z .args .end .now) (z .args .id .now) (z .args .stamp .now) (z .args .touched .now) (z .args .write .now)) (z .args .marks .now) (z .args .s) (z .args .refreshes) (z .args .time) (z .args .counted) (z .args .y) q (rangesOf (k .last .0) (k .last .1 .0) (k .last .1 .1 .0) (k .last .1 .1 .1 .0) (k .last .1 .1 .1 .1 .0) (k .last .1 .1 .1 .1 .1 .0) (k .last .1 .1 .1 .1 .1 .1 .0)) (k .last .1 .1 .1 .1 .1 .1 .1 .0) (k .result) (k .ensures o (z .args .x) q) (c .before .before .before .before .before .before .before .before .before .before .before .before .before .before .before .before .before .before .before .before .before .before .before .before .before .before .before .before .before .before .before .before .before .before .before .before .before .before .before .before .before .before .before .before .before .before .before .before .before .before .before .before .keep .result) (rangesOf (u .last .0) (u .last .1 .0) (u .last .1 .1 .0) (u .last .1 .1 .1 .0) (u .last .1 .1 .1 .1 .0) (u .last .1 .1 .1 .1 .1 .0) (u .last .1 .1 .1 .1 .1 .1 .0)) (u .last .1 .1 .1 .1 .1 .1 .1 .0) (c .before .before .before .before .before .before .before .before .before .before .before .before .before .before .before .before .before .before .before .before .before .before .before .before .before .if1 .taken) (c .before .before .before .before .before .before .before .before .before .before .before .before .before .before .before .before .before .before .before .before .before .before .before .before .before .before .before .before .before .before .before .before .before .before .before .before .before .before .before .before .before .before .before .before .before .before .before .before .before .before .before .before .keep .ensures) (u .ensures .0) (u .ensures .1)
+    λ o q. went-refused o (z .args .books .now) (take (z .args .count) (z .args .spans)) (z .args .depth .now) (z .args .bytes .now) (rangesOf (z .args .node .now) (z .args .start .now) (z .args .end .now) (z .args .id .now) (z .args .stamp .now) (z .args .touched .now) (z .args .write .now)) (z .args .marks .now) (z .args .s) (z .args .refreshes) (z .args .time) (z .args .counted) (z .args .y) q
+    (rangesOf (k .last .0) (k .last .1 .0) (k .last .1 .1 .0) (k .last .1 .1 .1 .0) (k .last .1 .1 .1 .1 .0) (k .last .1 .1 .1 .1 .1 .0) (k .last .1 .1 .1 .1 .1 .1 .0)) (k .last .1 .1 .1 .1 .1 .1 .1 .0) (k .result) (k .ensures o (z .args .books .now) q)
+    (c .before .before .before .before .before .before .before .before .before .before .before .before .before .before .before .before .before .before .before .before .before .before .before .before .before .before .before .before .before .before .before .before .before .before .before .before .before .before .before .before .before .before .before .before .before .before .before .before .before .before .before .before .keep .result) (rangesOf (u .last .0) (u .last .1 .0) (u .last .1 .1 .0) (u .last .1 .1 .1 .0) (u .last .1 .1 .1 .1 .0) (u .last .1 .1 .1 .1 .1 .0) (u .last .1 .1 .1 .1 .1 .1 .0)) (u .last .1 .1 .1 .1 .1 .1 .1 .0) (c .before .before .before .before .before .before .before .before .before .before .before .before .before .before .before .before .before .before .before .before .before .before .before .before .before .if1 .taken) (c .before .before .before .before .before .before .before .before .before .before .before .before .before .before .before .before .before .before .before .before .before .before .before .before .before .before .before .before .before .before .before .before .before .before .before .before .before .before .before .before .before .before .before .before .before .before .before .before .before .before .before .before .keep .ensures) (u .ensures .0) (u .ensures .1)
 
-run-done-requires : tie.Need-run-done-requires
-run-done-requires c κs =
-    let z = c .before .before .before .before .before .before .before .before .before .before .before .before .before .before .before .before .before .before .before .before .before .before .before .before .before .before .before .before .before .before .before .before .before .before .before .before .before .before .before .before .before .before .before .before .before .before in
+put-run-requires : tie.Need-put-run-requires
+put-run-requires c κs =
+    let z = c .before .before .before .before .before .before .before .before .before .before .before .before .before .before .before .before .before .before .before .before .before .before .before .before .before .before .before .before .before .before .before .before .before .before .before .before .before .before .before .before .before .before .before .before .before .before .before .before in
     let p = z .pre .0 in
-    low (p .others) (p .small) (take (z .args .count) (z .args .spans)) (z .args .depth .now) (z .args .bytes .now) (rangesOf (z .args .node .now) (z .args .start .now) (z .args .end .now) (z .args .id .now) (z .args .stamp .now) (z .args .touched .now) (z .args .write .now)) (z .args .marks .now) (z .args .s) (z .args .refreshes) (z .args .time) (z .args .counted) (z .args .y) (p .starts)
+    (low (p .others) (p .books) (take (z .args .count) (z .args .spans)) (z .args .depth .now) (z .args .bytes .now) (rangesOf (z .args .node .now) (z .args .start .now) (z .args .end .now) (z .args .id .now) (z .args .stamp .now) (z .args .touched .now) (z .args .write .now)) (z .args .marks .now) (z .args .s) (z .args .refreshes) (z .args .time) (z .args .counted) (z .args .y) (p .starts), z .pre .2)
 
 same-length-9 : tie.Need-same-length-9
-same-length-9 c = c .before .before .before .before .before .before .before .before .before .before .before .before .before .before .before .before .before .before .before .take-turns .kept .0
+same-length-9 c = c .before .before .before .before .before .before .before .before .before .before .before .before .before .before .before .before .before .before .before .before .before .before .take-turns .kept .0
 
 same-length-10 : tie.Need-same-length-10
-same-length-10 c = c .before .before .before .before .before .before .before .before .before .before .before .before .before .before .before .before .before .before .before .take-turns .kept .1 .0
+same-length-10 c = c .before .before .before .before .before .before .before .before .before .before .before .before .before .before .before .before .before .before .before .before .before .before .take-turns .kept .1 .0
 
 same-length-11 : tie.Need-same-length-11
-same-length-11 c = c .before .before .before .before .before .before .before .before .before .before .before .before .before .before .before .before .before .before .before .take-turns .kept .1 .1 .0
+same-length-11 c = c .before .before .before .before .before .before .before .before .before .before .before .before .before .before .before .before .before .before .before .before .before .before .take-turns .kept .1 .1 .0
 
 same-length-12 : tie.Need-same-length-12
-same-length-12 c = c .before .before .before .before .before .before .before .before .before .before .before .before .before .before .before .before .before .before .before .take-turns .kept .1 .1 .1 .0
+same-length-12 c = c .before .before .before .before .before .before .before .before .before .before .before .before .before .before .before .before .before .before .before .before .before .before .take-turns .kept .1 .1 .1 .0
 
 same-length-13 : tie.Need-same-length-13
-same-length-13 c = c .before .before .before .before .before .before .before .before .before .before .before .before .before .before .before .before .before .before .before .take-turns .kept .1 .1 .1 .1 .0
+same-length-13 c = c .before .before .before .before .before .before .before .before .before .before .before .before .before .before .before .before .before .before .before .before .before .before .take-turns .kept .1 .1 .1 .1 .0
 
 same-length-14 : tie.Need-same-length-14
-same-length-14 c = c .before .before .before .before .before .before .before .before .before .before .before .before .before .before .before .before .before .before .before .take-turns .kept .1 .1 .1 .1 .1 .0
+same-length-14 c = c .before .before .before .before .before .before .before .before .before .before .before .before .before .before .before .before .before .before .before .before .before .before .take-turns .kept .1 .1 .1 .1 .1 .0
 
 same-length-15 : tie.Need-same-length-15
-same-length-15 c = c .before .before .before .before .before .before .before .before .before .before .before .before .before .before .before .before .before .before .before .take-turns .kept .1 .1 .1 .1 .1 .1 .0
+same-length-15 c = c .before .before .before .before .before .before .before .before .before .before .before .before .before .before .before .before .before .before .before .before .before .before .take-turns .kept .1 .1 .1 .1 .1 .1 .0
 
 same-length-16 : tie.Need-same-length-16
-same-length-16 c = c .before .before .before .before .before .before .before .before .before .before .before .before .before .before .before .before .before .before .before .take-turns .kept .1 .1 .1 .1 .1 .1 .1 .0
+same-length-16 c = c .before .before .before .before .before .before .before .before .before .before .before .before .before .before .before .before .before .before .before .before .before .before .take-turns .kept .1 .1 .1 .1 .1 .1 .1 .0
+
+same-length-17 : tie.Need-same-length-17
+same-length-17 c = c .before .before .put-run .kept .0
 
 returns-2 : tie.Need-returns-2
 returns-2 c =
-    let z = c .before .before .before .before .before .before .before .before .before .before .before .before .before .before .before .before .before .before .before .before .before .before .before .before .before .before .before .before .before .before .before .before .before .before .before .before .before .before .before .before .before .before .before .before .before .before .before in
-    let k = c .before .before .before .before .before .before .before .before .before .before .before .before .before .before .before .before .before .before .before .take-turns in
-    λ o q. went-done o (z .args .x) (take (z .args .count) (z .args .spans)) (z .args .depth .now) (z .args .bytes .now) (rangesOf (z .args .node .now) (z .args .start .now) (z .args .end .now) (z .args .id .now) (z .args .stamp .now) (z .args .touched .now) (z .args .write .now)) (z .args .marks .now) (z .args .s) (z .args .refreshes) (z .args .time) (z .args .counted) (z .args .y) q (rangesOf (k .last .0) (k .last .1 .0) (k .last .1 .1 .0) (k .last .1 .1 .1 .0) (k .last .1 .1 .1 .1 .0) (k .last .1 .1 .1 .1 .1 .0) (k .last .1 .1 .1 .1 .1 .1 .0)) (k .last .1 .1 .1 .1 .1 .1 .1 .0) (k .result) (k .ensures o (z .args .x) q) (c .run-done .result) (c .run-done .ensures) (c .before .if1 .left)
+    let z = c .before .before .before .before .before .before .before .before .before .before .before .before .before .before .before .before .before .before .before .before .before .before .before .before .before .before .before .before .before .before .before .before .before .before .before .before .before .before .before .before .before .before .before .before .before .before .before .before .before .before .before in
+    let k = c .before .before .before .before .before .before .before .before .before .before .before .before .before .before .before .before .before .before .before .before .before .before .take-turns in
+    λ o q. went-done o (z .args .books .now) (take (z .args .count) (z .args .spans)) (z .args .depth .now) (z .args .bytes .now) (rangesOf (z .args .node .now) (z .args .start .now) (z .args .end .now) (z .args .id .now) (z .args .stamp .now) (z .args .touched .now) (z .args .write .now)) (z .args .marks .now) (z .args .s) (z .args .refreshes) (z .args .time) (z .args .counted) (z .args .y) q
+    (rangesOf (k .last .0) (k .last .1 .0) (k .last .1 .1 .0) (k .last .1 .1 .1 .0) (k .last .1 .1 .1 .1 .0) (k .last .1 .1 .1 .1 .1 .0) (k .last .1 .1 .1 .1 .1 .1 .0)) (k .last .1 .1 .1 .1 .1 .1 .1 .0) (k .result) (k .ensures o (z .args .books .now) q)
+    (c .before .before .put-run .last .0) (c .before .before .put-run .ensures) (c .before .before .before .before .if1 .left)
 
 pub touch-kept-spec : {M : Type 1} → statement M
 touch-kept-spec =
@@ -107,7 +115,7 @@ touch-kept-spec =
     same-length-7
     same-length-8
     returns
-    run-done-requires
+    put-run-requires
     same-length-9
     same-length-10
     same-length-11
@@ -116,4 +124,5 @@ touch-kept-spec =
     same-length-14
     same-length-15
     same-length-16
+    same-length-17
     returns-2)

@@ -50,10 +50,10 @@ use denote.Exit.{yes}
 use Rattle.model.specs.Refusals.{noSpan}
 use Rattle.model.specs.State.{Ranges}
 use Rattle.lent.specs.Lent.{rangesOf}
-use Rattle.usedspan.specs.Turn.{Others, whole as wholly, Ready, Turned as Turning}
+use Rattle.usedspan.specs.Turn.{Others, whole as wholly, booksWith, TurnAt, Ready, Turned as Turning}
 use Rattle.storeused.specs.Going.{AtFirst, Turns}
 use Rattle.model.specs.declared.Span.{Span}
-use Rattle.usedspan.specs.declared.Turn.{Turn as Small}
+use Rattle.usedspan.specs.declared.Turn.{Turn as Carried}
 use Rattle.storeused.proofs.Lent.{Have, Lent, lends, backs}
 use Rattle.storeused.proofs.Laws.{list-start, list-asks, list-more, list-end}
 use Rattle.model.proofs.Span as T
@@ -89,7 +89,7 @@ record Vars : Type 0 where
   touched : List (f64 .Denot)
   write : List (u32 .Denot)
   marks : List (usize .Denot)
-  y : Small
+  y : Carried
 
 -- the rest of a body after its first statement
 abbrev after : Body → Body
@@ -108,7 +108,7 @@ after (call f xs d) = skip
 abbrev One : {M : Type 1} (𝓤 : URA M) (H : Heap 𝓤) (A : Atoms 𝓤) (mem : Memory → SProp 𝓤) (run : Routine → Fun 𝓤) → Contract 𝓤
 One 𝓤 H A mem run = tripleOf 𝓤 H A one.signature (one.spec 𝓤 H A mem run)
 
-module _ {M : Type 1} (𝓤 : URA M) (H : Heap 𝓤) (A : Atoms 𝓤) (W : Given 𝓤 H A) (mem : Memory → SProp 𝓤) (run : Routine → Fun 𝓤) (κ₀ : Lft) (q₀ : Share) (b₀ o₀ : ℕ) (γ₀ : GName) (ss : List Span) (κ₁ : Lft) (q₁ : Share) (b₁ o₁ : ℕ) (γ₁ : GName) (ys₁ : List (usize .Denot)) (κ₂ : Lft) (q₂ : Share) (b₂ o₂ : ℕ) (γ₂ : GName) (ys₂ : List (usize .Denot)) (κ₃ : Lft) (q₃ : Share) (b₃ o₃ : ℕ) (γ₃ : GName) (ys₃ : List (usize .Denot)) (κ₄ : Lft) (q₄ : Share) (b₄ o₄ : ℕ) (γ₄ : GName) (ys₄ : List (u64 .Denot)) (κ₅ : Lft) (q₅ : Share) (b₅ o₅ : ℕ) (γ₅ : GName) (ys₅ : List (u64 .Denot)) (κ₆ : Lft) (q₆ : Share) (b₆ o₆ : ℕ) (γ₆ : GName) (ys₆ : List (f64 .Denot)) (κ₇ : Lft) (q₇ : Share) (b₇ o₇ : ℕ) (γ₇ : GName) (ys₇ : List (u32 .Denot)) (κ₈ : Lft) (q₈ : Share) (b₈ o₈ : ℕ) (γ₈ : GName) (ys₈ : List (usize .Denot)) (κ₉ : Lft) (q₉ : Share) (b₉ o₉ : ℕ) (γ₉ : GName) (ys₉ : List (usize .Denot)) (κ₁₀ : Lft) (q₁₀ : Share) (b₁₀ o₁₀ : ℕ) (γ₁₀ : GName) (ys₁₀ : List (u64 .Denot)) (x : Small) where
+module _ {M : Type 1} (𝓤 : URA M) (H : Heap 𝓤) (A : Atoms 𝓤) (W : Given 𝓤 H A) (mem : Memory → SProp 𝓤) (run : Routine → Fun 𝓤) (κ₀ : Lft) (q₀ : Share) (b₀ o₀ : ℕ) (γ₀ : GName) (ss : List Span) (κ₁ : Lft) (q₁ : Share) (b₁ o₁ : ℕ) (γ₁ : GName) (ys₁ : List (usize .Denot)) (κ₂ : Lft) (q₂ : Share) (b₂ o₂ : ℕ) (γ₂ : GName) (ys₂ : List (usize .Denot)) (κ₃ : Lft) (q₃ : Share) (b₃ o₃ : ℕ) (γ₃ : GName) (ys₃ : List (usize .Denot)) (κ₄ : Lft) (q₄ : Share) (b₄ o₄ : ℕ) (γ₄ : GName) (ys₄ : List (u64 .Denot)) (κ₅ : Lft) (q₅ : Share) (b₅ o₅ : ℕ) (γ₅ : GName) (ys₅ : List (u64 .Denot)) (κ₆ : Lft) (q₆ : Share) (b₆ o₆ : ℕ) (γ₆ : GName) (ys₆ : List (f64 .Denot)) (κ₇ : Lft) (q₇ : Share) (b₇ o₇ : ℕ) (γ₇ : GName) (ys₇ : List (u32 .Denot)) (κ₈ : Lft) (q₈ : Share) (b₈ o₈ : ℕ) (γ₈ : GName) (ys₈ : List (usize .Denot)) (κ₉ : Lft) (q₉ : Share) (b₉ o₉ : ℕ) (γ₉ : GName) (ys₉ : List (usize .Denot)) (κ₁₀ : Lft) (q₁₀ : Share) (b₁₀ o₁₀ : ℕ) (γ₁₀ : GName) (ys₁₀ : List (u64 .Denot)) (x : Carried) where
   -- the arguments, and their machine values
   abbrev x₀ : RefT (List Span)
   x₀ = record { ptr = (b₀, o₀); name = γ₀; now = ss }
@@ -239,7 +239,9 @@ module _ {M : Type 1} (𝓤 : URA M) (H : Heap 𝓤) (A : Atoms 𝓤) (W : Given
   Asks sp s = Ready sp ys₉ ys₁₀ (pools s) (s .marks) (s .y)
 
   abbrev Said : Span → Vars → Vars → Type 0
-  Said sp s z = (q : Others) → Turning sp (wholly q ys₉ ys₁₀ (pools s) (s .marks) (s .y .small)) (s .y) (wholly q ys₉ ys₁₀ (pools z) (z .marks) (z .y .small)) (z .y)
+  Said sp s z =
+      (q : Others) (l : List ℕ) → (s .y .run .number ≡ 0 → TurnAt q l sp ys₉ ys₁₀ (pools s) (s .marks) (s .y))
+      → Turning sp (wholly q ys₉ ys₁₀ (pools s) (s .marks) l) (s .y) (wholly q ys₉ ys₁₀ (pools z) (z .marks) (booksWith (s .y .s) (z .y .run) l)) (z .y)
 
   abbrev s₀ : Vars
   s₀ = record { node = ys₁; start = ys₂; end = ys₃; id = ys₄; stamp = ys₅; touched = ys₆; write = ys₇; marks = ys₈; y = x }
@@ -294,7 +296,7 @@ module _ {M : Type 1} (𝓤 : URA M) (H : Heap 𝓤) (A : Atoms 𝓤) (W : Given
 
   back-all : (sp : Span) (s : Vars) (p : Names) (u : Val) → ent 𝓤 (sep 𝓤 (One 𝓤 H A mem run .post (to sp s p) u) (Kept s p)) (H .⇛ (ex 𝓤 (λ (z : Vars). guard 𝓤 (Next sp s u z) (Cols z))))
   back-all sp s p u =
-      qed W (raw (One 𝓤 H A mem run .post (to sp s p) u) ∷ raw (Kept s p) ∷ []) ∵ updating ! $ use1 W (later (some (λ (r : Small). ((‵ (flft (p .0 .0 ∷ []) fullShare) ⊛ ‵ (flft (p .1 .0 .0 ∷ []) fullShare) ⊛ ‵ (flft (p .1 .1 .0 .0 ∷ []) fullShare) ⊛ ‵ (flft (p .1 .1 .1 .0 .0 ∷ []) fullShare) ⊛ ‵ (flft (p .1 .1 .1 .1 .0 .0 ∷ []) fullShare) ⊛ ‵ (flft (p .1 .1 .1 .1 .1 .0 .0 ∷ []) fullShare) ⊛ ‵ (flft (p .1 .1 .1 .1 .1 .1 .0 .0 ∷ []) fullShare) ⊛ ‵ (flft (p .1 .1 .1 .1 .1 .1 .1 .0 .0 ∷ []) fullShare) ⊛ ‵ (flft κ₉ q₉) ⊛ ‵ (flft κ₁₀ q₁₀) ⊛ ‵ ftrue) ⊛ ‵ (Q .own r (u ∷ []))) ⊛ raw (ensured 𝓤 H A one.ended (one.clauses 𝓤 H A mem run) (κs′ p) (args′ sp s p) tt r)))) (id⊢ 𝓤 _) $ await ! tt $ pick ! (λ r. split ! $ move ! (1 ∷ []) $
+      qed W (raw (One 𝓤 H A mem run .post (to sp s p) u) ∷ raw (Kept s p) ∷ []) ∵ updating ! $ use1 W (later (some (λ (r : Carried). ((‵ (flft (p .0 .0 ∷ []) fullShare) ⊛ ‵ (flft (p .1 .0 .0 ∷ []) fullShare) ⊛ ‵ (flft (p .1 .1 .0 .0 ∷ []) fullShare) ⊛ ‵ (flft (p .1 .1 .1 .0 .0 ∷ []) fullShare) ⊛ ‵ (flft (p .1 .1 .1 .1 .0 .0 ∷ []) fullShare) ⊛ ‵ (flft (p .1 .1 .1 .1 .1 .0 .0 ∷ []) fullShare) ⊛ ‵ (flft (p .1 .1 .1 .1 .1 .1 .0 .0 ∷ []) fullShare) ⊛ ‵ (flft (p .1 .1 .1 .1 .1 .1 .1 .0 .0 ∷ []) fullShare) ⊛ ‵ (flft κ₉ q₉) ⊛ ‵ (flft κ₁₀ q₁₀) ⊛ ‵ ftrue) ⊛ ‵ (Q .own r (u ∷ []))) ⊛ raw (ensured 𝓤 H A one.ended (one.clauses 𝓤 H A mem run) (κs′ p) (args′ sp s p) tt r)))) (id⊢ 𝓤 _) $ await ! tt $ pick ! (λ r. split ! $ move ! (1 ∷ []) $
       use1 W (some (λ (ws : Lasts one.ended (κs′ p) (args′ sp s p)). ‵ (lasts one.ended (κs′ p) (args′ sp s p) ws) ⊛ raw (fact 𝓤 (Said sp s (record { node = ws .1 .0; start = ws .1 .1 .0; end = ws .1 .1 .1 .0; id = ws .1 .1 .1 .1 .0; stamp = ws .1 .1 .1 .1 .1 .0; touched = ws .1 .1 .1 .1 .1 .1 .0; write = ws .1 .1 .1 .1 .1 .1 .1 .0; marks = ws .1 .1 .1 .1 .1 .1 .1 .1 .0; y = r }))))) (id⊢ 𝓤 _) $ pick ! (λ ws. split ! $ move ! (1 ∷ []) $ heard ! (Said sp s (record { node = ws .1 .0; start = ws .1 .1 .0; end = ws .1 .1 .1 .0; id = ws .1 .1 .1 .1 .0; stamp = ws .1 .1 .1 .1 .1 .0; touched = ws .1 .1 .1 .1 .1 .1 .0; write = ws .1 .1 .1 .1 .1 .1 .1 .0; marks = ws .1 .1 .1 .1 .1 .1 .1 .1 .0; y = r })) (λ e.
       fsplit ! $ drop ! $ fsplit ! $ fsplit ! $ move ! (1 ∷ []) $ feqL ! (λ l₁. move ! (1 ∷ []) $ fsplit ! $ fsplit ! $ move ! (1 ∷ []) $ feqL ! (λ l₂. move ! (1 ∷ []) $ fsplit ! $ fsplit ! $ move ! (1 ∷ []) $ feqL ! (λ l₃. move ! (1 ∷ []) $ fsplit ! $ fsplit ! $ move ! (1 ∷ []) $ feqL ! (λ l₄. move ! (1 ∷ []) $ fsplit ! $ fsplit ! $ move ! (1 ∷ []) $ feqL ! (λ l₅. move ! (1 ∷ []) $ fsplit ! $ fsplit ! $ move ! (1 ∷ []) $ feqL ! (λ l₆. move ! (1 ∷ []) $ fsplit ! $ fsplit ! $ move ! (1 ∷ []) $ feqL ! (λ l₇. move ! (1 ∷ []) $ fsplit ! $ fsplit ! $ move ! (1 ∷ []) $ feqL ! (λ l₈. move ! (1 ∷ []) $ drop ! $
       move ! (8 ∷ []) $ split ! $ move ! (1 ∷ []) $ peeks ! Q (Is Q) (shows 𝓤 H A Q) r (u ∷ []) (λ is. drop ! $ split ! $ move ! (1 ∷ []) $ split ! $ move ! (1 ∷ []) $ split ! $ move ! (1 ∷ []) $ split ! $ move ! (1 ∷ []) $ split ! $ move ! (1 ∷ []) $ split ! $ move ! (1 ∷ []) $ split ! $ move ! (1 ∷ []) $ split ! $ move ! (1 ∷ []) $ split ! $ move ! (1 ∷ []) $ split ! $ move ! (1 ∷ []) $ drop ! $

@@ -1,20 +1,14 @@
--- `usedlist::stop` meets its contract: `begin` keeps the small numbers, with no node. Assumes nothing.
-use mathlib.Core.Path.{refl, ap, _∙_}
-use borrow.Author.Needs.{needs}
-use Rattle.model.specs.State.{nodesIn}
-use Rattle.lent.specs.declared.Small.{Small}
-use Rattle.usedlist.proofs.Laws.{no-node}
+-- `usedlist::stop` meets its contract: the touch has no node, and is refused, 1. Assumes nothing.
+use mathlib.Core.Path.{ap}
+use Rattle.usedspan.specs.declared.Run.{Run}
 use Rattle.usedlist.proofs.stop.Statement.{statement}
 use Rattle.usedlist.proofs.stop.Tie as tie
 
-element-write-small : tie.Need-element-write-small
-element-write-small c = search needs
-
-begin-requires : tie.Need-begin-requires
-begin-requires c κs = search needs
+fresh-requires : tie.Need-fresh-requires
+fresh-requires c κs = tt
 
 returns : tie.Need-returns
-returns c = record { refused = refl; nodes = ap (λ (q : Small). nodesIn (q .books)) (c .begin .ensures .small) ∙ no-node (c .before .args .x .books) }
+returns c = record { number = ap (λ (z : Run). z .number) (c .fresh .ensures .run); nodes = c .fresh .ensures .nodes }
 
 pub stop-spec : {M : Type 1} → statement M
-stop-spec = tie.close (tie.spec element-write-small begin-requires returns)
+stop-spec = tie.close (tie.spec fresh-requires returns)

@@ -4,9 +4,6 @@ use Rattle.usedspan.proofs.Laws.{looked-good, looked-bad}
 use Rattle.usedspan.proofs.check_one.Statement.{statement}
 use Rattle.usedspan.proofs.check_one.Tie as tie
 
-element-copy-out-span-in : tie.Need-element-copy-out-span-in
-element-copy-out-span-in c = search needs
-
 span-in-requires : tie.Need-span-in-requires
 span-in-requires c κs = search needs
 
@@ -17,14 +14,12 @@ four-first-requires : tie.Need-four-first-requires
 four-first-requires c κs = search needs
 
 returns-2 : tie.Need-returns-2
-returns-2 c =
-    λ t l n. looked-bad _ (c .before .before .span-in .result) _ _ (c .before .before .span-in .ensures t l n) (c .before .if1 .left) (c .four-first .ensures)
+returns-2 c = λ t l n. looked-bad _ (c .before .before .before .span-in .result) _ _ (c .before .before .before .span-in .ensures t l n) (c .before .before .if1 .left) (c .four-first .ensures)
 
 pub check-one-spec : {M : Type 1} → statement M
 check-one-spec =
     tie.close
     (tie.spec
-    element-copy-out-span-in
     span-in-requires
     returns
     four-first-requires

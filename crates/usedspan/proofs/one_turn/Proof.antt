@@ -9,7 +9,7 @@ turn-number-requires : tie.Need-turn-number-requires
 turn-number-requires c κs =
     let z = c .before .before .before .before .before .before .before .before .before .before .before .before .before .args in
     let p = c .before .before .before .before .before .before .before .before .before .before .before .before .before .pre in
-    run-asks-number (p .others) (p .small) (z .sp) (z .depth .now) (z .bytes .now) (rangesOf (z .node .now) (z .start .now) (z .end .now) (z .id .now) (z .stamp .now) (z .touched .now) (z .write .now)) (z .marks .now) (z .s) (z .refreshes) (z .y) (z .time) (z .counted) (p .ready)
+    run-asks-number (p .others) (p .books) (z .sp) (z .depth .now) (z .bytes .now) (rangesOf (z .node .now) (z .start .now) (z .end .now) (z .id .now) (z .stamp .now) (z .touched .now) (z .write .now)) (z .marks .now) (z .s) (z .refreshes) (z .y) (z .time) (z .counted) (p .ready)
 
 same-length : tie.Need-same-length
 same-length c = refl
@@ -29,14 +29,14 @@ touch-pools-requires : tie.Need-touch-pools-requires
 touch-pools-requires c κs =
     let z = c .before .before .before .before .before .before .before .before .before .before .before .before .before .before .before .before .before .before .before .before .before .before .before .args in
     let p = c .before .before .before .before .before .before .before .before .before .before .before .before .before .before .before .before .before .before .before .before .before .before .before .pre in
-    run-asks-touch (p .others) (p .small) (z .sp) (z .depth .now) (z .bytes .now) (rangesOf (z .node .now) (z .start .now) (z .end .now) (z .id .now) (z .stamp .now) (z .touched .now) (z .write .now)) (z .marks .now) (z .s) (z .refreshes) (z .y) (z .time) (z .counted) (p .ready) (c .before .before .before .before .before .before .before .before .before .turn-number .result) (c .before .before .before .before .before .before .before .before .if1 .left) (c .before .before .before .before .before .before .before .before .before .turn-number .ensures)
+    run-asks-touch (p .others) (p .books) (z .sp) (z .depth .now) (z .bytes .now) (rangesOf (z .node .now) (z .start .now) (z .end .now) (z .id .now) (z .stamp .now) (z .touched .now) (z .write .now)) (z .marks .now) (z .s) (z .refreshes) (z .y) (z .time) (z .counted) (p .ready) (c .before .before .before .before .before .before .before .before .before .turn-number .result) (c .before .before .before .before .before .before .before .before .if1 .left) (c .before .before .before .before .before .before .before .before .before .turn-number .ensures)
 
 run-on-requires : tie.Need-run-on-requires
 run-on-requires c κs =
     let z = c .before .before .before .before .before .before .before .before .before .before .before .before .before .before .before .before .before .before .before .before .before .before .before .before .before .before .before .before .before .before .before .before .before .before .before .before .before .before .before .before .args in
     let p = c .before .before .before .before .before .before .before .before .before .before .before .before .before .before .before .before .before .before .before .before .before .before .before .before .before .before .before .before .before .before .before .before .before .before .before .before .before .before .before .before .pre in
     let k = c .before .before .before .before .before .before .before .before .before .before .before .before .before .before .before .before .touch-pools in
-    run-asks-on (p .others) (p .small) (z .sp) (z .depth .now) (z .bytes .now) (rangesOf (z .node .now) (z .start .now) (z .end .now) (z .id .now) (z .stamp .now) (z .touched .now) (z .write .now)) (z .marks .now) (z .s) (z .refreshes) (z .y) (z .time) (z .counted) (p .ready) (c .before .before .before .before .before .before .before .before .before .before .before .before .before .before .before .before .before .before .before .before .before .before .before .before .before .before .turn-number .result) (rangesOf (k .last .0) (k .last .1 .0) (k .last .1 .1 .0) (k .last .1 .1 .1 .0) (k .last .1 .1 .1 .1 .0) (k .last .1 .1 .1 .1 .1 .0) (k .last .1 .1 .1 .1 .1 .1 .0)) (k .last .1 .1 .1 .1 .1 .1 .1 .0) (k .result) (c .before .before .before .before .before .before .before .before .before .before .before .before .before .before .before .before .before .before .before .before .before .before .before .before .before .if1 .left) (c .before .before .before .before .before .before .before .before .before .before .before .before .before .before .before .before .before .before .before .before .before .before .before .before .before .before .turn-number .ensures) (k .ensures)
+    run-asks-on (p .others) (p .books) (z .sp) (z .depth .now) (z .bytes .now) (rangesOf (z .node .now) (z .start .now) (z .end .now) (z .id .now) (z .stamp .now) (z .touched .now) (z .write .now)) (z .marks .now) (z .s) (z .refreshes) (z .y) (z .time) (z .counted) (p .ready) (c .before .before .before .before .before .before .before .before .before .before .before .before .before .before .before .before .before .before .before .before .before .before .before .before .before .before .turn-number .result) (rangesOf (k .last .0) (k .last .1 .0) (k .last .1 .1 .0) (k .last .1 .1 .1 .0) (k .last .1 .1 .1 .1 .0) (k .last .1 .1 .1 .1 .1 .0) (k .last .1 .1 .1 .1 .1 .1 .0)) (k .last .1 .1 .1 .1 .1 .1 .1 .0) (k .result) (c .before .before .before .before .before .before .before .before .before .before .before .before .before .before .before .before .before .before .before .before .before .before .before .before .before .if1 .left) (c .before .before .before .before .before .before .before .before .before .before .before .before .before .before .before .before .before .before .before .before .before .before .before .before .before .before .turn-number .ensures) (k .ensures)
 
 same-length-4 : tie.Need-same-length-4
 same-length-4 c = c .before .before .before .before .before .before .before .before .before .before .before .before .before .before .before .before .before .touch-pools .kept .0

@@ -1,4 +1,4 @@
--- `damaged::breaks::short_pools` is safe and ends: k goes up to 19. Assumes nothing.
+-- `damaged::breaks::short_pools` is safe and ends: k goes up to 20. Assumes nothing.
 use Prim.Native.Nat.{_-_}
 use borrow.Author.Needs.{needs}
 use Rattle.damaged.proofs.breaks.short_pools.Statement.{statement}
@@ -8,7 +8,7 @@ abbrev Inv-loop : tie.InvT-loop
 Inv-loop w k₀ k = Unit {0}
 
 abbrev μ-loop : tie.MeasureT-loop
-μ-loop w k₀ k = 19 - k
+μ-loop w k₀ k = 20 - k
 
 loop-holds : tie.Need-loop-holds Inv-loop μ-loop
 loop-holds c = tt

@@ -1,7 +1,8 @@
 -- `exported::told::count` meets its contract: each arm knows its case. Assumes nothing.
 use mathlib.Core.Path.{sym, ap}
 use borrow.Author.Needs.{needs}
-use Rattle.exported.specs.Told.{countNumber, countIn}
+use Rattle.answers.specs.Answers.{countOf}
+use Rattle.exported.specs.Told.{laid, countValues}
 use Rattle.exported.proofs.told.count.Statement.{statement}
 use Rattle.exported.proofs.told.count.Tie as tie
 
@@ -18,14 +19,8 @@ returns : tie.Need-returns
 returns c = search needs
 
 returns-2 : tie.Need-returns-2
-returns-2 c = (sym (ap countNumber (c .before .a2 .given .1)), sym (ap (λ a. countIn a (c .before .before .before .args .answer .now)) (c .before .a2 .given .1)))
+returns-2 c = (search needs, sym (ap (λ a. laid countValues (countOf a) (c .before .before .before .args .answer .now)) (c .before .a2 .given .1)))
 
 pub count-spec : {M : Type 1} → statement M
 count-spec =
-    tie.close
-    (tie.spec
-    enum-known-a
-    enum-known-a-2
-    element-write-answer
-    returns
-    returns-2)
+    tie.close (tie.spec enum-known-a enum-known-a-2 element-write-answer returns returns-2)

@@ -1,9 +1,9 @@
 -- `exported::told::looked` meets its contract: each arm knows its case, and each kind of sum is told by its own function. Assumes nothing.
-use mathlib.Core.Path.{_≡_, sym, ap, _∙_}
+use mathlib.Core.Path.{sym, ap, _∙_}
 use borrow.Author.Needs.{needs}
-use lib.ListN.{length}
 use lib.Seq.{sets}
-use Rattle.exported.specs.Told.{eight, readingNumber, readingIn}
+use Rattle.answers.specs.Answers.{eachTier, lookedOf}
+use Rattle.exported.specs.Told.{numberOf, laid, lookupValues}
 use Rattle.exported.proofs.told.looked.Statement.{statement}
 use Rattle.exported.proofs.told.looked.Tie as tie
 
@@ -23,24 +23,21 @@ element-write-answer-3 : tie.Need-element-write-answer-3
 element-write-answer-3 c = search needs
 
 tell-blocks-requires : tie.Need-tell-blocks-requires
-tell-blocks-requires c κs = search needs
+tell-blocks-requires c κs = tt
 
 tell-bytes-requires : tie.Need-tell-bytes-requires
-tell-bytes-requires c κs = search needs
+tell-bytes-requires c κs = tt
 
 returns : tie.Need-returns
 returns c = search needs
 
-eights : (c : tie.Start) → (length (c .args .r .blocks) ≡ 8) × (length (c .args .r .bytes) ≡ 8)
-eights c = (search needs, search needs)
-
 returns-2 : tie.Need-returns-2
 returns-2 c =
-    let z = c .before .before .before .before .before .before .before .before .before in
-    let done = c .before .before .before .before .before .a2 .given .1 in
-    let blocks = ap (λ l. sets l 11 (eight (z .args .r .bytes))) (c .before .before .tell-blocks .ensures) in
-    let list = ap (λ a. readingIn a (z .args .r .blocks) (z .args .r .bytes) (z .args .answer .now)) done in
-    (sym (ap readingNumber done), c .tell-bytes .ensures ∙ blocks ∙ sym list, eights z .0, eights z .1)
+    let v = c .before .before .before .before .before .a2 .given .0 .0 in
+    let blocks = ap (λ l. sets l 11 (eachTier (v .bytes))) (c .before .before .tell-blocks .ensures) in
+    let case = c .before .before .before .before .before .a2 .given .1 in
+    let list = ap (λ a. laid lookupValues (lookedOf a) (c .before .before .before .before .before .before .before .args .answer .now)) case in
+    (sym (ap (λ a. numberOf (lookedOf a)) case), c .tell-bytes .ensures ∙ blocks ∙ sym list)
 
 pub looked-spec : {M : Type 1} → statement M
 looked-spec =

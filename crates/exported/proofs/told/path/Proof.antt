@@ -1,7 +1,8 @@
 -- `exported::told::path` meets its contract: each arm knows its case. Assumes nothing.
 use mathlib.Core.Path.{sym, ap}
 use borrow.Author.Needs.{needs}
-use Rattle.exported.specs.Told.{pathNumber, pathIn}
+use Rattle.answers.specs.Answers.{resolvedOf}
+use Rattle.exported.specs.Told.{laid, resolveValues}
 use Rattle.exported.proofs.told.path.Statement.{statement}
 use Rattle.exported.proofs.told.path.Tie as tie
 
@@ -21,7 +22,7 @@ returns : tie.Need-returns
 returns c = search needs
 
 returns-2 : tie.Need-returns-2
-returns-2 c = (sym (ap pathNumber (c .before .a2 .given .1)), sym (ap (λ a. pathIn a (c .before .before .before .args .answer .now)) (c .before .a2 .given .1)))
+returns-2 c = (search needs, sym (ap (λ a. laid resolveValues (resolvedOf a) (c .before .before .before .args .answer .now)) (c .before .a2 .given .1)))
 
 pub path-spec : {M : Type 1} → statement M
 path-spec =

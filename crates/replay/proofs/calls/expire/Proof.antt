@@ -24,31 +24,31 @@ slice-aggregate-store-expire-6 : tie.Need-slice-aggregate-store-expire-6
 slice-aggregate-store-expire-6 c = search needs
 
 store-expire-requires : tie.Need-store-expire-requires
-store-expire-requires c κs = (c .before .before .before .before .before .before .before .before .before .before .before .before .before .before .before .before .before .before .before .before .before .before .before .before .pre .0, search needs)
+store-expire-requires c κs = (c .before .before .before .before .before .before .before .before .before .before .before .before .before .before .before .before .before .before .before .before .before .before .before .before .before .pre .0, search needs)
 
-slice-aggregate-put-given-out : tie.Need-slice-aggregate-put-given-out
-slice-aggregate-put-given-out c = search needs
+slice-aggregate-put-expired : tie.Need-slice-aggregate-put-expired
+slice-aggregate-put-expired c = search needs
 
-slice-aggregate-put-given-out-2 : tie.Need-slice-aggregate-put-given-out-2
-slice-aggregate-put-given-out-2 c = search needs
+slice-aggregate-put-expired-2 : tie.Need-slice-aggregate-put-expired-2
+slice-aggregate-put-expired-2 c = search needs
 
-slice-aggregate-put-given-out-3 : tie.Need-slice-aggregate-put-given-out-3
-slice-aggregate-put-given-out-3 c = search needs
+slice-aggregate-put-expired-3 : tie.Need-slice-aggregate-put-expired-3
+slice-aggregate-put-expired-3 c = search needs
 
-slice-aggregate-put-given-out-4 : tie.Need-slice-aggregate-put-given-out-4
-slice-aggregate-put-given-out-4 c = search needs
+slice-aggregate-put-expired-4 : tie.Need-slice-aggregate-put-expired-4
+slice-aggregate-put-expired-4 c = search needs
 
-slice-aggregate-put-given-out-5 : tie.Need-slice-aggregate-put-given-out-5
-slice-aggregate-put-given-out-5 c = search needs
+slice-aggregate-put-expired-5 : tie.Need-slice-aggregate-put-expired-5
+slice-aggregate-put-expired-5 c = search needs
 
-slice-aggregate-put-given-out-6 : tie.Need-slice-aggregate-put-given-out-6
-slice-aggregate-put-given-out-6 c = search needs
+slice-aggregate-put-expired-6 : tie.Need-slice-aggregate-put-expired-6
+slice-aggregate-put-expired-6 c = search needs
 
-put-given-out-requires : tie.Need-put-given-out-requires
-put-given-out-requires c κs = (expire-in _ _ _ _ _ _ _ (c .before .before .before .before .before .before .before .before .before .before .before .before .before .before .store-expire .result .answer) (c .before .before .before .before .before .before .before .before .before .before .before .before .before .before .store-expire .ensures), search needs, search needs, search needs, search needs, search needs, search needs, omega (arith, c .before .before .before .before .before .before .before .before .before .before .before .before .before .before .before .before .before .before .before .before .before .before .before .before .before .before .before .before .before .before .before .before .before .before .before .before .before .before .before .pre .1))
+put-expired-requires : tie.Need-put-expired-requires
+put-expired-requires c κs = (expire-in _ _ _ _ _ _ _ (c .before .before .before .before .before .before .before .before .before .before .before .before .before .store-expire .result) (c .before .before .before .before .before .before .before .before .before .before .before .before .before .store-expire .ensures), search needs, search needs, search needs, search needs, search needs, search needs, omega (arith, c .before .before .before .before .before .before .before .before .before .before .before .before .before .before .before .before .before .before .before .before .before .before .before .before .before .before .before .before .before .before .before .before .before .before .before .before .before .before .before .pre .1))
 
 returns : tie.Need-returns
-returns c = (expire-keeps _ _ _ _ _ _ _ (c .before .before .before .before .before .before .before .before .before .before .before .before .before .before .before .store-expire .result .answer) (c .before .before .before .before .before .before .before .before .before .before .before .before .before .before .before .store-expire .ensures) (c .before .before .before .before .before .before .before .before .before .before .before .before .before .before .before .before .before .before .before .before .before .before .before .before .before .before .before .before .before .before .before .before .before .before .before .before .before .before .before .before .pre .0), omega (arith, c .put-given-out .ensures .high, c .before .before .before .before .before .before .before .before .before .before .before .before .before .before .before .before .before .before .before .before .before .before .before .before .before .before .before .before .before .before .before .before .before .before .before .before .before .before .before .before .pre .1))
+returns c = (expire-keeps _ _ _ _ _ _ _ (c .before .before .before .before .before .before .before .before .before .before .before .before .before .before .store-expire .result) (c .before .before .before .before .before .before .before .before .before .before .before .before .before .before .store-expire .ensures) (c .before .before .before .before .before .before .before .before .before .before .before .before .before .before .before .before .before .before .before .before .before .before .before .before .before .before .before .before .before .before .before .before .before .before .before .before .before .before .before .before .pre .0), omega (arith, c .put-expired .ensures .high, c .before .before .before .before .before .before .before .before .before .before .before .before .before .before .before .before .before .before .before .before .before .before .before .before .before .before .before .before .before .before .before .before .before .before .before .before .before .before .before .before .pre .1))
 
 pub expire-spec : {M : Type 1} → statement M
 expire-spec =
@@ -61,11 +61,11 @@ expire-spec =
     slice-aggregate-store-expire-5
     slice-aggregate-store-expire-6
     store-expire-requires
-    slice-aggregate-put-given-out
-    slice-aggregate-put-given-out-2
-    slice-aggregate-put-given-out-3
-    slice-aggregate-put-given-out-4
-    slice-aggregate-put-given-out-5
-    slice-aggregate-put-given-out-6
-    put-given-out-requires
+    slice-aggregate-put-expired
+    slice-aggregate-put-expired-2
+    slice-aggregate-put-expired-3
+    slice-aggregate-put-expired-4
+    slice-aggregate-put-expired-5
+    slice-aggregate-put-expired-6
+    put-expired-requires
     returns)

@@ -6,13 +6,13 @@ use Rattle.replay.proofs.calls.pin.Statement.{statement}
 use Rattle.replay.proofs.calls.pin.Tie as tie
 
 pin-source-requires : tie.Need-pin-source-requires
-pin-source-requires c κs = c .before .before .before .before .before .before .before .before .before .before .before .before .before .before .before .before .before .before .pre .0
+pin-source-requires c κs = c .before .before .before .before .before .before .before .before .before .before .before .before .before .before .before .before .before .before .before .pre .0
 
 put-plain-requires : tie.Need-put-plain-requires
 put-plain-requires c κs = omega (arith, c .before .before .before .before .before .before .before .before .before .before .before .before .before .before .before .before .before .before .before .before .before .pre .1)
 
 returns : tie.Need-returns
-returns c = (pin-keeps _ _ _ _ (c .before .before .before .pin-source .result .answer) (c .before .before .before .pin-source .ensures) (c .before .before .before .before .before .before .before .before .before .before .before .before .before .before .before .before .before .before .before .before .before .before .pre .0), omega (arith, c .put-plain .ensures .high, c .before .before .before .before .before .before .before .before .before .before .before .before .before .before .before .before .before .before .before .before .before .before .pre .1))
+returns c = (pin-keeps _ _ _ _ (c .before .before .pin-source .result) (c .before .before .pin-source .ensures) (c .before .before .before .before .before .before .before .before .before .before .before .before .before .before .before .before .before .before .before .before .before .before .pre .0), omega (arith, c .put-plain .ensures .high, c .before .before .before .before .before .before .before .before .before .before .before .before .before .before .before .before .before .before .before .before .before .before .pre .1))
 
 pub pin-spec : {M : Type 1} → statement M
 pin-spec =

@@ -13,10 +13,10 @@ slice-aggregate-resolve-2 : tie.Need-slice-aggregate-resolve-2
 slice-aggregate-resolve-2 c = search needs
 
 slice-aggregate-resolve-3 : tie.Need-slice-aggregate-resolve-3
-slice-aggregate-resolve-3 c = simp length-take (omega (arith, c .before .before .before .before .before .before .before .before .before .before .before .before .before .before .before .before .before .before .before .before .before .before .pre .2))
+slice-aggregate-resolve-3 c = simp length-take (omega (arith, c .before .before .before .before .before .before .before .before .before .before .before .before .before .before .before .before .before .before .before .before .before .before .before .pre .2))
 
 resolve-requires : tie.Need-resolve-requires
-resolve-requires c κs = (c .before .before .before .before .before .before .before .before .before .before .before .before .before .before .before .before .before .before .before .before .before .before .pre .0, search needs)
+resolve-requires c κs = (c .before .before .before .before .before .before .before .before .before .before .before .before .before .before .before .before .before .before .before .before .before .before .before .pre .0, search needs)
 
 slice-aggregate-put-resolved : tie.Need-slice-aggregate-put-resolved
 slice-aggregate-put-resolved c = search needs
@@ -25,10 +25,10 @@ slice-aggregate-put-resolved-2 : tie.Need-slice-aggregate-put-resolved-2
 slice-aggregate-put-resolved-2 c = search needs
 
 put-resolved-requires : tie.Need-put-resolved-requires
-put-resolved-requires c κs = (resolve-in _ _ _ _ _ (c .before .before .before .before .before .resolve .result) (c .before .before .before .before .before .resolve .ensures), search needs, search needs, omega (arith, c .before .before .before .before .before .before .before .before .before .before .before .before .before .before .before .before .before .before .before .before .before .before .before .before .before .before .before .before .pre .1))
+put-resolved-requires c κs = (resolve-in _ _ _ _ _ (c .before .before .before .before .before .resolve .result) (c .before .before .before .before .before .resolve .ensures), search needs, search needs, omega (arith, c .before .before .before .before .before .before .before .before .before .before .before .before .before .before .before .before .before .before .before .before .before .before .before .before .before .before .before .before .before .pre .1))
 
 returns : tie.Need-returns
-returns c = omega (arith, c .put-resolved .ensures .high, c .before .before .before .before .before .before .before .before .before .before .before .before .before .before .before .before .before .before .before .before .before .before .before .before .before .before .before .before .before .pre .1)
+returns c = omega (arith, c .put-resolved .ensures .high, c .before .before .before .before .before .before .before .before .before .before .before .before .before .before .before .before .before .before .before .before .before .before .before .before .before .before .before .before .before .before .pre .1)
 
 pub resolve-spec : {M : Type 1} → statement M
 resolve-spec =

@@ -7,19 +7,19 @@ use Rattle.replay.proofs.calls.set_up.Statement.{statement}
 use Rattle.replay.proofs.calls.set_up.Tie as tie
 
 slice-aggregate-set-up : tie.Need-slice-aggregate-set-up
-slice-aggregate-set-up c = simp length-take (omega (arith, c .before .before .before .before .before .before .before .before .before .before .before .before .before .before .before .before .before .before .before .before .before .before .pre .2))
+slice-aggregate-set-up c = simp length-take (omega (arith, c .before .before .before .before .before .before .before .before .before .before .before .before .before .before .before .before .before .before .before .before .before .before .before .pre .2))
 
 slice-aggregate-set-up-2 : tie.Need-slice-aggregate-set-up-2
-slice-aggregate-set-up-2 c = simp length-take (omega (arith, c .before .before .before .before .before .before .before .before .before .before .before .before .before .before .before .before .before .before .before .before .before .before .before .pre .3))
+slice-aggregate-set-up-2 c = simp length-take (omega (arith, c .before .before .before .before .before .before .before .before .before .before .before .before .before .before .before .before .before .before .before .before .before .before .before .before .pre .3))
 
 slice-aggregate-set-up-3 : tie.Need-slice-aggregate-set-up-3
-slice-aggregate-set-up-3 c = simp length-take (omega (arith, c .before .before .before .before .before .before .before .before .before .before .before .before .before .before .before .before .before .before .before .before .before .before .before .before .pre .4))
+slice-aggregate-set-up-3 c = simp length-take (omega (arith, c .before .before .before .before .before .before .before .before .before .before .before .before .before .before .before .before .before .before .before .before .before .before .before .before .before .pre .4))
 
 set-up-requires : tie.Need-set-up-requires
 set-up-requires c κs = search needs
 
-enum-known-a : tie.Need-enum-known-a
-enum-known-a c = search needs
+enum-known-r : tie.Need-enum-known-r
+enum-known-r c = search needs
 
 put-refused-requires : tie.Need-put-refused-requires
 put-refused-requires c κs = omega (arith, c .before .before .before .before .before .before .before .before .before .before .before .before .before .before .before .before .before .before .before .before .before .before .before .before .before .before .before .before .before .before .pre .1)
@@ -34,10 +34,10 @@ put-line-requires : tie.Need-put-line-requires
 put-line-requires c κs = (search needs, omega (arith, c .before .before .before .before .before .before .before .before .before .before .before .before .before .before .before .before .before .before .before .before .before .before .before .before .before .before .before .before .before .before .pre .1))
 
 returns : tie.Need-returns
-returns c = (set-up-refused _ _ _ _ _ (c .before .before .before .before .before .before .set-up .result .answer) (c .before .before .before .before .before .before .set-up .ensures) _ (c .before .before .before .before .before .before .before .before .before .before .before .before .before .before .before .before .before .before .before .before .before .before .before .before .before .before .before .before .before .before .before .args .on) (c .before .before .before .a .given .1) (c .before .before .before .before .before .before .before .before .before .before .before .before .before .before .before .before .before .before .before .before .before .before .before .before .before .before .before .before .before .before .before .pre .0), omega (arith, c .put-refused .ensures .high, c .before .before .before .before .before .before .before .before .before .before .before .before .before .before .before .before .before .before .before .before .before .before .before .before .before .before .before .before .before .before .before .pre .1))
+returns c = (set-up-refused _ _ _ _ _ (c .before .before .before .before .before .set-up .result) (c .before .before .before .before .before .set-up .ensures) _ (c .before .before .before .before .before .before .before .before .before .before .before .before .before .before .before .before .before .before .before .before .before .before .before .before .before .before .before .before .before .before .before .args .on) (c .before .before .before .r .given .1) (c .before .before .before .before .before .before .before .before .before .before .before .before .before .before .before .before .before .before .before .before .before .before .before .before .before .before .before .before .before .before .before .pre .0), omega (arith, c .put-refused .ensures .high, c .before .before .before .before .before .before .before .before .before .before .before .before .before .before .before .before .before .before .before .before .before .before .before .before .before .before .before .before .before .before .before .pre .1))
 
 returns-2 : tie.Need-returns-2
-returns-2 c = (set-up-done _ _ _ _ _ (c .before .before .before .before .before .before .set-up .result .answer) (c .before .before .before .before .before .before .set-up .ensures) (c .before .before .before .enum-told .given .1), omega (arith, c .put-line .ensures .high, c .before .before .before .before .before .before .before .before .before .before .before .before .before .before .before .before .before .before .before .before .before .before .before .before .before .before .before .before .before .before .before .pre .1))
+returns-2 c = (set-up-done _ _ _ _ _ (c .before .before .before .before .before .set-up .result) (c .before .before .before .before .before .set-up .ensures) (c .before .before .before .enum-told .given .1), omega (arith, c .put-line .ensures .high, c .before .before .before .before .before .before .before .before .before .before .before .before .before .before .before .before .before .before .before .before .before .before .before .before .before .before .before .before .before .before .before .pre .1))
 
 pub set-up-spec : {M : Type 1} → statement M
 set-up-spec =
@@ -47,7 +47,7 @@ set-up-spec =
     slice-aggregate-set-up-2
     slice-aggregate-set-up-3
     set-up-requires
-    enum-known-a
+    enum-known-r
     put-refused-requires
     enum-told
     slice-aggregate-put-line

@@ -12,22 +12,22 @@ too-many-requires : tie.Need-too-many-requires
 too-many-requires c κs = search needs
 
 put-refused-requires : tie.Need-put-refused-requires
-put-refused-requires c κs = search needs
+put-refused-requires c κs = omega (arith, c .before .before .before .before .pre .1)
 
 returns : tie.Need-returns
-returns c = search needs
+returns c = (c .before .before .before .before .before .pre .0, omega (arith, c .put-refused .ensures .high, c .before .before .before .before .before .pre .1))
 
 spans-of-requires : tie.Need-spans-of-requires
 spans-of-requires c κs = search needs
 
 store-used-array-requires : tie.Need-store-used-array-requires
-store-used-array-requires c κs = (c .before .before .before .before .before .before .before .before .before .before .before .before .before .before .before .before .before .before .before .before .pre .0, c .before .before .before .before .before .before .before .before .before .before .before .before .before .before .before .before .before .before .before .if1 .left)
+store-used-array-requires c κs = (c .before .before .before .before .before .before .before .before .before .before .before .before .before .before .before .before .before .before .before .before .before .pre .0, c .before .before .before .before .before .before .before .before .before .before .before .before .before .before .before .before .before .before .before .before .if1 .left)
 
 put-bytes-read-requires : tie.Need-put-bytes-read-requires
 put-bytes-read-requires c κs = omega (arith, c .before .before .before .before .before .before .before .before .before .before .before .before .before .before .before .before .before .before .before .before .before .before .before .pre .1)
 
 returns-2 : tie.Need-returns-2
-returns-2 c = (touch-keeps _ _ _ _ _ _ (c .before .before .before .store-used-array .result .answer) (c .before .before .before .store-used-array .ensures) (c .before .before .before .before .before .before .before .before .before .before .before .before .before .before .before .before .before .before .before .before .before .before .before .before .pre .0), omega (arith, c .put-bytes-read .ensures .high, c .before .before .before .before .before .before .before .before .before .before .before .before .before .before .before .before .before .before .before .before .before .before .before .before .pre .1))
+returns-2 c = (touch-keeps _ _ _ _ _ _ (c .before .before .store-used-array .result) (c .before .before .store-used-array .ensures) (c .before .before .before .before .before .before .before .before .before .before .before .before .before .before .before .before .before .before .before .before .before .before .before .before .pre .0), omega (arith, c .put-bytes-read .ensures .high, c .before .before .before .before .before .before .before .before .before .before .before .before .before .before .before .before .before .before .before .before .before .before .before .before .pre .1))
 
 pub touch-spec : {M : Type 1} → statement M
 touch-spec =

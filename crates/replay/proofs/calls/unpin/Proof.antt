@@ -6,13 +6,13 @@ use Rattle.replay.proofs.calls.unpin.Statement.{statement}
 use Rattle.replay.proofs.calls.unpin.Tie as tie
 
 unpin-source-requires : tie.Need-unpin-source-requires
-unpin-source-requires c κs = c .before .before .before .before .before .before .before .before .before .before .before .before .before .before .before .before .before .before .pre .0
+unpin-source-requires c κs = c .before .before .before .before .before .before .before .before .before .before .before .before .before .before .before .before .before .before .before .pre .0
 
 put-plain-requires : tie.Need-put-plain-requires
 put-plain-requires c κs = omega (arith, c .before .before .before .before .before .before .before .before .before .before .before .before .before .before .before .before .before .before .before .before .before .pre .1)
 
 returns : tie.Need-returns
-returns c = (unpin-keeps _ _ _ _ (c .before .before .before .unpin-source .result .answer) (c .before .before .before .unpin-source .ensures) (c .before .before .before .before .before .before .before .before .before .before .before .before .before .before .before .before .before .before .before .before .before .before .pre .0), omega (arith, c .put-plain .ensures .high, c .before .before .before .before .before .before .before .before .before .before .before .before .before .before .before .before .before .before .before .before .before .before .pre .1))
+returns c = (unpin-keeps _ _ _ _ (c .before .before .unpin-source .result) (c .before .before .unpin-source .ensures) (c .before .before .before .before .before .before .before .before .before .before .before .before .before .before .before .before .before .before .before .before .before .before .pre .0), omega (arith, c .put-plain .ensures .high, c .before .before .before .before .before .before .before .before .before .before .before .before .before .before .before .before .before .before .before .before .before .before .pre .1))
 
 pub unpin-spec : {M : Type 1} → statement M
 unpin-spec =

@@ -11,13 +11,13 @@ array-borrow-prefix-path-node : tie.Need-array-borrow-prefix-path-node
 array-borrow-prefix-path-node c = c .before .before .list-places .ensures .path-node
 
 slice-aggregate-resolve : tie.Need-slice-aggregate-resolve
-slice-aggregate-resolve c = taken (c .before .before .before .before .before .before .before .before .before .before .before .before .before .before .before .before .before .before .before .before .before .before .before .args .lists .«path_node») _ (c .before .before .before .list-places .ensures .path-node)
+slice-aggregate-resolve c = taken (c .before .before .before .before .before .before .before .before .before .before .before .before .before .before .before .before .before .before .before .before .before .before .before .before .args .lists .«path_node») _ (c .before .before .before .list-places .ensures .path-node)
 
 array-borrow-prefix-path-len : tie.Need-array-borrow-prefix-path-len
 array-borrow-prefix-path-len c = c .before .before .before .list-places .ensures .path-len
 
 slice-aggregate-resolve-2 : tie.Need-slice-aggregate-resolve-2
-slice-aggregate-resolve-2 c = taken (c .before .before .before .before .before .before .before .before .before .before .before .before .before .before .before .before .before .before .before .before .before .before .before .before .args .lists .«path_len») _ (c .before .before .before .before .list-places .ensures .path-len)
+slice-aggregate-resolve-2 c = taken (c .before .before .before .before .before .before .before .before .before .before .before .before .before .before .before .before .before .before .before .before .before .before .before .before .before .args .lists .«path_len») _ (c .before .before .before .before .list-places .ensures .path-len)
 
 resolve-requires : tie.Need-resolve-requires
 resolve-requires c κs = tt
@@ -30,4 +30,13 @@ returns c = search needs
 
 pub path-spec : {M : Type 1} → statement M
 path-spec =
-    tie.close (tie.spec list-places-requires array-borrow-prefix-path-node slice-aggregate-resolve array-borrow-prefix-path-len slice-aggregate-resolve-2 resolve-requires resolved-number-requires returns)
+    tie.close
+    (tie.spec
+    list-places-requires
+    array-borrow-prefix-path-node
+    slice-aggregate-resolve
+    array-borrow-prefix-path-len
+    slice-aggregate-resolve-2
+    resolve-requires
+    resolved-number-requires
+    returns)

@@ -1,0 +1,46 @@
+-- `looking::each_tier` meets its contract: a list of eight is its elements. Assumes nothing.
+use borrow.Author.Needs.{needs}
+use Rattle.looking.proofs.Tiers.{eight-is}
+use Rattle.looking.proofs.each_tier.Statement.{statement}
+use Rattle.looking.proofs.each_tier.Tie as tie
+
+array-read-t5 : tie.Need-array-read-t5
+array-read-t5 c = search needs
+
+array-read-t8 : tie.Need-array-read-t8
+array-read-t8 c = search needs
+
+array-read-t11 : tie.Need-array-read-t11
+array-read-t11 c = search needs
+
+array-read-t14 : tie.Need-array-read-t14
+array-read-t14 c = search needs
+
+array-read-t17 : tie.Need-array-read-t17
+array-read-t17 c = search needs
+
+array-read-t20 : tie.Need-array-read-t20
+array-read-t20 c = search needs
+
+array-read-t23 : tie.Need-array-read-t23
+array-read-t23 c = search needs
+
+array-read-t26 : tie.Need-array-read-t26
+array-read-t26 c = search needs
+
+returns : tie.Need-returns
+returns c = eight-is (c .args .t1) (search needs)
+
+pub each-tier-spec : {M : Type 1} → statement M
+each-tier-spec =
+    tie.close
+    (tie.spec
+    array-read-t5
+    array-read-t8
+    array-read-t11
+    array-read-t14
+    array-read-t17
+    array-read-t20
+    array-read-t23
+    array-read-t26
+    returns)

@@ -1,0 +1,54 @@
+-- `usedspan::begin` meets its contract: the store's numbers are read where nothing is refused, and then there is such a store. Assumes nothing.
+use native.Mathlib.Omega.{arith}
+use borrow.Author.Needs.{needs}
+use Rattle.usedspan.proofs.Laws.{first-less, begun-refused, begun-read}
+use Rattle.usedspan.proofs.begin.Statement.{statement}
+use Rattle.usedspan.proofs.begin.Tie as tie
+
+shared-slice-read-nodes : tie.Need-shared-slice-read-nodes
+shared-slice-read-nodes c = search needs
+
+shared-slice-read-stores : tie.Need-shared-slice-read-stores
+shared-slice-read-stores c = search needs
+
+first-number-requires : tie.Need-first-number-requires
+first-number-requires c κs = tt
+
+fresh-requires : tie.Need-fresh-requires
+fresh-requires c κs = tt
+
+returns : tie.Need-returns
+returns c =
+    let z = c .before .before .before .before .before .before .args in
+    begun-refused (z .books .now) (z .s) (z .n) (z .time) (z .counted) (c .fresh .result) (c .before .before .first-number .result) (c .before .before .first-number .ensures) (c .before .if1 .taken) (c .fresh .ensures)
+
+book-of-requires : tie.Need-book-of-requires
+book-of-requires c κs =
+    let z = c .before .before .before .before .before in
+    let l = first-less _ (z .args .s) (z .args .n) (z .args .time) (c .before .first-number .result) (c .before .first-number .ensures) (c .if1 .left) in
+    (omega (arith, l, z .pre .1), z .pre .0)
+
+shared-slice-read-t13 : tie.Need-shared-slice-read-t13
+shared-slice-read-t13 c = search needs
+
+fresh-requires-2 : tie.Need-fresh-requires-2
+fresh-requires-2 c κs = tt
+
+returns-2 : tie.Need-returns-2
+returns-2 c =
+    let z = c .before .before .before .before .before .before .before .before .before .args in
+    begun-read (z .books .now) (z .s) (z .n) (z .time) (z .counted) (c .fresh2 .result) (c .before .before .before .before .before .first-number .result) (c .before .before .before .before .before .first-number .ensures) (c .before .before .before .before .if1 .left) (c .before .before .before .book-of .result) (c .before .before .before .book-of .ensures) (c .fresh2 .ensures)
+
+pub begin-spec : {M : Type 1} → statement M
+begin-spec =
+    tie.close
+    (tie.spec
+    shared-slice-read-nodes
+    shared-slice-read-stores
+    first-number-requires
+    fresh-requires
+    returns
+    book-of-requires
+    shared-slice-read-t13
+    fresh-requires-2
+    returns-2)
