@@ -135,6 +135,6 @@ mod tests {
                 tried += 1;
             }
         }
-        assert_eq!(tried, 414);
+        assert_eq!(tried, 1536);
     }
 }
