@@ -28,8 +28,6 @@ use Rattle.answers.specs.declared.StoreRemoved.{StoreRemoved}
 use Rattle.answers.specs.declared.StoreRemoved.the-variants as StoreRemovedIs
 use Rattle.answers.specs.declared.StoreExpired.{StoreExpired}
 use Rattle.answers.specs.declared.StoreExpired.the-variants as StoreExpiredIs
-use Rattle.answers.specs.declared.EachTier.{EachTier}
-use Rattle.answers.specs.declared.Reading.{Reading}
 use Rattle.answers.specs.declared.Looked.{Looked}
 use Rattle.answers.specs.declared.Looked.the-variants as LookedIs
 
@@ -80,13 +78,6 @@ abbrev pub storeExpiredOf : StoreExpired → Answer ExpireAnswer
 storeExpiredOf (StoreExpiredIs.Refused n) = refused n
 storeExpiredOf (StoreExpiredIs.Done a) = done a
 
--- one number of each tier, as a list
-abbrev pub eachTier : EachTier → List ℕ
-eachTier t = t .first ∷ t .second ∷ t .third ∷ t .fourth ∷ t .fifth ∷ t .sixth ∷ t .seventh ∷ t .eighth ∷ []
-
-abbrev pub readingOf : Reading → LookupAnswer
-readingOf a = record { path = a .path; spans = a .spans; blocks = eachTier (a .blocks); bytes = eachTier (a .bytes) }
-
 abbrev pub lookedOf : Looked → Answer LookupAnswer
 lookedOf (LookedIs.Refused n) = refused n
-lookedOf (LookedIs.Done a) = done (readingOf a)
+lookedOf (LookedIs.Done a) = done a

@@ -2,7 +2,7 @@
 use model::BringAnswer;
 use model::ExpireAnswer;
 use model::InsertAnswer;
-use model::Path;
+use model::LookupAnswer;
 use model::RemoveAnswer;
 use model::ResolveAnswer;
 use model::TouchAnswer;
@@ -49,27 +49,7 @@ pub enum StoreExpired {
     Done(ExpireAnswer),
 }
 
-// A number of each tier: a struct, since an enum that holds an array has no rules.
-pub struct EachTier {
-    pub first: u64,
-    pub second: u64,
-    pub third: u64,
-    pub fourth: u64,
-    pub fifth: u64,
-    pub sixth: u64,
-    pub seventh: u64,
-    pub eighth: u64,
-}
-
-// `model::LookupAnswer` with its sums in two such structs.
-pub struct Reading {
-    pub path: Path,
-    pub spans: usize,
-    pub blocks: EachTier,
-    pub bytes: EachTier,
-}
-
 pub enum Looked {
     Refused(u8),
-    Done(Reading),
+    Done(LookupAnswer),
 }

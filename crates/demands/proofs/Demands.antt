@@ -20,7 +20,7 @@ use Rattle.model.specs.Calls.{Outcome, Answer, refused, done, unless, NoList, L
 use Rattle.sure.proofs.Refused.{resolve-kept}
 use Rattle.prefix.proofs.Prefix.{resolve-longest}
 use Rattle.keptcalls.proofs.Accepted.{unless-done, is-sound}
-use Rattle.kepttouch.proofs.Holds.{Holds}
+use Rattle.model.specs.Blocks.{Holds}
 use Rattle.answers.specs.declared.Plain.{Plain}
 use Rattle.answers.specs.declared.Resolved.{Resolved}
 use Rattle.answers.specs.declared.StoreInserted.{StoreInserted}

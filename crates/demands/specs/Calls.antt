@@ -9,7 +9,7 @@ use Rattle.model.specs.Calls as Calls
 use Rattle.model.specs.Store.{storeOf}
 use Rattle.model.specs.Refusals.{OutList}
 use Rattle.model.specs.Calls.{Outcome, Answer, done, LookupLists}
-use Rattle.kepttouch.proofs.Holds.{Holds}
+use Rattle.model.specs.Blocks.{Holds}
 use Rattle.room.specs.Room.{Alike, blocksIn}
 use Rattle.answers.specs.declared.StoreInserted.{StoreInserted}
 use Rattle.answers.specs.declared.Looked.{Looked}

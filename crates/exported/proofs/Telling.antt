@@ -22,7 +22,7 @@ use Rattle.model.specs.Refusals.{PathList, OutList, firstOf, setUpRefusals, res
 use Rattle.model.specs.Calls.{Outcome, Answer, refused, done, unless, NoValue, LookupLists, setUp, resolveCall, insert, storeInsert, storeUsed, storeRemove, storeExpire, pinSource, unpinSource, lookup, heldCall, capacityCall, pinnedCall, availableCall, versionCall, stallsCall}
 use Rattle.answers.specs.declared.Looked.{Looked}
 use Rattle.answers.specs.declared.Looked.the-variants as LookedIs
-use Rattle.answers.specs.Answers.{outcome, readingOf, lookedOf}
+use Rattle.answers.specs.Answers.{outcome, lookedOf}
 use Rattle.exported.specs.Told.{told, numberOf, laid, toldPlain, countAt, countValues, resolveAt, resolveValues, insertAt, insertValues, bringAt, bringValues, touchAt, touchValues, removeAt, removeValues, expireAt, expireValues, lookupAt, lookupValues}
 
 -- ---- no call refuses with 0
@@ -101,7 +101,7 @@ lookup-told (LookedIs.Refused zero) l long h = absurd (h refl)
 lookup-told (LookedIs.Refused (suc n)) l long h = refl
 lookup-told (LookedIs.Done v) l long h =
     let room : 19 ≤ length l = omega arith in
-    ap (λ m. done (lookupAt m)) (sets-eq (lookupValues (readingOf v)) l 0 room)
+    ap (λ m. done (lookupAt m)) (sets-eq (lookupValues v) l 0 room)
 
 -- ---- an exported call, from the equation of the inner one
 

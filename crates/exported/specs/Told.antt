@@ -1,6 +1,7 @@
 -- An answer as a number and a lent list: 0 and the values, or the refusal's number. Assumes nothing.
 use Prim.Native.Nat.{ℕ, zero, suc, _+_}
 use mathlib.Core.List.{List, [], _∷_, _++_}
+use lib.ListN.{drop}
 use lib.Seq.{sets}
 use Rattle.model.specs.declared.Path.{Path}
 use Rattle.model.specs.declared.Split.{Split}
@@ -13,10 +14,8 @@ use Rattle.model.specs.declared.RemoveAnswer.{RemoveAnswer}
 use Rattle.model.specs.declared.ExpireAnswer.{ExpireAnswer}
 use Rattle.model.specs.declared.LookupAnswer.{LookupAnswer}
 use Rattle.model.specs.State.{at}
+use Rattle.model.specs.Lookup.{eachTier, sumsIn}
 use Rattle.model.specs.Calls.{Answer, refused, done, NoValue}
-
-abbrev pub eightAt : ℕ → List ℕ → List ℕ
-eightAt a l = at l a ∷ at l (a + 1) ∷ at l (a + 2) ∷ at l (a + 3) ∷ at l (a + 4) ∷ at l (a + 5) ∷ at l (a + 6) ∷ at l (a + 7) ∷ []
 
 -- ---- what a number and a list tell
 
@@ -80,7 +79,7 @@ toldStoreExpired r l = told expireAt r l
 
 -- a path, the number of tier spans, then eight sums of blocks and eight of bytes
 abbrev pub lookupAt : List ℕ → LookupAnswer
-lookupAt l = record { path = pathAt l; spans = at l 2; blocks = eightAt 3 l; bytes = eightAt 11 l }
+lookupAt l = record { path = pathAt l; spans = at l 2; blocks = eachTier (drop 3 l); bytes = eachTier (drop 11 l) }
 
 abbrev pub toldLooked : ℕ → List ℕ → Answer LookupAnswer
 toldLooked r l = told lookupAt r l
@@ -121,4 +120,4 @@ abbrev pub expireValues : ExpireAnswer → List ℕ
 expireValues v = v .outs ∷ []
 
 abbrev pub lookupValues : LookupAnswer → List ℕ
-lookupValues v = v .path .segs ∷ v .path .blocks ∷ v .spans ∷ (v .blocks ++ v .bytes)
+lookupValues v = v .path .segs ∷ v .path .blocks ∷ v .spans ∷ (sumsIn (v .blocks) ++ sumsIn (v .bytes))

@@ -1,6 +1,5 @@
 // An answer told as a number and a list: 0 and the values, or the refusal's number with the list as it was.
 use answers::Count;
-use answers::EachTier;
 use answers::Inserted;
 use answers::Looked;
 use answers::Plain;
@@ -9,10 +8,12 @@ use answers::StoreExpired;
 use answers::StoreInserted;
 use answers::StoreRemoved;
 use answers::StoreUsed;
+use model::EachTier;
 use model::Split;
 ghost use mathlib.Core.Path.{_≡_};
 ghost use lib.Seq.{sets};
-ghost use Rattle.answers.specs.Answers.{plainOf, countOf, resolvedOf, insertedOf, storeInsertedOf, storeUsedOf, storeRemovedOf, storeExpiredOf, eachTier, lookedOf};
+ghost use Rattle.model.specs.Lookup.{sumsIn};
+ghost use Rattle.answers.specs.Answers.{plainOf, countOf, resolvedOf, insertedOf, storeInsertedOf, storeUsedOf, storeRemovedOf, storeExpiredOf, lookedOf};
 ghost use Rattle.exported.specs.Told.{numberOf, laid, countValues, resolveValues, insertValues, bringValues, touchValues, removeValues, expireValues, lookupValues};
 
 pub fn plain(a: Plain) -> u8
@@ -124,7 +125,7 @@ pub fn store_expired(answer: &mut [u64; 19], a: StoreExpired) -> u8
 }
 
 fn tell_blocks(answer: &mut [u64; 19], t: EachTier)
-    ensures { λ _. ⌜ now (answer .exit) ≡ sets (now (answer .entry)) 3 (eachTier t) ⌝ }
+    ensures { λ _. ⌜ now (answer .exit) ≡ sets (now (answer .entry)) 3 (sumsIn t) ⌝ }
 {
     answer[3] = t.first;
     answer[4] = t.second;
@@ -137,7 +138,7 @@ fn tell_blocks(answer: &mut [u64; 19], t: EachTier)
 }
 
 fn tell_bytes(answer: &mut [u64; 19], t: EachTier)
-    ensures { λ _. ⌜ now (answer .exit) ≡ sets (now (answer .entry)) 11 (eachTier t) ⌝ }
+    ensures { λ _. ⌜ now (answer .exit) ≡ sets (now (answer .entry)) 11 (sumsIn t) ⌝ }
 {
     answer[11] = t.first;
     answer[12] = t.second;

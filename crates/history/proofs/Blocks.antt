@@ -22,7 +22,8 @@ use Rattle.kept.specs.Facts.{All, InOrder, Sorted}
 use Rattle.kept.specs.StoreSound.{RangesSound}
 use Rattle.keptbring.proofs.Facts.{all-map}
 use Rattle.keptbring.proofs.Evict.{cut-sound, evict-cut, first-some}
-use Rattle.kepttouch.proofs.Holds.{In, Holds, Filled, holds-append}
+use Rattle.model.specs.Blocks.{In, Holds, Filled}
+use Rattle.kepttouch.proofs.Holds.{holds-append}
 
 pub lt-or-le : (a b : ℕ) → (a < b) ⊎ (b ≤ a)
 lt-or-le a b = go (ltb a b) refl

@@ -13,7 +13,7 @@ use Rattle.model.specs.Refusals.{SpanIn}
 use Rattle.kept.specs.Facts.{All}
 use Rattle.kept.specs.StoreSound.{TreeSound, Parts}
 use Rattle.keptstate.proofs.Parts.{sound-parts}
-use Rattle.kepttouch.proofs.Holds.{Holds, InSpan}
+use Rattle.model.specs.Blocks.{Holds, InSpan}
 use Rattle.history.specs.Names.{nameOf, Named, Stored}
 use Rattle.history.specs.History.{Call, after, BroughtIn, Gone, History, next}
 use Rattle.history.proofs.Names.{same-name}

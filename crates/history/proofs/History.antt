@@ -23,7 +23,7 @@ use Rattle.keptcalls.proofs.Accepted.{unless-done, set-up-fits}
 use Rattle.keptcalls.proofs.Stores.{store-sound}
 use Rattle.keptcalls.proofs.Calls as Kept
 use Rattle.laid.proofs.SetUp as Set
-use Rattle.kepttouch.proofs.Holds.{Holds}
+use Rattle.model.specs.Blocks.{Holds}
 use Rattle.history.specs.Names.{Named, Stored}
 use Rattle.history.specs.History.{Call, setUp, resolve, insert, storeInsert, storeUsed, storeRemove, storeExpire, pinSource, unpinSource, lookup, storeHeld, storeCapacity, storePinned, storeAvailable, sourceVersion, pinStalls, after, IfDone, BroughtIn, Gone, History, next, since, run, nothing, Exactly, Steps, runAll, sinceAll}
 use Rattle.history.proofs.Exact.{real-held, same-block, Exact}

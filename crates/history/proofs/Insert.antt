@@ -29,7 +29,7 @@ use Rattle.keptstate.proofs.Parts.{sound-parts}
 use Rattle.keptstate.proofs.Cut.{needs, sumTo, AfterCut, records-counted, entries-counted, ids-counted}
 use Rattle.keptcalls.proofs.Accepted.{NoneHolds, each-fits}
 use Rattle.keptcalls.proofs.Insert.{after-cut}
-use Rattle.kepttouch.proofs.Holds.{Holds}
+use Rattle.model.specs.Blocks.{Holds}
 use Rattle.history.specs.Names.{nameOf, Named, Stored}
 use Rattle.history.specs.History.{Call, insert, BroughtIn, Gone, History, next}
 use Rattle.history.proofs.Grown.{leaf-name, stay-name, move-name}

@@ -34,7 +34,7 @@ use Rattle.kept.specs.Facts.{All}
 use Rattle.kept.specs.StoreSound.{StoreSound}
 use Rattle.keptbring.proofs.Facts.{all-from}
 use Rattle.keptbring.proofs.Expire.{expire-sound, expire-length, expire-steady}
-use Rattle.kepttouch.proofs.Holds.{Holds, InSpan}
+use Rattle.model.specs.Blocks.{Holds, InSpan}
 use Rattle.kepttouch.proofs.Touch.{touch-holds, touch-length, touch-sound, touch-steady}
 use Rattle.kepttouch.proofs.Remove.{remove-holds, remove-length, remove-sound, remove-steady}
 use Rattle.keptstate.proofs.Changed.{ranges-fit}

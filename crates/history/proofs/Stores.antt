@@ -21,7 +21,7 @@ use Rattle.kept.specs.Facts.{All}
 use Rattle.kept.specs.StoreSound.{StoreSound, RangesSound}
 use Rattle.keptbring.proofs.Bring.{bring-cases}
 use Rattle.keptbring.proofs.Fill.{gaps-rising, gaps-clear, fill-sound}
-use Rattle.kepttouch.proofs.Holds.{In, Holds, InSpan}
+use Rattle.model.specs.Blocks.{In, Holds, InSpan}
 use Rattle.history.specs.History.{Listed}
 use Rattle.history.proofs.Blocks.{InGaps, InOut, InOuts, Split, gap-within, gap-or-held, fill-holds, holds-fill, trim-split, expire-split}
 

@@ -14,7 +14,7 @@ use Rattle.model.specs.Refusals.{PathList, OutList}
 use Rattle.model.specs.Calls as Calls
 use Rattle.model.specs.Calls.{Answer, refused, done, LookupLists}
 use Rattle.kept.specs.Facts.{Sorted}
-use Rattle.kepttouch.proofs.Holds.{Holds, InSpan}
+use Rattle.model.specs.Blocks.{Holds, InSpan}
 use Rattle.history.specs.Names.{nameOf, Named, Stored}
 
 -- a public call with its arguments, answer lists among them

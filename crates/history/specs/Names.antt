@@ -9,7 +9,7 @@ use Rattle.model.specs.Sizes.{maxHashes}
 use Rattle.model.specs.State.{Tree, State, at}
 use Rattle.model.specs.Chained.{hashesOf}
 use Rattle.model.specs.Store.{storeOf}
-use Rattle.kepttouch.proofs.Holds.{Holds}
+use Rattle.model.specs.Blocks.{Holds}
 
 -- the hashes from the root to the end of node k, from parent to parent; n bounds the nodes
 unfoldable pub above : Tree → ℕ → ℕ → List ℕ

@@ -19,7 +19,8 @@ use Rattle.model.specs.Remove.{middleCut, tailId, remains, cutOut, middleCuts, 
 use Rattle.kept.specs.Facts.{All, InOrder, Sorted}
 use Rattle.keptbring.proofs.Facts.{all-map}
 use Rattle.kepttouch.proofs.Bools.{and-true, and-false, and-right}
-use Rattle.kepttouch.proofs.Holds.{Filled, In, Holds, InSpan, holds-append, total-append}
+use Rattle.model.specs.Blocks.{Filled, In, Holds, InSpan}
+use Rattle.kepttouch.proofs.Holds.{holds-append, total-append}
 use Rattle.kepttouch.proofs.Pieces.{Within, Pieces, Parted, none, more, Named, Cut, stop, cut}
 use Rattle.kepttouch.proofs.Recut.{Met, met, met-true, cut-to}
 

@@ -23,7 +23,7 @@ use Rattle.kept.specs.Facts.{All}
 use Rattle.kept.specs.StoreSound.{RangesSound, MarksSound, StoreSound}
 use Rattle.keptbring.proofs.Facts.{Steady, steady-capacity, steady-policy, steady-entries, steady-pinned}
 use Rattle.kepttouch.proofs.Bools.{or-right}
-use Rattle.kepttouch.proofs.Holds.{Filled, In, Holds}
+use Rattle.model.specs.Blocks.{Filled, In, Holds}
 
 holds-node : (rs : List Range) (v o : ℕ) → Holds rs v o → onNode v rs ≡ true
 unfolding Holds onNode

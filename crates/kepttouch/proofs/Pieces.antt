@@ -13,7 +13,8 @@ use Rattle.model.specs.Sound.{Before, Inside, IdBetween}
 use Rattle.model.specs.Store.{total}
 use Rattle.kept.specs.Facts.{All, InOrder, Sorted, Distinct, IdApart, HasId, IdsFrom}
 use Rattle.keptbring.proofs.Facts.{all-map, all-append, all-left, all-right, order-append, order-right, order-cross, has-all, id-later}
-use Rattle.kepttouch.proofs.Holds.{Holds, holds-append, total-append}
+use Rattle.model.specs.Blocks.{Holds}
+use Rattle.kepttouch.proofs.Holds.{holds-append, total-append}
 
 -- ---- one range and its pieces
 

@@ -18,7 +18,7 @@ use Rattle.kept.specs.Facts.{All, IdsFrom}
 use Rattle.kept.specs.StoreSound.{RangesSound}
 use Rattle.keptbring.proofs.Facts.{all-map, Thinned, done, kept, gone, thin-all, thin-order, thin-length}
 use Rattle.kepttouch.proofs.Bools.{and-true, or-right}
-use Rattle.kepttouch.proofs.Holds.{Filled, Holds}
+use Rattle.model.specs.Blocks.{Filled, Holds}
 use Rattle.kepttouch.proofs.Pieces.{Chain, Whole, whole-pieces, chain-append, Parted, none, more, parted-map, parted-all, parted-inside, parted-sorted, whole-holds, whole-total, joined-inside, joined-sorted, Named, Cut, stop, cut, cut-parted, cut-length, cut-ids, cut-below, cut-distinct}
 
 -- the range has blocks of the span

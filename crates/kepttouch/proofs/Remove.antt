@@ -18,7 +18,7 @@ use Rattle.kept.specs.Facts.{All, IdsFrom}
 use Rattle.kept.specs.StoreSound.{RangesSound, MarksSound, StoreSound}
 use Rattle.keptbring.proofs.Facts.{all-map, ids-same, ranges-later, Steady, steady-same}
 use Rattle.keptbring.proofs.Evict.{unmark-sound}
-use Rattle.kepttouch.proofs.Holds.{Filled, Holds, InSpan}
+use Rattle.model.specs.Blocks.{Filled, Holds, InSpan}
 use Rattle.kepttouch.proofs.Pieces.{parted-inside, parted-sorted, parted-all, cut-parted, cut-length, cut-ids, cut-below, cut-distinct}
 use Rattle.kepttouch.proofs.Marks.{no-node, steady-sound}
 use Rattle.kepttouch.proofs.CutOut.{Told, out-cut, out-holds, out-total, no-hit, one-middle, few-hits, few-writes}

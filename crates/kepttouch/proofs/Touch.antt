@@ -18,7 +18,7 @@ use Rattle.model.specs.Refusals.{SpanIn}
 use Rattle.kept.specs.Facts.{All, IdsFrom}
 use Rattle.kept.specs.StoreSound.{MarksSound, StoreSound}
 use Rattle.keptbring.proofs.Facts.{all-map, ids-same, ranges-later, Steady}
-use Rattle.kepttouch.proofs.Holds.{Filled, Holds}
+use Rattle.model.specs.Blocks.{Filled, Holds}
 use Rattle.kepttouch.proofs.Marks.{no-node, marks-carry, read-marks, steady-sound}
 use Rattle.kepttouch.proofs.Recut.{hit-node, cut-to, Retold, cut-retold, join-retold, restamp-cut, recut-cut}
 

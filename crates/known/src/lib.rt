@@ -1,11 +1,9 @@
 // The calls of a caller whose state is known to be sound, under the source's names: each makes every test that document 01 has for it but those for 1 and
 // 14. A state that was set up here and changed by these calls alone is sound. `sound_state` is the test for 1.
 pub use answers::Count;
-pub use answers::EachTier;
 pub use answers::Inserted;
 pub use answers::Looked;
 pub use answers::Plain;
-pub use answers::Reading;
 pub use answers::Resolved;
 pub use answers::StoreExpired;
 pub use answers::StoreInserted;
@@ -22,8 +20,10 @@ pub use inserting::insert;
 pub use looking::lookup;
 pub use model::BringAnswer;
 pub use model::Cut;
+pub use model::EachTier;
 pub use model::ExpireAnswer;
 pub use model::InsertAnswer;
+pub use model::LookupAnswer;
 pub use model::Path;
 pub use model::RemoveAnswer;
 pub use model::ResolveAnswer;

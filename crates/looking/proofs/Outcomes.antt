@@ -5,9 +5,11 @@ use mathlib.Core.Logic.{inl, inr}
 use mathlib.Core.Path.{_≡_, refl, ap}
 use native.Mathlib.Omega.{arith}
 use lib.ListN.{length}
+use Rattle.model.specs.declared.EachTier.{EachTier}
 use Rattle.model.specs.Words.{Each, Some}
 use Rattle.model.specs.State.{State, at, storesOf, recordsOf}
 use Rattle.model.specs.Sound.{Sound}
+use Rattle.model.specs.Lookup.{eachTier}
 use Rattle.model.specs.Refusals.{PathList, TierList, PathFits, TierFits, First, firstOf, lookupRefusals}
 use Rattle.model.specs.Calls.{refused, done, LookupLists, lookup}
 use Rattle.sure.proofs.Refusals.{first-is, lookup-exact}
@@ -15,8 +17,7 @@ use Rattle.tree.specs.declared.Match.{Match}
 use Rattle.tree.specs.Walk.{Resolved}
 use Rattle.tiers.specs.declared.LookupParts.{LookupParts}
 use Rattle.tiers.specs.Tiers.{Seen, Told, listsOf}
-use Rattle.answers.specs.declared.EachTier.{EachTier}
-use Rattle.answers.specs.Answers.{outcome, eachTier, readingOf}
+use Rattle.answers.specs.Answers.{outcome}
 
 module _ (st : State) (l : LookupLists) (ts hs : List ℕ) (sound : Sound st) (path : PathFits (l .path)) (tiers : TierFits (l .spans)) where
   is-first : (n : ℕ) → First (lookupRefusals st (l .path) (l .spans) ts hs) n → firstOf (lookupRefusals st (l .path) (l .spans) ts hs) ≡ n
@@ -38,9 +39,9 @@ module _ (st : State) (l : LookupLists) (ts hs : List ℕ) (sound : Sound st) (p
         refused-is 2 (inr (λ n. n sound, inr (λ n. n path, inr (λ n. n tiers, inr (stores, inr (λ n. omega arith, inl (h, refl)))))))
 
     pub looked-is : {path′ : PathList} {spans′ : TierList} {m : Match} {w : LookupParts} (blocks bytes : EachTier) → length hs ≤ 1024 → length ts ≤ 8
-        → Resolved (st .tree) hs (l .path) path′ m → Told st ts hs (l .spans) spans′ w → eachTier blocks ≡ w .blocks → eachTier bytes ≡ w .bytes
+        → Resolved (st .tree) hs (l .path) path′ m → Told st ts hs (l .spans) spans′ w → blocks ≡ eachTier (w .blocks) → bytes ≡ eachTier (w .bytes)
         → outcome st (listsOf path′ spans′)
-        (done (readingOf (record { path = record { segs = m .segs; blocks = m .blocks }; spans = w .spans; blocks = blocks; bytes = bytes })))
+        (done (record { path = record { segs = m .segs; blocks = m .blocks }; spans = w .spans; blocks = blocks; bytes = bytes }))
         ≡ lookup st l ts hs
     unfolding lookup
     looked-is blocks bytes few less r t e f =

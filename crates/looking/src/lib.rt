@@ -1,6 +1,6 @@
-use answers::EachTier;
 use answers::Looked;
-use answers::Reading;
+use model::EachTier;
+use model::LookupAnswer;
 use model::Path;
 ghost use mathlib.Core.Path.{_≡_};
 ghost use Prim.Native.Nat.{ℕ, _≤_};
@@ -9,10 +9,11 @@ ghost use Rattle.model.specs.Words.{Says, Some};
 ghost use Rattle.model.specs.State.{at};
 ghost use Rattle.model.specs.Sound.{Sound};
 ghost use Rattle.model.specs.Refusals.{PathFits, TierFits};
+ghost use Rattle.model.specs.Lookup.{eachTier};
 ghost use Rattle.model.specs.Calls.{lookup};
 ghost use Rattle.tree.specs.Walk.{pathListOf};
 ghost use Rattle.tiers.specs.Tiers.{tierListOf, listsOf};
-ghost use Rattle.answers.specs.Answers.{stateFrom, outcome, eachTier, lookedOf};
+ghost use Rattle.answers.specs.Answers.{stateFrom, outcome, lookedOf};
 
 // Is some tier no store?
 fn no_tier(tiers: &[usize], stores: usize) -> bool
@@ -29,7 +30,7 @@ fn no_tier(tiers: &[usize], stores: usize) -> bool
 }
 
 fn each_tier(x: [u64; 8]) -> EachTier
-    ensures { λ r. ⌜ eachTier r ≡ x ⌝ }
+    ensures { λ r. ⌜ r ≡ eachTier x ⌝ }
 {
     EachTier {
         first: x[0],
@@ -114,7 +115,7 @@ pub fn lookup(
     );
     let blocks = w.blocks;
     let sums = w.bytes;
-    Looked::Done(Reading {
+    Looked::Done(LookupAnswer {
         path: Path {
             segs: m.segs,
             blocks: m.blocks,

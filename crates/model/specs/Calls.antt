@@ -24,7 +24,7 @@ use Rattle.model.specs.Touch.{touch}
 use Rattle.model.specs.Remove.{Removed, remove}
 use Rattle.model.specs.Expire.{Expired, expire}
 use Rattle.model.specs.Pins.{pin, pinNeed, unpin}
-use Rattle.model.specs.Lookup.{TierSpan, lookupPath, spanBlocks, spanBytes, tierSums}
+use Rattle.model.specs.Lookup.{TierSpan, lookupPath, spanBlocks, spanBytes, tierSums, eachTier}
 use Rattle.model.specs.Insert.{Inserted, insertPath}
 use Rattle.model.specs.SetUp.{setUpState}
 use Rattle.model.specs.Refusals
@@ -194,8 +194,8 @@ lookup st l ts hs =
           done (record {
             path = pathOf path;
             spans = length spans;
-            blocks = tierSums spanBlocks 0 maxTiers spans;
-            bytes = tierSums (spanBytes st) 0 maxTiers spans;
+            blocks = eachTier (tierSums spanBlocks 0 maxTiers spans);
+            bytes = eachTier (tierSums (spanBytes st) 0 maxTiers spans);
           });
     })
 

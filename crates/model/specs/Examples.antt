@@ -20,6 +20,7 @@ use Rattle.model.specs.declared.LookupAnswer.{LookupAnswer}
 use Rattle.model.specs.Sizes.{maxNodes, maxWords, maxRecords, maxPins, maxMarks, maxNumbers, tableLength, pathPlaces, outPlaces, tierPlaces}
 use Rattle.model.specs.State.{State, Range, at, stallsOf, heldOf, versionOf}
 use Rattle.model.specs.Store.{Store, storeOf, noTime}
+use Rattle.model.specs.Lookup.{sumsIn}
 use Rattle.model.specs.Refusals.{PathList, OutList, TierList}
 use Rattle.model.specs.Calls.{Answer, refused, done, Outcome, LookupLists, setUp, resolveCall, insert, storeInsert, storeUsed, storeRemove, storeExpire, pinSource, lookup}
 
@@ -211,7 +212,7 @@ tiersOf zero l = []
 tiersOf (suc n) l = tiersOf n l ++ ((at (l .tier) n ∷ at (l .node) n ∷ at (l .start) n ∷ at (l .end) n ∷ []) ∷ [])
 
 abbrev pub lookupSays : ℕ → Outcome LookupLists LookupAnswer → List (List ℕ)
-lookupSays k o = elim (o .answer) [ refused n ↦ refusal n | done a ↦ tiersOf (a .spans) (o .lists .spans) ++ (take k (a .blocks) ∷ []) ]
+lookupSays k o = elim (o .answer) [ refused n ↦ refusal n | done a ↦ tiersOf (a .spans) (o .lists .spans) ++ (take k (sumsIn (a .blocks)) ∷ []) ]
 
 -- ---- the table
 

@@ -30,7 +30,6 @@ use Rattle.answers.specs.declared.StoreRemoved.{StoreRemoved}
 use Rattle.answers.specs.declared.StoreRemoved.the-variants as StoreRemovedIs
 use Rattle.answers.specs.declared.StoreExpired.{StoreExpired}
 use Rattle.answers.specs.declared.StoreExpired.the-variants as StoreExpiredIs
-use Rattle.answers.specs.declared.EachTier.{EachTier}
 use Rattle.answers.specs.declared.Looked.{Looked}
 use Rattle.answers.specs.declared.Looked.the-variants as LookedIs
 use Rattle.answers.specs.Answers.{outcome, plainOf, countOf, resolvedOf, insertedOf, storeInsertedOf, storeUsedOf, storeRemovedOf, storeExpiredOf, lookedOf}
@@ -165,22 +164,9 @@ storeExpired-one = apart storeExpiredOf back same
 pub looked-one : Apart lookedOf
 looked-one = apart lookedOf back same
   where
-    each : List ℕ → EachTier
-    each l =
-        record {
-          first = at l 0;
-          second = at l 1;
-          third = at l 2;
-          fourth = at l 3;
-          fifth = at l 4;
-          sixth = at l 5;
-          seventh = at l 6;
-          eighth = at l 7;
-        }
-
     back : Answer LookupAnswer → Looked
     back (refused n) = LookedIs.Refused n
-    back (done v) = LookedIs.Done (record { path = v .path; spans = v .spans; blocks = each (v .blocks); bytes = each (v .bytes) })
+    back (done v) = LookedIs.Done v
 
     same : (r : Looked) → back (lookedOf r) ≡ r
     same (LookedIs.Refused n) = refl

@@ -12,6 +12,7 @@ use borrow.Author.Tests.{le-leb, lt-leb, ltb-true, not-false}
 use mir.Val.{Fits}
 use mir.Syntax.{w64}
 use Rattle.model.specs.declared.Span.{Span}
+use Rattle.model.specs.Sizes.{maxStores, maxNumbers}
 use Rattle.model.specs.State.{Tree, Ranges, Pins, Pin, State, at, storesOf, entriesOf, pinnedOf, storesIn, nextIdIn, bookIn}
 use Rattle.model.specs.Sound.{Sound, PinInside, PinsLent}
 use Rattle.model.specs.SoundTest.{sound}
@@ -278,7 +279,7 @@ module _ {st : State} (h : Sound st) where
   pub nodes-in : st .tree .nodes ≤ length (st .tree .len)
   nodes-in = omega (arith, h .counts .nodes, h .lent .tree .len)
 
-  pub in-books : {s : ℕ} → s < storesOf st → (s < 8) × (69 ≤ length (st .books))
+  pub in-books : {s : ℕ} → s < storesOf st → (s < maxStores) × (maxNumbers ≤ length (st .books))
   in-books {s} less = (omega (arith, h .counts .stores), h .lent .books)
 
   pub limits : {s : ℕ} → s < storesOf st → (entriesOf st s ≤ 32) × (pinnedOf st s ≤ 1000000)

@@ -1,11 +1,9 @@
 // The block tree, its stores and their rules: the public calls, under the source's names. Each makes all the tests that document 01 has for it, in 01's
 // order, and asks nothing of its caller.
 pub use answers::Count;
-pub use answers::EachTier;
 pub use answers::Inserted;
 pub use answers::Looked;
 pub use answers::Plain;
-pub use answers::Reading;
 pub use answers::Resolved;
 pub use answers::StoreExpired;
 pub use answers::StoreInserted;
@@ -14,8 +12,10 @@ pub use answers::StoreUsed;
 pub use books::books_size;
 pub use model::BringAnswer;
 pub use model::Cut;
+pub use model::EachTier;
 pub use model::ExpireAnswer;
 pub use model::InsertAnswer;
+pub use model::LookupAnswer;
 pub use model::Path;
 pub use model::RemoveAnswer;
 pub use model::ResolveAnswer;

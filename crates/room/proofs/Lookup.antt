@@ -15,7 +15,7 @@ use Rattle.model.specs.Tree.{Seg}
 use Rattle.model.specs.Store.{storeOf}
 use Rattle.model.specs.Lookup.{TierSpan, holds, reach, firstTier, Looked, andMore, along, lookupPath, spanBlocks, ifTier, tierSum, tierSums}
 use Rattle.kept.specs.Facts.{All}
-use Rattle.kepttouch.proofs.Holds.{In, Holds}
+use Rattle.model.specs.Blocks.{In, Holds}
 use Rattle.room.specs.Room.{sumOf}
 
 pub lt-or-le : (a b : ℕ) → (a < b) ⊎ (b ≤ a)

@@ -24,7 +24,7 @@ use Rattle.model.specs.Trim.{trim}
 use Rattle.model.specs.Bring.{gaps, fill, keep, bring, bringNeed}
 use Rattle.model.specs.Refusals.{Condition, firstOf, OutList, PathList, TierList, storeInsertRefusals, lookupRefusals}
 use Rattle.model.specs.Calls.{Answer, refused, done, unless, brought, bringIn, storeInsert, LookupLists, lookup, pathOf, layPath, layTiers}
-use Rattle.model.specs.Lookup.{lookupPath, tierSums, spanBlocks, spanBytes}
+use Rattle.model.specs.Lookup.{lookupPath, tierSums, spanBlocks, spanBytes, eachTier}
 use Rattle.sure.proofs.Says.{true-says}
 use Rattle.sure.proofs.Sound.{sound-says}
 use Rattle.sure.proofs.Refused.{storeInsert-kept, lookup-kept}
@@ -32,7 +32,7 @@ use Rattle.kept.specs.Facts.{All}
 use Rattle.keptbring.proofs.Bring.{bring-cases}
 use Rattle.keptcalls.proofs.Accepted.{NoneHolds, Accepted, unless-done, span-in, is-finite, neither}
 use Rattle.keptcalls.proofs.Calls.{storeInsert-sound}
-use Rattle.kepttouch.proofs.Holds.{Holds}
+use Rattle.model.specs.Blocks.{Holds}
 use Rattle.laid.proofs.Books.{book-read, book-other}
 use Rattle.room.specs.Room.{resized, withCapacity, ButCapacity, Alike, sumOf, blocksIn, MoreRoom}
 use Rattle.room.proofs.Trim.{Sub, trim-room}
@@ -217,7 +217,7 @@ module _ (x y : State) (h : Beside x y) (l : LookupLists) (ts hs : List ℕ) whe
       (h .tree) (sums-over r few (resolve (x .tree) hs))
 
   pub reads : blocksIn (lookup x l ts hs .answer) ≤ blocksIn (lookup y l ts hs .answer)
-  unfolding lookup
+  unfolding lookup tierSums
   reads = go (firstOf (lookupRefusals x (l .path) (l .spans) ts hs)) (firstOf (lookupRefusals y (l .path) (l .spans) ts hs)) refl look-alike
     where
       path : State → List Seg
@@ -228,8 +228,8 @@ module _ (x y : State) (h : Beside x y) (l : LookupLists) (ts hs : List ℕ) whe
           record {
             path = pathOf (path st);
             spans = length (lookupPath st ts (path st));
-            blocks = tierSums spanBlocks 0 maxTiers (lookupPath st ts (path st));
-            bytes = tierSums (spanBytes st) 0 maxTiers (lookupPath st ts (path st));
+            blocks = eachTier (tierSums spanBlocks 0 maxTiers (lookupPath st ts (path st)));
+            bytes = eachTier (tierSums (spanBytes st) 0 maxTiers (lookupPath st ts (path st)));
           }
 
       lists : State → LookupLists

@@ -13,7 +13,8 @@ use borrow.Author.Tests.{leb-true, leb-false}
 use Rattle.model.specs.State.{Tree, Range, Pin}
 use Rattle.model.specs.Store.{lengthOf, total, unmark}
 use Rattle.model.specs.Trim.{isPinned, nth, first, evict, shortened, asked, chosen, amount, trimBy, trim}
-use Rattle.kepttouch.proofs.Holds.{In, Holds}
+use Rattle.model.specs.Blocks.{In, Holds}
+use Rattle.room.specs.Room.{Lawful}
 
 -- what rs holds qs holds
 abbrev pub Sub : List Range → List Range → Type 0
@@ -65,11 +66,6 @@ chosen-more ps (suc d) zero rs i l q = absurd (omega arith)
 chosen-more ps (suc d) (suc e) rs i l q = q
 
 -- ---- a trim
-
--- what an excess asks for is at least the excess, and grows with it
-pub record Lawful (asks : ℕ → ℕ) : Type 0 where
-  pub enough : (e : ℕ) → e ≤ asks e
-  pub grows : (d e : ℕ) → d ≤ e → asks d ≤ asks e
 
 pub asked-lawful : Lawful asked
 asked-lawful = record { enough = λ e. omega arith; grows = λ d e l. l }

@@ -10,9 +10,10 @@ use Rattle.model.specs.declared.BringAnswer.{BringAnswer}
 use Rattle.model.specs.declared.LookupAnswer.{LookupAnswer}
 use Rattle.model.specs.State.{State, numbers, bookFrom, bookOf, capacityOf}
 use Rattle.model.specs.Store.{storeOf, layBook}
+use Rattle.model.specs.Lookup.{sumsIn}
 use Rattle.model.specs.Refusals.{OutList}
 use Rattle.model.specs.Calls.{Outcome, Answer, refused, done, storeInsert, LookupLists, lookup}
-use Rattle.kepttouch.proofs.Holds.{Holds}
+use Rattle.model.specs.Blocks.{Holds}
 
 -- a store's own numbers with capacity c, and all else as it is
 abbrev pub resized : ℕ → Book → Book
@@ -37,6 +38,11 @@ pub record ButCapacity (s C D : ℕ) (a b : State) : Type 0 where
   pub large : capacityOf b s ≡ D
   pub same : b ≡ withCapacity s D a
 
+-- a rule of how much an excess asks for: what it asks for is at least the excess, and grows with it
+pub record Lawful (asks : ℕ → ℕ) : Type 0 where
+  pub enough : (e : ℕ) → e ≤ asks e
+  pub grows : (d e : ℕ) → d ≤ e → asks d ≤ asks e
+
 -- "Both accept or both refuse alike"
 abbrev pub Alike : {A : Type 0} → Answer A → Answer A → Type 0
 Alike (refused n) (refused m) = n ≡ m
@@ -51,7 +57,7 @@ sumOf (n ∷ ns) = n + sumOf ns
 
 abbrev pub blocksIn : Answer LookupAnswer → ℕ
 blocksIn (refused n) = 0
-blocksIn (done a) = sumOf (a .blocks)
+blocksIn (done a) = sumOf (sumsIn (a .blocks))
 
 -- "make the same insertion into that store", under C and under D
 abbrev pub underC : State → OutList → ℕ → Span → Float → ℕ → Outcome OutList BringAnswer

@@ -1,9 +1,7 @@
 // The answers and the whole state in the replay form, written into a buffer that the caller lends. Each function answers the place past what it wrote.
-use answers::EachTier;
 use answers::Inserted;
 use answers::Looked;
 use answers::Plain;
-use answers::Reading;
 use answers::Resolved;
 use answers::StoreExpired;
 use answers::StoreInserted;
@@ -11,6 +9,8 @@ use answers::StoreRemoved;
 use answers::StoreUsed;
 use model::Book;
 use model::Cut;
+use model::EachTier;
+use model::LookupAnswer;
 use model::Path;
 use model::Split;
 ghost use Prim.Native.Nat.{_+_, _≤_, _<_};
@@ -291,7 +291,7 @@ fn put_looked(
     span_node: &[usize],
     start: &[usize],
     end: &[usize],
-    d: Reading,
+    d: LookupAnswer,
     n: usize,
 ) -> usize
     requires { ⌜ (d .path .segs ≤ 255) × (d .path .segs ≤ length (now node)) × (d .path .segs ≤ length (now len)) × (d .spans ≤ 1024) × (d .spans ≤ length (now tier)) × (d .spans ≤ length (now «span_node»)) × (d .spans ≤ length (now start)) × (d .spans ≤ length (now end)) × (n ≤ 8) × (at + 131072 ≤ length (now out)) ⌝ }

@@ -2,7 +2,8 @@
 use mathlib.Core.Path.{sym, ap, _∙_}
 use borrow.Author.Needs.{needs}
 use lib.Seq.{sets}
-use Rattle.answers.specs.Answers.{eachTier, lookedOf}
+use Rattle.model.specs.Lookup.{sumsIn}
+use Rattle.answers.specs.Answers.{lookedOf}
 use Rattle.exported.specs.Told.{numberOf, laid, lookupValues}
 use Rattle.exported.proofs.told.looked.Statement.{statement}
 use Rattle.exported.proofs.told.looked.Tie as tie
@@ -34,7 +35,7 @@ returns c = search needs
 returns-2 : tie.Need-returns-2
 returns-2 c =
     let v = c .before .before .before .before .before .a2 .given .0 .0 in
-    let blocks = ap (λ l. sets l 11 (eachTier (v .bytes))) (c .before .before .tell-blocks .ensures) in
+    let blocks = ap (λ l. sets l 11 (sumsIn (v .bytes))) (c .before .before .tell-blocks .ensures) in
     let case = c .before .before .before .before .before .a2 .given .1 in
     let list = ap (λ a. laid lookupValues (lookedOf a) (c .before .before .before .before .before .before .before .args .answer .now)) case in
     (sym (ap (λ a. numberOf (lookedOf a)) case), c .tell-bytes .ensures ∙ blocks ∙ sym list)
