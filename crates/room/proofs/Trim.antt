@@ -68,7 +68,7 @@ chosen-more ps (suc d) (suc e) rs i l q = q
 -- ---- a trim
 
 pub asked-lawful : Lawful asked
-asked-lawful = record { enough = λ e. omega arith; grows = λ d e l. l }
+asked-lawful = record { enough = λ e. omega arith; grows = λ d e l. omega arith }
 
 module _ (asks : ℕ → ℕ) (t : Tree) (table : List ℕ) (ps : List Pin) where
   abbrev run : ℕ → ℕ → List Range → List ℕ → List Range
@@ -103,10 +103,13 @@ module _ (asks : ℕ → ℕ) (t : Tree) (table : List ℕ) (ps : List Pin) wher
     taken : (d e : ℕ) (r : Range) → d ≤ e
         → (amount asks d r ≤ amount asks e r) × ((amount asks e r ≡ amount asks d r) ⊎ (d - amount asks d r ≡ 0))
     taken d e r le =
-        let u : asks d ≤ asks e = L .grows d e le in
-        let g : d ≤ asks d = L .enough d in (
-          omega arith,
-          ⊎-elim (λ (h : lengthOf r ≤ asks d). inl (omega arith)) (λ (h : asks d < lengthOf r). inr (omega arith)) (le-or-lt (lengthOf r) (asks d)),
+        let u = L .grows d e le in
+        let g = L .enough d in (
+          omega (arith, u),
+          ⊎-elim
+          (λ (h : lengthOf r ≤ asks d). inl (omega (arith, u)))
+          (λ (h : asks d < lengthOf r). inr (omega (arith, g)))
+          (le-or-lt (lengthOf r) (asks d)),
         )
 
     run-more : (n d e : ℕ) (rs : List Range) (xs ys : List ℕ) → d ≤ e → Sub (run n e rs xs) (run n d rs ys)
