@@ -1,4 +1,3 @@
--- Each public call's contract settles the call, and rules out two wrong outcomes on a closed input.
+-- Each public call's contract settles the call.
 pub mod Laws
 pub mod Calls
-pub mod Wrong

@@ -1,0 +1,2 @@
+pub mod Rejected
+pub mod Inputs
