@@ -1,5 +1,5 @@
 -- A bring-in on a sound state: its store's part is ready for the fill and the trim, and what they leave is the state that `bringIn` has.
-use Prim.Native.Nat.{ℕ, zero, suc, _+_, _*_, _%_, _≤_, _<_}
+use Prim.Native.Nat.{ℕ, zero, suc, _+_, _*_, _≤_, _<_}
 use mathlib.Core.Bool.{Bool, true, false, not}
 use mathlib.Core.Path.{_≡_, refl, sym, ap, subst, _∙_}
 use mathlib.Core.List.{List, [], _∷_}
@@ -8,8 +8,8 @@ use lib.ListN.{length}
 use lib.Ieee.{Float}
 use Rattle.model.specs.declared.Span.{Span}
 use Rattle.model.specs.declared.Book.{Book}
-use Rattle.model.specs.Sizes.{maxStores, maxNumbers, versions}
-use Rattle.model.specs.State.{Ranges, Range, State, nodesIn, usedIn, nextIdIn, stallsIn, nextIdOf, stallsOf, bookOf, capacityOf, recordsOf, heldOf, stampOf, entriesOf}
+use Rattle.model.specs.Sizes.{maxStores, maxNumbers}
+use Rattle.model.specs.State.{Ranges, Range, State, nodesIn, usedIn, nextIdIn, stallsIn, nextIdOf, stallsOf, bookOf, capacityOf, recordsOf, heldOf, stampOf, versionOf, entriesOf}
 use Rattle.model.specs.Store.{ranges, pins, storeOf, total, ranged, layBook, layNext, withRanges, withNext}
 use Rattle.model.specs.Trim.{Out, Trimmed, trim, stallsAfter}
 use Rattle.model.specs.Bring.{Gap, Brought, gaps, fresh, fill, bringNeed, keep}
@@ -192,50 +192,48 @@ module _ {st : State} {l : OutList} {s : ℕ} {sp : Span} {g : Gaps} {time : Flo
   outs-in w = sym (ap (λ (k : Brought). k .outs) (keeps w .1))
 
   -- the tree's counts stay in the books
-  counted-in : (c : Ranges) (ms : List ℕ) (need n h o : ℕ) (q : Bool) (bs : List ℕ) → st .tree .nodes ≡ nodesIn (st .books)
-      → st .tree .used ≡ usedIn (st .books) → bs ≡ settled s (bookOf st s) need n h o q (st .books)
-      → stateWith (nodesIn bs) (usedIn bs) c ms bs ≡ stateWith (st .tree .nodes) (st .tree .used) c ms (settled s (bookOf st s) need n h o q (st .books))
+  counted-in : (c : Ranges) (ms : List ℕ) (need n h v : ℕ) (q : Bool) (bs : List ℕ) → st .tree .nodes ≡ nodesIn (st .books)
+      → st .tree .used ≡ usedIn (st .books) → bs ≡ settled s (bookOf st s) need n h v q (st .books)
+      → stateWith (nodesIn bs) (usedIn bs) c ms bs ≡ stateWith (st .tree .nodes) (st .tree .used) c ms (settled s (bookOf st s) need n h v q (st .books))
   unfolding layNext layBook
-  counted-in c ms need n h o q bs a d e =
+  counted-in c ms need n h v q bs a d e =
       (λ j. stateWith (nodesIn (e j)) (usedIn (e j)) c ms (e j))
-      ∙ (λ j. stateWith (sym a j) (sym d j) c ms (settled s (bookOf st s) need n h o q (st .books)))
+      ∙ (λ j. stateWith (sym a j) (sym d j) c ms (settled s (bookOf st s) need n h v q (st .books)))
 
-  module _ (w : ℕ) {c : Ranges} {ms : List ℕ} {lʹ : OutList} {n h o : ℕ} {q : Bool} where
-    laid-in : GivenOutAt s (trimmedOf w) (recordsOf st s + length gs) (st .ranges) (st .marks) l c ms lʹ n h o q
-        → stateWith (st .tree .nodes) (st .tree .used) c ms (settled s (bookOf st s) (length gs) n h o q (st .books)) ≡ bringIn st s sp time w
+  module _ (w : ℕ) {c : Ranges} {ms : List ℕ} {lʹ : OutList} {n h o v : ℕ} {q : Bool} where
+    laid-in : GivenOutAt s (trimmedOf w) (recordsOf st s + length gs) (versionOf st s) (st .ranges) (st .marks) l c ms lʹ n h o v q
+        → stateWith (st .tree .nodes) (st .tree .used) c ms (settled s (bookOf st s) (length gs) n h v q (st .books)) ≡ bringIn st s sp time w
     unfolding keep withNext withRanges storeOf
     laid-in u =
         (λ j. stateWith (st .tree .nodes) (st .tree .used) (u .cols j) (u .marks j)
-        (settled s (bookOf st s) (length gs) (u .records j) (u .held j) (u .outs j) (u .stalled j) (st .books)))
+        (settled s (bookOf st s) (length gs) (u .records j) (u .held j) (u .version j) (u .stalled j) (st .books)))
         ∙ sym (kept-in w)
 
     given-in : (b : Book) → b ≡ bookOf st s
-        → GivenOutAt s (trim (onlyDepth (st .tree .depth)) (st .bytes) (pins (st .pins) (32 * s) (b .entries)) (b .capacity) (fill (sp .node) (gapsOf g) (b .stamp) (nextIdOf st) time w (ranges (st .ranges) (128 * s) (b .records))) (mid (256 * s) 256 (st .marks))) (b .records + length (gapsOf g)) (st .ranges) (st .marks) l c ms lʹ n h o q
-        → GivenOutAt s (trimmedOf w) (recordsOf st s + length gs) (st .ranges) (st .marks) l c ms lʹ n h o q
+        → GivenOutAt s (trim (onlyDepth (st .tree .depth)) (st .bytes) (pins (st .pins) (32 * s) (b .entries)) (b .capacity) (fill (sp .node) (gapsOf g) (b .stamp) (nextIdOf st) time w (ranges (st .ranges) (128 * s) (b .records))) (mid (256 * s) 256 (st .marks))) (b .records + length (gapsOf g)) (b .version) (st .ranges) (st .marks) l c ms lʹ n h o v q
+        → GivenOutAt s (trimmedOf w) (recordsOf st s + length gs) (versionOf st s) (st .ranges) (st .marks) l c ms lʹ n h o v q
     unfolding storeOf
     given-in b is u = rw (is, p .gaps, trim-depth (st .tree)) at u
 
     pub brought-in : (b : Book) → b ≡ bookOf st s → (bs : List ℕ) → st .tree .nodes ≡ nodesIn (st .books) → st .tree .used ≡ usedIn (st .books)
-        → bs ≡ settled s b (g .n) n h o q (st .books)
-        → GivenOutAt s (trim (onlyDepth (st .tree .depth)) (st .bytes) (pins (st .pins) (32 * s) (b .entries)) (b .capacity) (fill (sp .node) (gapsOf g) (b .stamp) (nextIdOf st) time w (ranges (st .ranges) (128 * s) (b .records))) (mid (256 * s) 256 (st .marks))) (b .records + length (gapsOf g)) (st .ranges) (st .marks) l c ms lʹ n h o q
+        → bs ≡ settled s b (g .n) n h v q (st .books)
+        → GivenOutAt s (trim (onlyDepth (st .tree .depth)) (st .bytes) (pins (st .pins) (32 * s) (b .entries)) (b .capacity) (fill (sp .node) (gapsOf g) (b .stamp) (nextIdOf st) time w (ranges (st .ranges) (128 * s) (b .records))) (mid (256 * s) 256 (st .marks))) (b .records + length (gapsOf g)) (b .version) (st .ranges) (st .marks) l c ms lʹ n h o v q
         → BroughtIn st l s sp time w (stateWith (nodesIn bs) (usedIn bs) c ms bs) lʹ o
     brought-in b is bs a d e u =
-        let v = given-in b is u in
+        let y = given-in b is u in
         let k : g .n ≡ length gs = sym (gaps-length (g .from) (g .upto) (g .n)) ∙ ap length (p .gaps) in
         record {
-          state = counted-in c ms (length gs) n h o q bs a d (e ∙ (λ j. settled s (is j) (k j) n h o q (st .books))) ∙ laid-in v;
-          lists = v .lists ∙ ap (λ (y : List Out). layOuts y l) (outs-in w);
-          outs = v .outs ∙ ap (λ (y : List Out). length y) (outs-in w);
+          state = counted-in c ms (length gs) n h v q bs a d (e ∙ (λ j. settled s (is j) (k j) n h v q (st .books))) ∙ laid-in y;
+          lists = y .lists ∙ ap (λ (x : List Out). layOuts x l) (outs-in w);
+          outs = y .outs ∙ ap (λ (x : List Out). length x) (outs-in w);
         }
 
 -- ---- the small numbers
 
-pub books-settled : (s need n h o : ℕ) (q : Bool) (b : Book) (l m r : List ℕ) (stalls version : ℕ) → stalls ≡ stallsAfter q (stallsIn l)
-    → version ≡ (b .version + o) % versions → m ≡ layBook s (ranged b n h (b .stamp + need) version) l → r ≡ layNext (nextIdIn l + need) stalls m
-    → r ≡ settled s b need n h o q l
-books-settled s need n h o q b l m r stalls version a d e f =
-    f ∙ (λ j. layNext (nextIdIn l + need) (a j) (e j))
-    ∙ (λ j. layNext (nextIdIn l + need) (stallsAfter q (stallsIn l)) (layBook s (ranged b n h (b .stamp + need) (d j)) l))
+pub books-settled : (s need n h v : ℕ) (q : Bool) (b : Book) (l m r : List ℕ) (stalls : ℕ) → stalls ≡ stallsAfter q (stallsIn l)
+    → m ≡ layBook s (ranged b n h (b .stamp + need) v) l → r ≡ layNext (nextIdIn l + need) stalls m
+    → r ≡ settled s b need n h v q l
+books-settled s need n h v q b l m r stalls a e f = f ∙ (λ j. layNext (nextIdIn l + need) (a j) (e j))
 
 pub whole-out : (o q : Out) (l lʹ : OutList) → OutFits l → lʹ ≡ setOut 0 o l → o ≡ q → lʹ ≡ layOuts (q ∷ []) l
 whole-out o q l lʹ h e d = one-out o l lʹ h e ∙ ap (λ (k : Out). layOuts (k ∷ []) l) d

@@ -34,7 +34,7 @@ fn stalls_after(stalled: bool, stalls: u64) -> u64
 // The small numbers after store s, whose own were b, was trimmed; `need` is how many stamps and ids were given.
 fn settle(books: &mut [u64], s: usize, b: Book, need: usize, t: Trimming)
     requires { ⌜ (s < maxStores) × (maxNumbers ≤ length (now books)) × (need ≤ 128) × (b .stamp ≤ 281474976710656) × (nextIdIn (now books) ≤ 281474976710656) ⌝ }
-    ensures { λ _. ⌜ now (books .exit) ≡ settled s b need (t .n) (t .held) (t .outs) (t .stalled) (now (books .entry)) ⌝ }
+    ensures { λ _. ⌜ now (books .exit) ≡ settled s b need (t .n) (t .held) (t .version) (t .stalled) (now (books .entry)) ⌝ }
 {
     let given = need as u64;
     let next = books[3] + given;
@@ -43,7 +43,7 @@ fn settle(books: &mut [u64], s: usize, b: Book, need: usize, t: Trimming)
     c.records = t.n;
     c.held = t.held;
     c.stamp = b.stamp + given;
-    c.version = std::num::wrapping_add_u64(b.version, t.outs as u64);
+    c.version = t.version;
     books::put_book(&mut *books, s, c);
     books::put_next(books, next, stalls);
 }
@@ -110,6 +110,7 @@ pub fn bring_in(
         b.entries,
         b.held,
         b.capacity,
+        b.version,
         sp.node,
         g,
         b.stamp,

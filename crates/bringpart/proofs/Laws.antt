@@ -80,13 +80,13 @@ module _ {depth bytes : List ℕ} {n h : ℕ} {c : Ranges} {ms : List ℕ} {l : 
         }
 
     -- after the trim
-    pub part-given : (ps : List Pin) (capacity : ℕ) {c₂ : Ranges} {ms₂ : List ℕ} {l₂ : OutList} {j q o : ℕ} {s : Bool}
-        → GivenOut (trim (onlyDepth depth) bytes ps capacity (ranges c₁ 0 k) ms) k c₁ l c₂ ms₂ l₂ j q o s
-        → GivenOut (trim (onlyDepth depth) bytes ps capacity filledWith ms) (n + length (gapsOf g)) c l c₂ ms₂ l₂ j q o s
-    part-given ps capacity {c₂} {ms₂} {l₂} {j} {q} {o} {s} v =
-        relaid (subst (λ (x : List Range). GivenOut (trim (onlyDepth depth) bytes ps capacity x ms) k c₁ l c₂ ms₂ l₂ j q o s) read v)
+    pub part-given : (ps : List Pin) (capacity : ℕ) {c₂ : Ranges} {ms₂ : List ℕ} {l₂ : OutList} {v₀ j q o v : ℕ} {s : Bool}
+        → GivenOut (trim (onlyDepth depth) bytes ps capacity (ranges c₁ 0 k) ms) k v₀ c₁ l c₂ ms₂ l₂ j q o v s
+        → GivenOut (trim (onlyDepth depth) bytes ps capacity filledWith ms) (n + length (gapsOf g)) v₀ c l c₂ ms₂ l₂ j q o v s
+    part-given ps capacity {c₂} {ms₂} {l₂} {v₀} {j} {q} {o} {v} {s} y =
+        relaid (subst (λ (x : List Range). GivenOut (trim (onlyDepth depth) bytes ps capacity x ms) k v₀ c₁ l c₂ ms₂ l₂ j q o v s) read y)
       where
-        relaid : {t : Trimmed} → GivenOut t k c₁ l c₂ ms₂ l₂ j q o s → GivenOut t (n + length (gapsOf g)) c l c₂ ms₂ l₂ j q o s
+        relaid : {t : Trimmed} → GivenOut t k v₀ c₁ l c₂ ms₂ l₂ j q o v s → GivenOut t (n + length (gapsOf g)) v₀ c l c₂ ms₂ l₂ j q o v s
         relaid {t} u =
             record {
               cols =
@@ -98,6 +98,7 @@ module _ {depth bytes : List ℕ} {n h : ℕ} {c : Ranges} {ms : List ℕ} {l : 
               records = u .records;
               held = u .held;
               outs = u .outs;
+              version = u .version;
               stalled = u .stalled;
             }
 
@@ -165,25 +166,26 @@ module _ {depth bytes : List ℕ} {s n m h : ℕ} {c : Ranges} {ms : List ℕ} {
       rw e
       (pin-room s m pn (p .store) (p .entries) (p .pinNode), pin-room s m ps (p .store) (p .entries) (p .pinStart), pin-room s m pe (p .store) (p .entries) (p .pinEnd))
 
-  module _ {q : Ranges} {ms₂ : List ℕ} {l₂ : OutList} {j k o : ℕ} {t : Bool} where
-    given-at : (v : Trimmed) → length ms₂ ≡ 256 → GivenOut v (n + length (gapsOf g)) (midRanges (128 * s) 128 c) l q ms₂ l₂ j k o t
-        → GivenOutAt s v (n + length (gapsOf g)) c ms l (backRanges (128 * s) 128 q c) (back (256 * s) 256 ms₂ ms) l₂ j k o t
-    given-at v long u =
+  module _ {q : Ranges} {ms₂ : List ℕ} {l₂ : OutList} {v₀ j k o v : ℕ} {t : Bool} where
+    given-at : (x : Trimmed) → length ms₂ ≡ 256 → GivenOut x (n + length (gapsOf g)) v₀ (midRanges (128 * s) 128 c) l q ms₂ l₂ j k o v t
+        → GivenOutAt s x (n + length (gapsOf g)) v₀ c ms l (backRanges (128 * s) 128 q c) (back (256 * s) 256 ms₂ ms) l₂ j k o v t
+    given-at x long u =
         record {
-          cols = ap (λ (x : Ranges). backRanges (128 * s) 128 x c) (u .cols) ∙ ranges-back (128 * s) 128 (n + length (gapsOf g)) (v .ranges) c (few (p .part));
-          marks = full (256 * s) 256 ms₂ ms long ∙ ap (λ (x : List ℕ). lay 0 (256 * s) 256 x ms) (u .marks);
+          cols = ap (λ (y : Ranges). backRanges (128 * s) 128 y c) (u .cols) ∙ ranges-back (128 * s) 128 (n + length (gapsOf g)) (x .ranges) c (few (p .part));
+          marks = full (256 * s) 256 ms₂ ms long ∙ ap (λ (y : List ℕ). lay 0 (256 * s) 256 y ms) (u .marks);
           lists = u .lists;
           records = u .records;
           held = u .held;
           outs = u .outs;
+          version = u .version;
           stalled = u .stalled;
         }
 
     pub pool-given : (count : List ℕ) (capacity a b d : ℕ) → a ≡ 128 → b ≡ 256 → d ≡ 32 → length ms₂ ≡ length (mid (256 * s) b ms)
-        → GivenOut (trim (onlyDepth depth) bytes (pins (midPins (32 * s) d (pinsOf pn ps pe count)) 0 m) capacity (fill nd (gapsOf g) top next time w (ranges (midRanges (128 * s) a c) 0 n)) (mid (256 * s) b ms)) (n + length (gapsOf g)) (midRanges (128 * s) a c) l q ms₂ l₂ j k o t
-        → GivenOutAt s (trim (onlyDepth depth) bytes (pins (pinsOf pn ps pe count) (32 * s) m) capacity (fill nd (gapsOf g) top next time w (ranges c (128 * s) n)) (mid (256 * s) 256 ms)) (n + length (gapsOf g)) c ms l (backRanges (128 * s) a q c) (back (256 * s) b ms₂ ms) l₂ j k o t
-    pool-given count capacity a b d ea eb ed kept v =
+        → GivenOut (trim (onlyDepth depth) bytes (pins (midPins (32 * s) d (pinsOf pn ps pe count)) 0 m) capacity (fill nd (gapsOf g) top next time w (ranges (midRanges (128 * s) a c) 0 n)) (mid (256 * s) b ms)) (n + length (gapsOf g)) v₀ (midRanges (128 * s) a c) l q ms₂ l₂ j k o v t
+        → GivenOutAt s (trim (onlyDepth depth) bytes (pins (pinsOf pn ps pe count) (32 * s) m) capacity (fill nd (gapsOf g) top next time w (ranges c (128 * s) n)) (mid (256 * s) 256 ms)) (n + length (gapsOf g)) v₀ c ms l (backRanges (128 * s) a q c) (back (256 * s) b ms₂ ms) l₂ j k o v t
+    pool-given count capacity a b d ea eb ed kept u =
         let long : length ms₂ ≡ 256 = kept ∙ ap (λ (x : ℕ). length (mid (256 * s) x ms)) eb ∙ mid-long (256 * s) 256 ms (omega (arith, p .marks, p .store)) in
         let e = pins-part (pinsOf pn ps pe count) (32 * s) 32 m (p .entries) in
         let f = ranges-part c (128 * s) 128 n (p .part .ready .few) in
-        rw (ea, eb) (given-at _ long (rw (e, f) at (rw (ea, eb, ed) at v)))
+        rw (ea, eb) (given-at _ long (rw (e, f) at (rw (ea, eb, ed) at u)))

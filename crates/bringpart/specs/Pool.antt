@@ -9,7 +9,7 @@ use Rattle.model.specs.Sizes.{storeRecords, storePins, storeMarks, maxStores, m
 use Rattle.model.specs.State.{Ranges}
 use Rattle.model.specs.Sound.{RangesLent}
 use Rattle.model.specs.Store.{lay, layRanges, total}
-use Rattle.model.specs.Trim.{Trimmed}
+use Rattle.model.specs.Trim.{Trimmed, versionAfter}
 use Rattle.model.specs.Refusals.{OutList}
 use Rattle.model.specs.Calls.{layOuts}
 use Rattle.parts.specs.Parts.{mid, midRanges}
@@ -27,12 +27,14 @@ pub record PoolReady (depth bytes : List ℕ) (s n m h : ℕ) (c : Ranges) (ms :
   pub pinEnd : maxPins ≤ length pe
   pub part : PartReady depth bytes n h (midRanges (storeRecords * s) storeRecords c) (mid (storeMarks * s) storeMarks ms) l nd g top next time w
 
--- in the pools c₀, ms₀ and the answer lists l₀ the n records of store s became those of w, and w's spans are given out
-pub record GivenOutAt (s : ℕ) (w : Trimmed) (n : ℕ) (c₀ : Ranges) (ms₀ : List ℕ) (l₀ : OutList) (c : Ranges) (ms : List ℕ) (l : OutList) (k h o : ℕ) (b : Bool) : Type 0 where
+-- in the pools c₀, ms₀ and the answer lists l₀ the n records of store s became those of w, w's spans are given out, and its version v₀ became v
+pub record GivenOutAt (s : ℕ) (w : Trimmed) (n v₀ : ℕ) (c₀ : Ranges) (ms₀ : List ℕ) (l₀ : OutList)
+    (c : Ranges) (ms : List ℕ) (l : OutList) (k h o v : ℕ) (b : Bool) : Type 0 where
   pub cols : c ≡ layRanges (storeRecords * s) n (w .ranges) c₀
   pub marks : ms ≡ lay 0 (storeMarks * s) storeMarks (w .marks) ms₀
   pub lists : l ≡ layOuts (w .outs) l₀
   pub records : k ≡ length (w .ranges)
   pub held : h ≡ total (w .ranges)
   pub outs : o ≡ length (w .outs)
+  pub version : v ≡ versionAfter v₀ (w .outs)
   pub stalled : b ≡ w .stalled

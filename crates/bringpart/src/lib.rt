@@ -40,6 +40,7 @@ pub fn bring_part(
     m: usize,
     held: u64,
     capacity: u64,
+    version: u64,
     nd: usize,
     g: Gaps,
     top: u64,
@@ -49,7 +50,26 @@ pub fn bring_part(
 ) -> Trimming
     requires { ⌜ PartReady (now depth) (now bytes) n held (rangesOf (now node) (now start) (now end) (now id) (now stamp) (now touched) (now write)) (now marks) (outList (now «out_node») (now «out_start») (now «out_end») (now «out_write») (now «out_bytes») (now «out_dead»)) nd g top next time w ⌝ }
     requires { ⌜ (m ≤ length (now «pin_node»)) × (m ≤ length (now «pin_start»)) × (m ≤ length (now «pin_end»)) ⌝ }
-    ensures { λ r. ⌜ ((count : List ℕ) → GivenOut (trimOf (onlyDepth (now (depth .entry))) (now (bytes .entry)) (pins (pinsOf (now («pin_node» .entry)) (now («pin_start» .entry)) (now («pin_end» .entry)) count) 0 m) capacity (fillOf nd (gapsOf g) top next time w (ranges (rangesOf (now (node .entry)) (now (start .entry)) (now (end .entry)) (now (id .entry)) (now (stamp .entry)) (now (touched .entry)) (now (write .entry))) 0 n)) (now (marks .entry))) (n + length (gapsOf g)) (rangesOf (now (node .entry)) (now (start .entry)) (now (end .entry)) (now (id .entry)) (now (stamp .entry)) (now (touched .entry)) (now (write .entry))) (outList (now («out_node» .entry)) (now («out_start» .entry)) (now («out_end» .entry)) (now («out_write» .entry)) (now («out_bytes» .entry)) (now («out_dead» .entry))) (rangesOf (now (node .exit)) (now (start .exit)) (now (end .exit)) (now (id .exit)) (now (stamp .exit)) (now (touched .exit)) (now (write .exit))) (now (marks .exit)) (outList (now («out_node» .exit)) (now («out_start» .exit)) (now («out_end» .exit)) (now («out_write» .exit)) (now («out_bytes» .exit)) (now («out_dead» .exit))) (r .n) (r .held) (r .outs) (r .stalled)) ⌝ }
+    ensures { λ r. ⌜
+        ((count : List ℕ) → GivenOut
+        (trimOf (onlyDepth (now (depth .entry))) (now (bytes .entry))
+        (pins (pinsOf (now («pin_node» .entry)) (now («pin_start» .entry)) (now («pin_end» .entry)) count) 0 m) capacity
+        (fillOf nd (gapsOf g) top next time w
+        (ranges (rangesOf (now (node .entry)) (now (start .entry)) (now (end .entry)) (now (id .entry)) (now (stamp .entry))
+        (now (touched .entry)) (now (write .entry))) 0 n))
+        (now (marks .entry)))
+        (n + length (gapsOf g)) version
+        (rangesOf (now (node .entry)) (now (start .entry)) (now (end .entry)) (now (id .entry)) (now (stamp .entry))
+        (now (touched .entry)) (now (write .entry)))
+        (outList (now («out_node» .entry)) (now («out_start» .entry)) (now («out_end» .entry)) (now («out_write» .entry))
+        (now («out_bytes» .entry)) (now («out_dead» .entry)))
+        (rangesOf (now (node .exit)) (now (start .exit)) (now (end .exit)) (now (id .exit)) (now (stamp .exit))
+        (now (touched .exit)) (now (write .exit)))
+        (now (marks .exit))
+        (outList (now («out_node» .exit)) (now («out_start» .exit)) (now («out_end» .exit)) (now («out_write» .exit))
+        (now («out_bytes» .exit)) (now («out_dead» .exit)))
+        (r .n) (r .held) (r .outs) (r .version) (r .stalled))
+        ⌝ }
 {
     let k = fill::fill(
         &mut *node,
@@ -92,6 +112,7 @@ pub fn bring_part(
         m,
         h,
         capacity,
+        version,
     )
 }
 
@@ -121,6 +142,7 @@ pub fn bring_pools(
     m: usize,
     held: u64,
     capacity: u64,
+    version: u64,
     nd: usize,
     g: Gaps,
     top: u64,
@@ -129,7 +151,27 @@ pub fn bring_pools(
     w: u32,
 ) -> Trimming
     requires { ⌜ PoolReady (now depth) (now bytes) s n m held (rangesOf (now node) (now start) (now end) (now id) (now stamp) (now touched) (now write)) (now marks) (outList (now «out_node») (now «out_start») (now «out_end») (now «out_write») (now «out_bytes») (now «out_dead»)) (now «pin_node») (now «pin_start») (now «pin_end») nd g top next time w ⌝ }
-    ensures { λ r. ⌜ ((count : List ℕ) → GivenOutAt s (trimOf (onlyDepth (now (depth .entry))) (now (bytes .entry)) (pins (pinsOf (now («pin_node» .entry)) (now («pin_start» .entry)) (now («pin_end» .entry)) count) (32 * s) m) capacity (fillOf nd (gapsOf g) top next time w (ranges (rangesOf (now (node .entry)) (now (start .entry)) (now (end .entry)) (now (id .entry)) (now (stamp .entry)) (now (touched .entry)) (now (write .entry))) (128 * s) n)) (mid (256 * s) 256 (now (marks .entry)))) (n + length (gapsOf g)) (rangesOf (now (node .entry)) (now (start .entry)) (now (end .entry)) (now (id .entry)) (now (stamp .entry)) (now (touched .entry)) (now (write .entry))) (now (marks .entry)) (outList (now («out_node» .entry)) (now («out_start» .entry)) (now («out_end» .entry)) (now («out_write» .entry)) (now («out_bytes» .entry)) (now («out_dead» .entry))) (rangesOf (now (node .exit)) (now (start .exit)) (now (end .exit)) (now (id .exit)) (now (stamp .exit)) (now (touched .exit)) (now (write .exit))) (now (marks .exit)) (outList (now («out_node» .exit)) (now («out_start» .exit)) (now («out_end» .exit)) (now («out_write» .exit)) (now («out_bytes» .exit)) (now («out_dead» .exit))) (r .n) (r .held) (r .outs) (r .stalled)) ⌝ }
+    ensures { λ r. ⌜
+        ((count : List ℕ) → GivenOutAt s
+        (trimOf (onlyDepth (now (depth .entry))) (now (bytes .entry))
+        (pins (pinsOf (now («pin_node» .entry)) (now («pin_start» .entry)) (now («pin_end» .entry)) count) (32 * s) m) capacity
+        (fillOf nd (gapsOf g) top next time w
+        (ranges (rangesOf (now (node .entry)) (now (start .entry)) (now (end .entry)) (now (id .entry)) (now (stamp .entry))
+        (now (touched .entry)) (now (write .entry))) (128 * s) n))
+        (mid (256 * s) 256 (now (marks .entry))))
+        (n + length (gapsOf g)) version
+        (rangesOf (now (node .entry)) (now (start .entry)) (now (end .entry)) (now (id .entry)) (now (stamp .entry))
+        (now (touched .entry)) (now (write .entry)))
+        (now (marks .entry))
+        (outList (now («out_node» .entry)) (now («out_start» .entry)) (now («out_end» .entry)) (now («out_write» .entry))
+        (now («out_bytes» .entry)) (now («out_dead» .entry)))
+        (rangesOf (now (node .exit)) (now (start .exit)) (now (end .exit)) (now (id .exit)) (now (stamp .exit))
+        (now (touched .exit)) (now (write .exit)))
+        (now (marks .exit))
+        (outList (now («out_node» .exit)) (now («out_start» .exit)) (now («out_end» .exit)) (now («out_write» .exit))
+        (now («out_bytes» .exit)) (now («out_dead» .exit)))
+        (r .n) (r .held) (r .outs) (r .version) (r .stalled))
+        ⌝ }
 {
     let a = 128 * s;
     let e = a + 128;
@@ -161,6 +203,7 @@ pub fn bring_pools(
         m,
         held,
         capacity,
+        version,
         nd,
         g,
         top,

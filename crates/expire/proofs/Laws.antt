@@ -7,7 +7,7 @@ use mathlib.Core.Option.{Option, none, some, Option·none-ne-some}
 use native.Mathlib.Omega.{arith}
 use lib.ListN.{length}
 use lib.Ieee.{Float, binary64, sub, lt}
-use Rattle.model.specs.Sizes.{storeRecords}
+use Rattle.model.specs.Sizes.{storeRecords, versions}
 use Rattle.model.specs.State.{Tree, Ranges, Range, rangeAt}
 use Rattle.model.specs.Store.{Store, ranges, lengthOf, total, unmark}
 use Rattle.model.specs.Trim.{Out, told, nth, first, evict, Trimmed, also, asked, amount}
@@ -73,10 +73,10 @@ oldest-less now seconds rs i q = first-some (λ r. true) rs i (if-some now secon
 abbrev pub all : ℕ
 all = 18446744073709551615
 
-pub record Expiring (depth table : List ℕ) (now seconds : Float) (n₀ : ℕ) (c₀ : Ranges) (ms₀ : List ℕ) (l₀ : OutList) (k : ℕ) (c : Ranges) (ms : List ℕ) (l : OutList) (h o : ℕ) : Type 0 where
+pub record Expiring (depth table : List ℕ) (now seconds : Float) (n₀ v₀ : ℕ) (c₀ : Ranges) (ms₀ : List ℕ) (l₀ : OutList) (k : ℕ) (c : Ranges) (ms : List ℕ) (l : OutList) (h o v : ℕ) : Type 0 where
   pub rs : List Range
   pub os : List Out
-  pub going : Going depth n₀ c₀ l₀ rs os k c ms l h o
+  pub going : Going depth n₀ v₀ c₀ l₀ rs os k c ms l h o v
   pub room : k + o ≤ n₀
   pub todo :
       before os (expireBy (onlyDepth depth) table now seconds (n₀ - o) (oldest now seconds rs) rs ms)
@@ -100,19 +100,19 @@ module _ {depth table : List ℕ} {n₀ h₀ : ℕ} {c₀ : Ranges} {ms₀ : Lis
   unfolding expired
   begin = let z : n₀ - 0 ≡ length (ranges c₀ 0 n₀) = omega (arith, ranges-length c₀ 0 n₀) in rw z
 
-  pub expire-start : Expiring depth table now seconds n₀ c₀ ms₀ l₀ n₀ c₀ ms₀ l₀ h₀ 0
-  expire-start = record { rs = ranges c₀ 0 n₀; os = []; going = going-start ready; room = omega arith; todo = begin }
+  pub expire-start : {v₀ : ℕ} → v₀ < versions → Expiring depth table now seconds n₀ v₀ c₀ ms₀ l₀ n₀ c₀ ms₀ l₀ h₀ 0 v₀
+  expire-start less = record { rs = ranges c₀ 0 n₀; os = []; going = going-start ready less; room = omega arith; todo = begin }
 
-  module _ {k : ℕ} {c : Ranges} {ms : List ℕ} {l : OutList} {h o : ℕ} (s : Expiring depth table now seconds n₀ c₀ ms₀ l₀ k c ms l h o) (p : Place)
+  module _ {v₀ k : ℕ} {c : Ranges} {ms : List ℕ} {l : OutList} {h o v : ℕ} (s : Expiring depth table now seconds n₀ v₀ c₀ ms₀ l₀ k c ms l h o v) (p : Place)
       (choice : placeOf p ≡ oldest now seconds (ranges c 0 k)) where
     found : (x : Option ℕ) → placeOf p ≡ x → oldest now seconds (s .rs) ≡ x
     found x e = ap (oldest now seconds) (sym (going-read ready (s .going))) ∙ sym choice ∙ e
 
     -- the oldest hasn't aged, or there is none
-    pub expire-end : p ≡ Nothing → GivenOut (expired (onlyDepth depth) table now seconds (ranges c₀ 0 n₀) ms₀) n₀ c₀ l₀ c ms l k h o false
+    pub expire-end : p ≡ Nothing → GivenOut (expired (onlyDepth depth) table now seconds (ranges c₀ 0 n₀) ms₀) n₀ v₀ c₀ l₀ c ms l k h o v false
     expire-end q =
         let e = rw (found none (ap placeOf q), by-none (onlyDepth depth) table now seconds (n₀ - o) (s .rs) ms) at (s .todo) in
-        subst (λ (w : Trimmed). GivenOut w n₀ c₀ l₀ c ms l k h o false) (before-none (s .os) (s .rs) ms false ∙ e) (going-end ready (s .going) false)
+        subst (λ (w : Trimmed). GivenOut w n₀ v₀ c₀ l₀ c ms l k h o v false) (before-none (s .os) (s .rs) ms false ∙ e) (going-end ready (s .going) false)
 
     module _ {i : ℕ} (here : p ≡ At i) where
       pub expire-place : i < k
@@ -131,14 +131,14 @@ module _ {depth table : List ℕ} {n₀ h₀ : ℕ} {c₀ : Ranges} {ms₀ : Lis
       pub expire-taken : {b : ℕ} → b ≡ amount asked all (rangeAt c i) → b ≤ h
       expire-taken e = going-least ready (s .going) i all (e ∙ ap (amount asked all) (going-at ready (s .going) i expire-place))
 
-      module _ {cʹ : Ranges} {msʹ : List ℕ} {e : Gone} (gone : EntryGone depth table k i all c ms cʹ msʹ e) where
+      module _ {cʹ : Ranges} {msʹ : List ℕ} {e : Gone} (gone : EntryGone depth table k i all v c ms cʹ msʹ e) where
         a : ℕ
         a = amount asked all (nth (s .rs) i)
 
         pub expire-less : e .n < k
         expire-less = omega (arith, going-whole ready (s .going) expire-place expire-room refl gone refl whole)
 
-        pub expire-turn : {lʹ : OutList} → lʹ ≡ setOut o (outOf (e .out)) l → Expiring depth table now seconds n₀ c₀ ms₀ l₀ (e .n) cʹ msʹ lʹ (h - e .taken) (o + 1)
+        pub expire-turn : {lʹ : OutList} → lʹ ≡ setOut o (outOf (e .out)) l → Expiring depth table now seconds n₀ v₀ c₀ ms₀ l₀ (e .n) cʹ msʹ lʹ (h - e .taken) (o + 1) (e .version)
         unfolding a
         expire-turn {lʹ} put =
             record {

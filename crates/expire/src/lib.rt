@@ -40,11 +40,12 @@ fn oldest_aged(
     Place::Nothing
 }
 
-// How many records are left, how many blocks they hold, and how many spans were given out.
+// How many records are left, how many blocks they hold, how many spans were given out, and the version.
 pub struct Expiring {
     pub n: usize,
     pub held: u64,
     pub outs: usize,
+    pub version: u64,
 }
 
 // While the first range by stamp, then id, pinned or not, is aged, it is given out whole.
@@ -67,14 +68,33 @@ pub fn store_expire(
     bytes: &[u64],
     n: usize,
     held: u64,
+    version: u64,
     time: f64,
     seconds: f64,
 ) -> Expiring
     requires { ⌜ Ready (now depth) (now bytes) n held (rangesOf (now node) (now start) (now end) (now id) (now stamp) (now touched) (now write)) (now marks) (outList (now «out_node») (now «out_start») (now «out_end») (now «out_write») (now «out_bytes») (now «out_dead»)) ⌝ }
-    ensures { λ r. ⌜ GivenOut (expired (onlyDepth (now (depth .entry))) (now (bytes .entry)) time seconds (ranges (rangesOf (now (node .entry)) (now (start .entry)) (now (end .entry)) (now (id .entry)) (now (stamp .entry)) (now (touched .entry)) (now (write .entry))) 0 n) (now (marks .entry))) n (rangesOf (now (node .entry)) (now (start .entry)) (now (end .entry)) (now (id .entry)) (now (stamp .entry)) (now (touched .entry)) (now (write .entry))) (outList (now («out_node» .entry)) (now («out_start» .entry)) (now («out_end» .entry)) (now («out_write» .entry)) (now («out_bytes» .entry)) (now («out_dead» .entry))) (rangesOf (now (node .exit)) (now (start .exit)) (now (end .exit)) (now (id .exit)) (now (stamp .exit)) (now (touched .exit)) (now (write .exit))) (now (marks .exit)) (outList (now («out_node» .exit)) (now («out_start» .exit)) (now («out_end» .exit)) (now («out_write» .exit)) (now («out_bytes» .exit)) (now («out_dead» .exit))) (r .n) (r .held) (r .outs) false ⌝ }
+    ensures { λ r. ⌜
+        GivenOut
+        (expired (onlyDepth (now (depth .entry))) (now (bytes .entry)) time seconds
+        (ranges (rangesOf (now (node .entry)) (now (start .entry)) (now (end .entry)) (now (id .entry)) (now (stamp .entry))
+        (now (touched .entry)) (now (write .entry))) 0 n)
+        (now (marks .entry)))
+        n version
+        (rangesOf (now (node .entry)) (now (start .entry)) (now (end .entry)) (now (id .entry)) (now (stamp .entry))
+        (now (touched .entry)) (now (write .entry)))
+        (outList (now («out_node» .entry)) (now («out_start» .entry)) (now («out_end» .entry)) (now («out_write» .entry))
+        (now («out_bytes» .entry)) (now («out_dead» .entry)))
+        (rangesOf (now (node .exit)) (now (start .exit)) (now (end .exit)) (now (id .exit)) (now (stamp .exit))
+        (now (touched .exit)) (now (write .exit)))
+        (now (marks .exit))
+        (outList (now («out_node» .exit)) (now («out_start» .exit)) (now («out_end» .exit)) (now («out_write» .exit))
+        (now («out_bytes» .exit)) (now («out_dead» .exit)))
+        (r .n) (r .held) (r .outs) (r .version) false
+        ⌝ }
 {
     let mut left = n;
     let mut h = held;
+    let mut v = version;
     let mut k: usize = 0;
     loop {
         let Place::At(i) = oldest_aged(&*id, &*stamp, &*touched, left, time, seconds) else {
@@ -82,6 +102,7 @@ pub fn store_expire(
                 n: left,
                 held: h,
                 outs: k,
+                version: v,
             };
         };
         let g = trim::store_evict_entry(
@@ -98,9 +119,11 @@ pub fn store_expire(
             left,
             i,
             18446744073709551615,
+            v,
         );
         left = g.n;
         h -= g.taken as u64;
+        v = g.version;
         let out = g.out;
         evicted::put_out(
             &mut *out_node,

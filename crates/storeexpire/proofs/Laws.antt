@@ -1,6 +1,6 @@
 -- An expiry in a sound state: each test gives the refusal's number, the store's part is ready where none holds, and what the expiry leaves of the pools and
 -- the small numbers is the state that the definition has. Assumes nothing.
-use Prim.Native.Nat.{ℕ, zero, suc, _+_, _-_, _*_, _%_, _≤_, _<_}
+use Prim.Native.Nat.{ℕ, zero, suc, _+_, _-_, _*_, _≤_, _<_}
 use mathlib.Core.Bool.{Bool, true, false, not}
 use mathlib.Core.Logic.{inl, inr, ⊎-elim}
 use mathlib.Core.Path.{_≡_, refl, sym, ap, subst, _∙_}
@@ -11,8 +11,8 @@ use lib.Seq.{drop-drop}
 use lib.Ieee.{Float}
 use Rattle.model.specs.declared.Book.{Book}
 use Rattle.model.specs.Words.{Says}
-use Rattle.model.specs.Sizes.{maxStores, maxNumbers, versions}
-use Rattle.model.specs.State.{Tree, Ranges, Pins, Range, State, nodesIn, usedIn, bookIn, storesOf, nextIdOf, bookOf, recordsOf, heldOf}
+use Rattle.model.specs.Sizes.{maxStores, maxNumbers}
+use Rattle.model.specs.State.{Tree, Ranges, Pins, Range, State, nodesIn, usedIn, bookIn, storesOf, nextIdOf, bookOf, recordsOf, heldOf, versionOf}
 use Rattle.model.specs.Sound.{Sound, Finite}
 use Rattle.model.specs.Store.{ranges, storeOf, lay, layRanges, layBook, ranged, total, withRanges}
 use Rattle.model.specs.Trim.{Trimmed}
@@ -74,27 +74,28 @@ module _ {depth bytes : List ℕ} {s n h : ℕ} {c : Ranges} {ms : List ℕ} {l 
   pub pool-part : (a b : ℕ) → a ≡ 128 → b ≡ 256 → Ready depth bytes n h (midRanges (128 * s) a c) (mid (256 * s) b ms) l
   pool-part a b ea eb = rw (ea, eb) (p .part)
 
-  module _ {q : Ranges} {ms₂ : List ℕ} {l₂ : OutList} {j k o : ℕ} {t : Bool} where
-    given-at : (v : Trimmed) → length ms₂ ≡ 256 → GivenOut v n (midRanges (128 * s) 128 c) l q ms₂ l₂ j k o t
-        → GivenOutAt s v n c ms l (backRanges (128 * s) 128 q c) (back (256 * s) 256 ms₂ ms) l₂ j k o t
-    given-at v long u =
+  module _ {q : Ranges} {ms₂ : List ℕ} {l₂ : OutList} {v₀ j k o v : ℕ} {t : Bool} where
+    given-at : (x : Trimmed) → length ms₂ ≡ 256 → GivenOut x n v₀ (midRanges (128 * s) 128 c) l q ms₂ l₂ j k o v t
+        → GivenOutAt s x n v₀ c ms l (backRanges (128 * s) 128 q c) (back (256 * s) 256 ms₂ ms) l₂ j k o v t
+    given-at x long u =
         record {
-          cols = ap (λ (x : Ranges). backRanges (128 * s) 128 x c) (u .cols) ∙ ranges-back (128 * s) 128 n (v .ranges) c (p .part .few);
-          marks = full (256 * s) 256 ms₂ ms long ∙ ap (λ (x : List ℕ). lay 0 (256 * s) 256 x ms) (u .marks);
+          cols = ap (λ (y : Ranges). backRanges (128 * s) 128 y c) (u .cols) ∙ ranges-back (128 * s) 128 n (x .ranges) c (p .part .few);
+          marks = full (256 * s) 256 ms₂ ms long ∙ ap (λ (y : List ℕ). lay 0 (256 * s) 256 y ms) (u .marks);
           lists = u .lists;
           records = u .records;
           held = u .held;
           outs = u .outs;
+          version = u .version;
           stalled = u .stalled;
         }
 
     pub pool-given : (time seconds : Float) (a b : ℕ) → a ≡ 128 → b ≡ 256 → length ms₂ ≡ length (mid (256 * s) b ms)
-        → GivenOut (expired (onlyDepth depth) bytes time seconds (ranges (midRanges (128 * s) a c) 0 n) (mid (256 * s) b ms)) n (midRanges (128 * s) a c) l q ms₂ l₂ j k o t
-        → GivenOutAt s (expired (onlyDepth depth) bytes time seconds (ranges c (128 * s) n) (mid (256 * s) 256 ms)) n c ms l (backRanges (128 * s) a q c) (back (256 * s) b ms₂ ms) l₂ j k o t
-    pool-given time seconds a b ea eb kept v =
+        → GivenOut (expired (onlyDepth depth) bytes time seconds (ranges (midRanges (128 * s) a c) 0 n) (mid (256 * s) b ms)) n v₀ (midRanges (128 * s) a c) l q ms₂ l₂ j k o v t
+        → GivenOutAt s (expired (onlyDepth depth) bytes time seconds (ranges c (128 * s) n) (mid (256 * s) 256 ms)) n v₀ c ms l (backRanges (128 * s) a q c) (back (256 * s) b ms₂ ms) l₂ j k o v t
+    pool-given time seconds a b ea eb kept u =
         let long : length ms₂ ≡ 256 = kept ∙ ap (λ (x : ℕ). length (mid (256 * s) x ms)) eb ∙ mid-long (256 * s) 256 ms (omega (arith, p .marks, p .store)) in
         let f = ranges-part c (128 * s) 128 n (p .part .few) in
-        rw (ea, eb) (given-at _ long (rw f at (rw (ea, eb) at v)))
+        rw (ea, eb) (given-at _ long (rw f at (rw (ea, eb) at u)))
 
 -- ---- the call
 
@@ -159,20 +160,18 @@ module _ (st : State) (l : OutList) (s : ℕ) (time seconds : Float) where
       pool-in = rw is (record { store = store-in; ranges = h .lent .ranges; marks = h .lent .marks; part = ready })
 
       module _ {c : Ranges} {ms : List ℕ} {lʹ : OutList} {r : Expiring} where
-        given-in : GivenOutAt s (expired (onlyDepth (st .tree .depth)) (st .bytes) time seconds (ranges (st .ranges) (128 * s) (b .records)) (mid (256 * s) 256 (st .marks))) (b .records) (st .ranges) (st .marks) l c ms lʹ (r .n) (r .held) (r .outs) false
-            → GivenOutAt s gone (recordsOf st s) (st .ranges) (st .marks) l c ms lʹ (r .n) (r .held) (r .outs) false
+        given-in : GivenOutAt s (expired (onlyDepth (st .tree .depth)) (st .bytes) time seconds (ranges (st .ranges) (128 * s) (b .records)) (mid (256 * s) 256 (st .marks))) (b .records) (b .version) (st .ranges) (st .marks) l c ms lʹ (r .n) (r .held) (r .outs) (r .version) false
+            → GivenOutAt s gone (recordsOf st s) (versionOf st s) (st .ranges) (st .marks) l c ms lʹ (r .n) (r .held) (r .outs) (r .version) false
         unfolding storeOf
         given-in u = rw (expired-depth (st .tree), is) at u
 
-        call-laid : GivenOutAt s gone (recordsOf st s) (st .ranges) (st .marks) l c ms lʹ (r .n) (r .held) (r .outs) false
-            → (v : ℕ) → v ≡ (b .version + r .outs) % versions
-            → outcome (stateOf (st .tree) c (st .pins) ms (st .bytes) (layBook s (ranged b (r .n) (r .held) (b .stamp) v) (st .books))) lʹ (done (record { outs = r .outs })) ≡ storeExpire st l s time seconds
+        call-laid : GivenOutAt s gone (recordsOf st s) (versionOf st s) (st .ranges) (st .marks) l c ms lʹ (r .n) (r .held) (r .outs) (r .version) false
+            → outcome (stateOf (st .tree) c (st .pins) ms (st .bytes) (layBook s (ranged b (r .n) (r .held) (b .stamp) (r .version)) (st .books))) lʹ (done (record { outs = r .outs })) ≡ storeExpire st l s time seconds
         unfolding storeExpire withRanges expire expired storeOf
-        call-laid u v e =
+        call-laid u =
             let more : recordsOf st s ≡ recordsOf st s + 0 = omega arith in
             let cols = u .cols ∙ ap (λ (k : ℕ). layRanges (128 * s) k (gone .ranges) (st .ranges)) more in
-            let next = e ∙ (λ j. (is j .version + u .outs j) % versions) in
-            (λ j. outcome (stateOf (st .tree) (cols j) (st .pins) (u .marks j) (st .bytes) (layBook s (ranged (is j) (u .records j) (u .held j) (is j .stamp) (next j)) (st .books))) (u .lists j) (done (record { outs = u .outs j })))
+            (λ j. outcome (stateOf (st .tree) (cols j) (st .pins) (u .marks j) (st .bytes) (layBook s (ranged (is j) (u .records j) (u .held j) (is j .stamp) (u .version j)) (st .books))) (u .lists j) (done (record { outs = u .outs j })))
             ∙ sym (unless-none st l _ (firstOf (storeExpireRefusals st l s time seconds)) none)
 
 -- The same of the columns: rs, ps, ms and table are the pools at entry, ns the small numbers, T the tree with so many nodes and hash words
@@ -182,10 +181,10 @@ module _ (T : ℕ → ℕ → Tree) (rs : Ranges) (ps : Pins) (ms table ns : Lis
 
   module _ (h : Sound here) (fits : OutFits l) (n : ℕ) (number : n ≡ firstOf (storeExpireRefusals here l s time seconds)) (zero : n ≡ 0) (b : Book) (is : b ≡ bookIn ns s) where
     pub call-done : {c : Ranges} {ks : List ℕ} {lʹ : OutList} {r : Expiring}
-        → GivenOutAt s (expired (onlyDepth (T (nodesIn ns) (usedIn ns) .depth)) table time seconds (ranges rs (128 * s) (b .records)) (mid (256 * s) 256 ms)) (b .records) rs ms l c ks lʹ (r .n) (r .held) (r .outs) false
-        → (v : ℕ) → v ≡ (b .version + r .outs) % versions → (new : List ℕ) → new ≡ layBook s (ranged b (r .n) (r .held) (b .stamp) v) ns
+        → GivenOutAt s (expired (onlyDepth (T (nodesIn ns) (usedIn ns) .depth)) table time seconds (ranges rs (128 * s) (b .records)) (mid (256 * s) 256 ms)) (b .records) (b .version) rs ms l c ks lʹ (r .n) (r .held) (r .outs) (r .version) false
+        → (new : List ℕ) → new ≡ layBook s (ranged b (r .n) (r .held) (b .stamp) (r .version)) ns
         → outcome (stateOf (T (nodesIn new) (usedIn new)) c ps ks table new) lʹ (done (record { outs = r .outs })) ≡ storeExpire here l s time seconds
     unfolding layBook
-    call-done {c} {ks} {lʹ} {r} u v e new d =
+    call-done {c} {ks} {lʹ} {r} u new d =
         (λ j. outcome (stateOf (T (nodesIn (d j)) (usedIn (d j))) c ps ks table (d j)) lʹ (done (record { outs = r .outs })))
-        ∙ call-laid here l s time seconds h fits n number zero b is {r = r} (given-in here l s time seconds h fits n number zero b is {r = r} u) v e
+        ∙ call-laid here l s time seconds h fits n number zero b is {r = r} (given-in here l s time seconds h fits n number zero b is {r = r} u)

@@ -55,11 +55,30 @@ fn expire_pools(
     s: usize,
     n: usize,
     held: u64,
+    version: u64,
     time: f64,
     seconds: f64,
 ) -> Expiring
     requires { ⌜ PoolReady (now depth) (now bytes) s n held (rangesOf (now node) (now start) (now end) (now id) (now stamp) (now touched) (now write)) (now marks) (outList (now «out_node») (now «out_start») (now «out_end») (now «out_write») (now «out_bytes») (now «out_dead»)) ⌝ }
-    ensures { λ r. ⌜ GivenOutAt s (expired (onlyDepth (now (depth .entry))) (now (bytes .entry)) time seconds (ranges (rangesOf (now (node .entry)) (now (start .entry)) (now (end .entry)) (now (id .entry)) (now (stamp .entry)) (now (touched .entry)) (now (write .entry))) (128 * s) n) (mid (256 * s) 256 (now (marks .entry)))) n (rangesOf (now (node .entry)) (now (start .entry)) (now (end .entry)) (now (id .entry)) (now (stamp .entry)) (now (touched .entry)) (now (write .entry))) (now (marks .entry)) (outList (now («out_node» .entry)) (now («out_start» .entry)) (now («out_end» .entry)) (now («out_write» .entry)) (now («out_bytes» .entry)) (now («out_dead» .entry))) (rangesOf (now (node .exit)) (now (start .exit)) (now (end .exit)) (now (id .exit)) (now (stamp .exit)) (now (touched .exit)) (now (write .exit))) (now (marks .exit)) (outList (now («out_node» .exit)) (now («out_start» .exit)) (now («out_end» .exit)) (now («out_write» .exit)) (now («out_bytes» .exit)) (now («out_dead» .exit))) (r .n) (r .held) (r .outs) false ⌝ }
+    ensures { λ r. ⌜
+        GivenOutAt s
+        (expired (onlyDepth (now (depth .entry))) (now (bytes .entry)) time seconds
+        (ranges (rangesOf (now (node .entry)) (now (start .entry)) (now (end .entry)) (now (id .entry)) (now (stamp .entry))
+        (now (touched .entry)) (now (write .entry))) (128 * s) n)
+        (mid (256 * s) 256 (now (marks .entry))))
+        n version
+        (rangesOf (now (node .entry)) (now (start .entry)) (now (end .entry)) (now (id .entry)) (now (stamp .entry))
+        (now (touched .entry)) (now (write .entry)))
+        (now (marks .entry))
+        (outList (now («out_node» .entry)) (now («out_start» .entry)) (now («out_end» .entry)) (now («out_write» .entry))
+        (now («out_bytes» .entry)) (now («out_dead» .entry)))
+        (rangesOf (now (node .exit)) (now (start .exit)) (now (end .exit)) (now (id .exit)) (now (stamp .exit))
+        (now (touched .exit)) (now (write .exit)))
+        (now (marks .exit))
+        (outList (now («out_node» .exit)) (now («out_start» .exit)) (now («out_end» .exit)) (now («out_write» .exit))
+        (now («out_bytes» .exit)) (now («out_dead» .exit)))
+        (r .n) (r .held) (r .outs) (r .version) false
+        ⌝ }
 {
     let a = 128 * s;
     let e = a + 128;
@@ -84,6 +103,7 @@ fn expire_pools(
         bytes,
         n,
         held,
+        version,
         time,
         seconds,
     )
@@ -129,8 +149,6 @@ pub fn store_expire(
         return StoreExpired::Refused(number);
     }
     let mut b = books::book_of(books, s);
-    let n = b.records;
-    let held = b.held;
     let r = expire_pools(
         node,
         start,
@@ -149,14 +167,15 @@ pub fn store_expire(
         depth,
         bytes,
         s,
-        n,
-        held,
+        b.records,
+        b.held,
+        b.version,
         time,
         seconds,
     );
     b.records = r.n;
     b.held = r.held;
-    b.version = std::num::wrapping_add_u64(b.version, r.outs as u64);
+    b.version = r.version;
     books::put_book(books, s, b);
     StoreExpired::Done(ExpireAnswer {
         outs: r.outs as u64,

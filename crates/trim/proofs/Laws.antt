@@ -1,6 +1,6 @@
 -- A store's part of the columns into which a list of ranges was laid: the list is read back from it, and one eviction on the columns is one on the
 -- list. And a scan for a node says what the definition says.
-use Prim.Native.Nat.{ℕ, zero, suc, _+_, _-_, _≤_, _<_}
+use Prim.Native.Nat.{ℕ, zero, suc, _+_, _-_, _%_, _≤_, _<_}
 use mathlib.Core.Path.{_≡_, refl, sym, ap, subst, _∙_}
 use mathlib.Core.Bool.{Bool, true, false, _||_}
 use mathlib.Core.List.{List, [], _∷_, map}
@@ -13,7 +13,7 @@ use lib.Dec.{leb, eqb}
 use lib.Ieee.{Float, nan}
 use borrow.Author.Tests.{leb-true, eq-eqb, ne-eqb, le-leb, lt-leb}
 use Rattle.model.specs.declared.Span.{Span}
-use Rattle.model.specs.Sizes.{maxHashes, storeRecords, tableLength}
+use Rattle.model.specs.Sizes.{maxHashes, storeRecords, tableLength, versions}
 use Rattle.model.specs.State.{Tree, Ranges, Range, at, rangeAt}
 use Rattle.model.specs.Sound.{Inside, EndsWithin, Rising}
 use Rattle.model.specs.Store.{ranges, lay, layRanges, noTime, lengthOf, total, onNode, part, unmark}
@@ -34,6 +34,14 @@ use Rattle.recs.proofs.Laws.{ranges-eq, cut-laid}
 use Rattle.choose.specs.Choose.{pick}
 use Rattle.trim.specs.Evict.{Left, left, endAt, evictCols, tailOf, Reach, Tabled}
 use Rattle.trim.specs.Given.{Ready}
+
+-- ---- a version, raised by 1 at each eviction
+
+pub raise-none : {v : ℕ} → v < versions → v ≡ (v + 0) % versions
+raise-none h = omega arith
+
+pub raise-more : (v k : ℕ) → ((v + k) % versions + 1) % versions ≡ (v + (k + 1)) % versions
+raise-more v k = omega arith
 
 -- ---- a list that was laid into a part
 

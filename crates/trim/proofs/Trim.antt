@@ -1,6 +1,6 @@
 -- A trim on the columns: after each turn the columns, marks and answer lists are laid from the list of ranges that the definition has then, and what is
 -- left to do gives what was to be done.
-use Prim.Native.Nat.{ℕ, zero, suc, _+_, _-_, _≤_, _<_}
+use Prim.Native.Nat.{ℕ, zero, suc, _+_, _-_, _%_, _≤_, _<_}
 use mathlib.Core.Path.{_≡_, refl, sym, ap, subst, _∙_}
 use mathlib.Core.Bool.{Bool, true, false, not}
 use mathlib.Core.List.{List, [], _∷_, _++_, append-assoc, append-nil}
@@ -10,10 +10,10 @@ use native.Mathlib.Omega.{arith}
 use lib.ListN.{length, length-set, length-append}
 use lib.Dec.{ltb}
 use borrow.Author.Tests.{lt-ltb}
-use Rattle.model.specs.Sizes.{storeRecords, storeMarks}
+use Rattle.model.specs.Sizes.{storeRecords, storeMarks, versions}
 use Rattle.model.specs.State.{Tree, Ranges, Range, Pin, rangeAt}
 use Rattle.model.specs.Store.{ranges, layRanges, total, lengthOf, unmark}
-use Rattle.model.specs.Trim.{Out, told, isPinned, nth, first, evict, Trimmed, also, chosen, asked, amount, trimBy, trim}
+use Rattle.model.specs.Trim.{Out, told, isPinned, nth, first, evict, Trimmed, also, chosen, asked, amount, trimBy, trim, versionAfter}
 use Rattle.model.specs.Refusals.{OutList, OutFits}
 use Rattle.model.specs.Calls.{layOuts}
 use Rattle.kept.specs.Facts.{All}
@@ -30,7 +30,7 @@ use Rattle.choose.specs.Choose.{placeOf}
 use Rattle.trim.specs.declared.Gone.{Gone}
 use Rattle.trim.specs.Evict.{Left, left, evictCols, Reach, Tabled, EntryGone}
 use Rattle.trim.specs.Given.{Ready, GivenOut}
-use Rattle.trim.proofs.Laws.{laid-sized, laid-read, laid-back, record-is, evict-laid, evict-reach, unmark-long}
+use Rattle.trim.proofs.Laws.{raise-none, raise-more, laid-sized, laid-read, laid-back, record-is, evict-laid, evict-reach, unmark-long}
 
 -- ---- answer lists
 
@@ -67,12 +67,13 @@ long-fits h f =
 
 -- ---- a row of evictions on the columns
 
--- n₀ records of c₀ became rs, and os were given out; k records are left that hold h blocks, and o spans are given out
-pub record Going (depth : List ℕ) (n₀ : ℕ) (c₀ : Ranges) (l₀ : OutList) (rs : List Range) (os : List Out) (k : ℕ) (c : Ranges) (ms : List ℕ) (l : OutList) (h o : ℕ) : Type 0 where
+-- n₀ records of c₀ became rs, and os were given out; k records are left that hold h blocks, o spans are given out, and the version v₀ is v
+pub record Going (depth : List ℕ) (n₀ v₀ : ℕ) (c₀ : Ranges) (l₀ : OutList) (rs : List Range) (os : List Out) (k : ℕ) (c : Ranges) (ms : List ℕ) (l : OutList) (h o v : ℕ) : Type 0 where
   pub cols : c ≡ layRanges 0 n₀ rs c₀
   pub lists : l ≡ layOuts os l₀
   pub count : length rs ≡ k
   pub given : length os ≡ o
+  pub version : v ≡ versionAfter v₀ os
   pub few : k ≤ n₀
   pub held : h ≡ total rs
   pub reach : All (Reach depth) rs
@@ -85,13 +86,14 @@ abbrev pub toldAt : List ℕ → List ℕ → List ℕ → List Range → ℕ �
 toldAt depth table ms rs i k = let r = nth rs i in told (onlyDepth depth) table ms r (r .end - k) (r .end)
 
 module _ {depth table : List ℕ} {n₀ h₀ : ℕ} {c₀ : Ranges} {ms₀ : List ℕ} {l₀ : OutList} (ready : Ready depth table n₀ h₀ c₀ ms₀ l₀) where
-  pub going-start : Going depth n₀ c₀ l₀ (ranges c₀ 0 n₀) [] n₀ c₀ ms₀ l₀ h₀ 0
-  going-start =
+  pub going-start : {v₀ : ℕ} → v₀ < versions → Going depth n₀ v₀ c₀ l₀ (ranges c₀ 0 n₀) [] n₀ c₀ ms₀ l₀ h₀ 0 v₀
+  going-start less =
       record {
         cols = sym (laid-back (ready .cols) n₀ (ready .few));
         lists = refl;
         count = ranges-length c₀ 0 n₀;
         given = refl;
+        version = raise-none less;
         few = le-refl n₀;
         held = ready .held;
         reach = ready .reach;
@@ -100,7 +102,7 @@ module _ {depth table : List ℕ} {n₀ h₀ : ℕ} {c₀ : Ranges} {ms₀ : Lis
         same = record { node = refl; start = refl; end = refl; write = refl; bytes = refl; dead = refl };
       }
 
-  module _ {rs : List Range} {os : List Out} {k : ℕ} {c : Ranges} {ms : List ℕ} {l : OutList} {h o : ℕ} (g : Going depth n₀ c₀ l₀ rs os k c ms l h o) where
+  module _ {v₀ : ℕ} {rs : List Range} {os : List Out} {k : ℕ} {c : Ranges} {ms : List ℕ} {l : OutList} {h o v : ℕ} (g : Going depth n₀ v₀ c₀ l₀ rs os k c ms l h o v) where
     -- the records are read back
     pub going-read : ranges c 0 k ≡ rs
     going-read =
@@ -124,12 +126,13 @@ module _ {depth table : List ℕ} {n₀ h₀ : ℕ} {c₀ : Ranges} {ms₀ : Lis
     going-least i x {a} e = omega (arith, g .held, evict-total rs i a)
 
     -- an end of it
-    pub going-end : (b : Bool) → GivenOut (record { ranges = rs; marks = ms; outs = os; stalled = b }) n₀ c₀ l₀ c ms l k h o b
-    going-end b = record { cols = g .cols; marks = refl; lists = g .lists; records = sym (g .count); held = g .held; outs = sym (g .given); stalled = refl }
+    pub going-end : (b : Bool) → GivenOut (record { ranges = rs; marks = ms; outs = os; stalled = b }) n₀ v₀ c₀ l₀ c ms l k h o v b
+    going-end b =
+        record { cols = g .cols; marks = refl; lists = g .lists; records = sym (g .count); held = g .held; outs = sym (g .given); version = g .version; stalled = refl }
 
     -- one more
     module _ {i x a : ℕ} {cʹ : Ranges} {msʹ : List ℕ} {lʹ : OutList} {e : Gone} (less : i < k) (room : o < storeRecords) (is : a ≡ amount asked x (nth rs i))
-        (gone : EntryGone depth table k i x c ms cʹ msʹ e) (put : lʹ ≡ setOut o (outOf (e .out)) l) where
+        (gone : EntryGone depth table k i x v c ms cʹ msʹ e) (put : lʹ ≡ setOut o (outOf (e .out)) l) where
       pub taken-is : e .taken ≡ a
       taken-is = gone .taken ∙ ap (λ (r : Range). amount asked x r) (going-at i less) ∙ sym is
 
@@ -176,7 +179,16 @@ module _ {depth table : List ℕ} {n₀ h₀ : ℕ} {c₀ : Ranges} {ms₀ : Lis
       pub going-whole : a ≡ lengthOf (nth rs i) → suc (e .n) ≡ k
       going-whole q = omega (arith, count-is, g .count, evict-whole rs i a in-list (omega arith))
 
-      pub going-turn : Going depth n₀ c₀ l₀ (evict rs i a) (os ++ (toldAt depth table ms rs i a ∷ [])) (e .n) cʹ msʹ lʹ (h - e .taken) (o + 1)
+      -- one span more, and the version is 1 higher
+      more-out : length (os ++ (toldAt depth table ms rs i a ∷ [])) ≡ length os + 1
+      more-out = length-append os (toldAt depth table ms rs i a ∷ [])
+
+      raised : e .version ≡ versionAfter v₀ (os ++ (toldAt depth table ms rs i a ∷ []))
+      raised =
+          gone .version ∙ ap (λ (z : ℕ). (z + 1) % versions) (g .version) ∙ raise-more v₀ (length os)
+          ∙ ap (λ (z : ℕ). (v₀ + z) % versions) (sym more-out)
+
+      pub going-turn : Going depth n₀ v₀ c₀ l₀ (evict rs i a) (os ++ (toldAt depth table ms rs i a ∷ [])) (e .n) cʹ msʹ lʹ (h - e .taken) (o + 1) (e .version)
       going-turn =
           record {
             cols = cols-are;
@@ -185,7 +197,8 @@ module _ {depth table : List ℕ} {n₀ h₀ : ℕ} {c₀ : Ranges} {ms₀ : Lis
                 ∙ ap (λ (z : ℕ). setOut z (toldAt depth table ms rs i a) (layOuts os l₀)) (sym (g .given))
                 ∙ out-more os (toldAt depth table ms rs i a) l₀ (omega (arith, g .given)) (ready .fits);
             count = count-is;
-            given = length-append os (toldAt depth table ms rs i a ∷ []) ∙ ap (λ (z : ℕ). z + 1) (g .given);
+            given = more-out ∙ ap (λ (z : ℕ). z + 1) (g .given);
+            version = raised;
             few = omega (arith, count-is, fits);
             held = going-held;
             reach = evict-reach depth rs i a (g .reach);
@@ -207,10 +220,10 @@ pub before-none : (os : List Out) (rs : List Range) (ms : List ℕ) (b : Bool)
     → record { ranges = rs; marks = ms; outs = os; stalled = b } ≡ before os (record { ranges = rs; marks = ms; outs = []; stalled = b })
 before-none os rs ms b = ap (λ (x : List Out). record { ranges = rs; marks = ms; outs = x; stalled = b }) (sym (append-nil os))
 
-pub record Trimming (depth table : List ℕ) (ps : List Pin) (capacity n₀ : ℕ) (c₀ : Ranges) (ms₀ : List ℕ) (l₀ : OutList) (k : ℕ) (c : Ranges) (ms : List ℕ) (l : OutList) (h o : ℕ) : Type 0 where
+pub record Trimming (depth table : List ℕ) (ps : List Pin) (capacity n₀ v₀ : ℕ) (c₀ : Ranges) (ms₀ : List ℕ) (l₀ : OutList) (k : ℕ) (c : Ranges) (ms : List ℕ) (l : OutList) (h o v : ℕ) : Type 0 where
   pub rs : List Range
   pub os : List Out
-  pub going : Going depth n₀ c₀ l₀ rs os k c ms l h o
+  pub going : Going depth n₀ v₀ c₀ l₀ rs os k c ms l h o v
   pub room : capacity < h → k + o ≤ n₀
   pub todo :
       before os (trimBy asked (onlyDepth depth) table ps (n₀ - o) (h - capacity) (chosen ps (h - capacity) rs) rs ms)
@@ -245,16 +258,16 @@ module _ {depth table : List ℕ} {n₀ h₀ : ℕ} {c₀ : Ranges} {ms₀ : Lis
       let z : n₀ - 0 ≡ length (ranges c₀ 0 n₀) = omega (arith, ranges-length c₀ 0 n₀) in
       rw (z, ready .held)
 
-  pub trim-start : Trimming depth table ps capacity n₀ c₀ ms₀ l₀ n₀ c₀ ms₀ l₀ h₀ 0
-  trim-start = record { rs = ranges c₀ 0 n₀; os = []; going = going-start ready; room = λ (l : capacity < h₀). omega arith; todo = begin }
+  pub trim-start : {v₀ : ℕ} → v₀ < versions → Trimming depth table ps capacity n₀ v₀ c₀ ms₀ l₀ n₀ c₀ ms₀ l₀ h₀ 0 v₀
+  trim-start less = record { rs = ranges c₀ 0 n₀; os = []; going = going-start ready less; room = λ (l : capacity < h₀). omega arith; todo = begin }
 
-  module _ {k : ℕ} {c : Ranges} {ms : List ℕ} {l : OutList} {h o : ℕ} (s : Trimming depth table ps capacity n₀ c₀ ms₀ l₀ k c ms l h o) where
+  module _ {v₀ k : ℕ} {c : Ranges} {ms : List ℕ} {l : OutList} {h o v : ℕ} (s : Trimming depth table ps capacity n₀ v₀ c₀ ms₀ l₀ k c ms l h o v) where
     -- not more is held than the capacity
-    pub trim-fits : h ≤ capacity → GivenOut (trim (onlyDepth depth) table ps capacity (ranges c₀ 0 n₀) ms₀) n₀ c₀ l₀ c ms l k h o false
+    pub trim-fits : h ≤ capacity → GivenOut (trim (onlyDepth depth) table ps capacity (ranges c₀ 0 n₀) ms₀) n₀ v₀ c₀ l₀ c ms l k h o v false
     trim-fits q =
         let z : h - capacity ≡ 0 = omega arith in
         let e = rw (z, chosen-zero ps (s .rs), by-none (onlyDepth depth) table ps (n₀ - o) 0 (s .rs) ms) at (s .todo) in
-        subst (λ (w : Trimmed). GivenOut w n₀ c₀ l₀ c ms l k h o false) (before-none (s .os) (s .rs) ms false ∙ e) (going-end ready (s .going) false)
+        subst (λ (w : Trimmed). GivenOut w n₀ v₀ c₀ l₀ c ms l k h o v false) (before-none (s .os) (s .rs) ms false ∙ e) (going-end ready (s .going) false)
 
     module _ (over : capacity < h) where
       found : (p : Option ℕ) → p ≡ first (λ r. not (isPinned ps r)) (ranges c 0 k) → chosen ps (h - capacity) (s .rs) ≡ p
@@ -262,11 +275,11 @@ module _ {depth table : List ℕ} {n₀ h₀ : ℕ} {c₀ : Ranges} {ms₀ : Lis
 
       -- all is pinned
       pub trim-stuck : {p : Place} → placeOf p ≡ first (λ r. not (isPinned ps r)) (ranges c 0 k) → p ≡ Nothing
-          → GivenOut (trim (onlyDepth depth) table ps capacity (ranges c₀ 0 n₀) ms₀) n₀ c₀ l₀ c ms l k h o true
+          → GivenOut (trim (onlyDepth depth) table ps capacity (ranges c₀ 0 n₀) ms₀) n₀ v₀ c₀ l₀ c ms l k h o v true
       trim-stuck q here =
           let z : ltb 0 (h - capacity) ≡ true = lt-ltb 0 (h - capacity) (omega arith) in
           let e = rw (found none (sym (ap placeOf here) ∙ q), by-none (onlyDepth depth) table ps (n₀ - o) (h - capacity) (s .rs) ms, z) at (s .todo) in
-          subst (λ (w : Trimmed). GivenOut w n₀ c₀ l₀ c ms l k h o true) (before-none (s .os) (s .rs) ms true ∙ e) (going-end ready (s .going) true)
+          subst (λ (w : Trimmed). GivenOut w n₀ v₀ c₀ l₀ c ms l k h o v true) (before-none (s .os) (s .rs) ms true ∙ e) (going-end ready (s .going) true)
 
       module _ {p : Place} {i : ℕ} (choice : placeOf p ≡ first (λ r. not (isPinned ps r)) (ranges c 0 k)) (here : p ≡ At i) where
         some-first : some i ≡ first (λ r. not (isPinned ps r)) (ranges c 0 k)
@@ -283,8 +296,8 @@ module _ {depth table : List ℕ} {n₀ h₀ : ℕ} {c₀ : Ranges} {ms₀ : Lis
             let r = going-at ready (s .going) i trim-place in
             (omega (arith, going-reach ready (s .going) i trim-place .filled), going-least ready (s .going) i (h - capacity) (e ∙ ap (amount asked (h - capacity)) r))
 
-        module _ {cʹ : Ranges} {msʹ : List ℕ} {e : Gone} (gone : EntryGone depth table k i (h - capacity) c ms cʹ msʹ e) where
-          pub trim-turn : {lʹ : OutList} → lʹ ≡ setOut o (outOf (e .out)) l → Trimming depth table ps capacity n₀ c₀ ms₀ l₀ (e .n) cʹ msʹ lʹ (h - e .taken) (o + 1)
+        module _ {cʹ : Ranges} {msʹ : List ℕ} {e : Gone} (gone : EntryGone depth table k i (h - capacity) v c ms cʹ msʹ e) where
+          pub trim-turn : {lʹ : OutList} → lʹ ≡ setOut o (outOf (e .out)) l → Trimming depth table ps capacity n₀ v₀ c₀ ms₀ l₀ (e .n) cʹ msʹ lʹ (h - e .taken) (o + 1) (e .version)
           trim-turn {lʹ} put =
               record {
                 rs = evict (s .rs) i a;

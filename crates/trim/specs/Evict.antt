@@ -1,11 +1,11 @@
 -- One eviction on a store's part of the columns: the record, what is told of it, the marks. Assumes nothing.
-use Prim.Native.Nat.{ℕ, _+_, _-_, _≤_, _<_}
+use Prim.Native.Nat.{ℕ, _+_, _-_, _%_, _≤_, _<_}
 use mathlib.Core.Path.{_≡_}
 use mathlib.Core.List.{List}
 use lib.ListN.{length, set}
 use lib.Dec.{leb}
 use Rattle.model.specs.declared.Span.{Span}
-use Rattle.model.specs.Sizes.{maxNodes, maxHashes, storeMarks, tableLength}
+use Rattle.model.specs.Sizes.{maxNodes, maxHashes, storeMarks, tableLength, versions}
 use Rattle.model.specs.State.{Tree, Ranges, Range, at, rangeAt}
 use Rattle.model.specs.Sound.{Rising}
 use Rattle.model.specs.Store.{ranges, lengthOf, unmark}
@@ -62,9 +62,10 @@ pub record Tabled (depth bytes marks : List ℕ) : Type 0 where
   pub rising : Rising bytes
   pub long : length marks ≡ storeMarks
 
--- of the record at i the last min(length, excess) blocks went
-pub record EntryGone (depth bytes : List ℕ) (n i excess : ℕ) (c : Ranges) (ms : List ℕ) (cʹ : Ranges) (msʹ : List ℕ) (g : Gone) : Type 0 where
+-- of the record at i the last min(length, excess) blocks went, and the store's version v rose by 1
+pub record EntryGone (depth bytes : List ℕ) (n i excess v : ℕ) (c : Ranges) (ms : List ℕ) (cʹ : Ranges) (msʹ : List ℕ) (g : Gone) : Type 0 where
   pub taken : g .taken ≡ amount asked excess (rangeAt c i)
   pub cols : left cʹ (g .n) ≡ evictCols n i (g .taken) c
   pub marks : msʹ ≡ unmark (rangeAt c i .node) (ranges cʹ 0 (g .n)) ms
+  pub version : g .version ≡ (v + 1) % versions
   pub out : outOf (g .out) ≡ told (onlyDepth depth) bytes ms (rangeAt c i) (rangeAt c i .end - g .taken) (rangeAt c i .end)

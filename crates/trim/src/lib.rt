@@ -106,14 +106,15 @@ fn tail(node: usize, start: usize, end: usize, k: usize) -> Span
     }
 }
 
-// How many records are left, how many blocks went, and what is told of them.
+// How many records are left, how many blocks went, the version after, and what is told of them.
 pub struct Gone {
     pub n: usize,
     pub taken: usize,
+    pub version: u64,
     pub out: Evicted,
 }
 
-// Of the record at i the last min(length, excess) blocks go.
+// Of the record at i the last min(length, excess) blocks go; the version goes up by 1, from 2^64 - 1 to 0.
 pub fn store_evict_entry(
     node: &mut [usize],
     start: &mut [usize],
@@ -128,10 +129,19 @@ pub fn store_evict_entry(
     n: usize,
     i: usize,
     excess: u64,
+    version: u64,
 ) -> Gone
     requires { ⌜ (i < n) × (n ≤ 128) × Sized 128 (rangesOf (now node) (now start) (now end) (now id) (now stamp) (now touched) (now write)) ⌝ }
     requires { ⌜ Reach (now depth) (rangeAt (rangesOf (now node) (now start) (now end) (now id) (now stamp) (now touched) (now write)) i) × Tabled (now depth) (now bytes) (now marks) ⌝ }
-    ensures { λ g. ⌜ EntryGone (now (depth .entry)) (now (bytes .entry)) n i excess (rangesOf (now (node .entry)) (now (start .entry)) (now (end .entry)) (now (id .entry)) (now (stamp .entry)) (now (touched .entry)) (now (write .entry))) (now (marks .entry)) (rangesOf (now (node .exit)) (now (start .exit)) (now (end .exit)) (now (id .exit)) (now (stamp .exit)) (now (touched .exit)) (now (write .exit))) (now (marks .exit)) g ⌝ }
+    ensures { λ g. ⌜
+        EntryGone (now (depth .entry)) (now (bytes .entry)) n i excess version
+        (rangesOf (now (node .entry)) (now (start .entry)) (now (end .entry)) (now (id .entry)) (now (stamp .entry))
+        (now (touched .entry)) (now (write .entry)))
+        (now (marks .entry))
+        (rangesOf (now (node .exit)) (now (start .exit)) (now (end .exit)) (now (id .exit)) (now (stamp .exit))
+        (now (touched .exit)) (now (write .exit)))
+        (now (marks .exit)) g
+        ⌝ }
 {
     let v = node[i];
     let s = start[i];
@@ -140,18 +150,21 @@ pub fn store_evict_entry(
     let out = told(depth, bytes, marks[v], write[i], tail(v, s, e, k));
     let records = evict_at(&mut *node, start, end, id, stamp, touched, write, n, i, k);
     unmark(marks, &*node, records, v);
+    let next = std::num::wrapping_add_u64(version, 1);
     Gone {
         n: records,
         taken: k,
+        version: next,
         out: out,
     }
 }
 
-// How many records are left, how many blocks they hold, how many spans were given out, and whether it ended in a stall.
+// How many records are left, how many blocks they hold, how many spans were given out, the version, and whether it ended in a stall.
 pub struct Trimming {
     pub n: usize,
     pub held: u64,
     pub outs: usize,
+    pub version: u64,
     pub stalled: bool,
 }
 
@@ -180,13 +193,33 @@ pub fn store_trim_capacity(
     m: usize,
     held: u64,
     capacity: u64,
+    version: u64,
 ) -> Trimming
     requires { ⌜ Ready (now depth) (now bytes) n held (rangesOf (now node) (now start) (now end) (now id) (now stamp) (now touched) (now write)) (now marks) (outList (now «out_node») (now «out_start») (now «out_end») (now «out_write») (now «out_bytes») (now «out_dead»)) ⌝ }
     requires { ⌜ (m ≤ length (now «pin_node»)) × (m ≤ length (now «pin_start»)) × (m ≤ length (now «pin_end»)) ⌝ }
-    ensures { λ r. ⌜ ((count : List ℕ) → GivenOut (trim (onlyDepth (now (depth .entry))) (now (bytes .entry)) (pins (pinsOf (now («pin_node» .entry)) (now («pin_start» .entry)) (now («pin_end» .entry)) count) 0 m) capacity (ranges (rangesOf (now (node .entry)) (now (start .entry)) (now (end .entry)) (now (id .entry)) (now (stamp .entry)) (now (touched .entry)) (now (write .entry))) 0 n) (now (marks .entry))) n (rangesOf (now (node .entry)) (now (start .entry)) (now (end .entry)) (now (id .entry)) (now (stamp .entry)) (now (touched .entry)) (now (write .entry))) (outList (now («out_node» .entry)) (now («out_start» .entry)) (now («out_end» .entry)) (now («out_write» .entry)) (now («out_bytes» .entry)) (now («out_dead» .entry))) (rangesOf (now (node .exit)) (now (start .exit)) (now (end .exit)) (now (id .exit)) (now (stamp .exit)) (now (touched .exit)) (now (write .exit))) (now (marks .exit)) (outList (now («out_node» .exit)) (now («out_start» .exit)) (now («out_end» .exit)) (now («out_write» .exit)) (now («out_bytes» .exit)) (now («out_dead» .exit))) (r .n) (r .held) (r .outs) (r .stalled)) ⌝ }
+    ensures { λ r. ⌜
+        ((count : List ℕ) → GivenOut
+        (trim (onlyDepth (now (depth .entry))) (now (bytes .entry))
+        (pins (pinsOf (now («pin_node» .entry)) (now («pin_start» .entry)) (now («pin_end» .entry)) count) 0 m) capacity
+        (ranges (rangesOf (now (node .entry)) (now (start .entry)) (now (end .entry)) (now (id .entry)) (now (stamp .entry))
+        (now (touched .entry)) (now (write .entry))) 0 n)
+        (now (marks .entry)))
+        n version
+        (rangesOf (now (node .entry)) (now (start .entry)) (now (end .entry)) (now (id .entry)) (now (stamp .entry))
+        (now (touched .entry)) (now (write .entry)))
+        (outList (now («out_node» .entry)) (now («out_start» .entry)) (now («out_end» .entry)) (now («out_write» .entry))
+        (now («out_bytes» .entry)) (now («out_dead» .entry)))
+        (rangesOf (now (node .exit)) (now (start .exit)) (now (end .exit)) (now (id .exit)) (now (stamp .exit))
+        (now (touched .exit)) (now (write .exit)))
+        (now (marks .exit))
+        (outList (now («out_node» .exit)) (now («out_start» .exit)) (now («out_end» .exit)) (now («out_write» .exit))
+        (now («out_bytes» .exit)) (now («out_dead» .exit)))
+        (r .n) (r .held) (r .outs) (r .version) (r .stalled))
+        ⌝ }
 {
     let mut left = n;
     let mut h = held;
+    let mut v = version;
     let mut k: usize = 0;
     while capacity < h {
         let Place::At(i) = choose::first_free(
@@ -205,6 +238,7 @@ pub fn store_trim_capacity(
                 n: left,
                 held: h,
                 outs: k,
+                version: v,
                 stalled: true,
             };
         };
@@ -222,9 +256,11 @@ pub fn store_trim_capacity(
             left,
             i,
             h - capacity,
+            v,
         );
         left = g.n;
         h -= g.taken as u64;
+        v = g.version;
         let out = g.out;
         evicted::put_out(
             &mut *out_node,
@@ -242,6 +278,7 @@ pub fn store_trim_capacity(
         n: left,
         held: h,
         outs: k,
+        version: v,
         stalled: false,
     }
 }

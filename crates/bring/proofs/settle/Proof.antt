@@ -19,9 +19,6 @@ stalls-after-requires c κs = search needs
 add-c : tie.Need-add-c
 add-c c = search needs
 
-wrapping-add-u64-requires : tie.Need-wrapping-add-u64-requires
-wrapping-add-u64-requires c κs = search needs
-
 put-book-requires : tie.Need-put-book-requires
 put-book-requires c κs = search needs
 
@@ -33,9 +30,9 @@ same-length c = search needs
 
 returns : tie.Need-returns
 returns c =
-    let a = c .before .before .before .before .before .before .before .before .before .before .before .before .before .before .args in
-    books-settled (a .s) (a .need) (a .t .n) (a .t .held) (a .t .outs) (a .t .stalled) (a .b) (a .books .now) (c .before .before .before .before .before .before .put-book .last .0) (c .before .before .put-next .last .0) (c .before .before .before .before .before .before .before .before .before .before .stalls-after .result) (c .before .before .before .before .before .before .before .before .wrapping-add-u64 .result)
-    (c .before .before .before .before .before .before .before .before .before .before .stalls-after .ensures) (c .before .before .before .before .before .before .before .before .wrapping-add-u64 .ensures) (c .before .before .before .before .before .before .put-book .ensures) (c .before .before .put-next .ensures)
+    let a = c .before .before .before .before .before .before .before .before .before .before .before .before .before .args in
+    books-settled (a .s) (a .need) (a .t .n) (a .t .held) (a .t .version) (a .t .stalled) (a .b) (a .books .now) (c .before .before .before .before .before .before .put-book .last .0) (c .before .before .put-next .last .0) (c .before .before .before .before .before .before .before .before .before .stalls-after .result)
+    (c .before .before .before .before .before .before .before .before .before .stalls-after .ensures) (c .before .before .before .before .before .before .put-book .ensures) (c .before .before .put-next .ensures)
 
 pub settle-spec : {M : Type 1} → statement M
 settle-spec =
@@ -46,7 +43,6 @@ settle-spec =
     slice-read-stalls-after
     stalls-after-requires
     add-c
-    wrapping-add-u64-requires
     put-book-requires
     put-next-requires
     same-length

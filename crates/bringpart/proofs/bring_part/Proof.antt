@@ -73,7 +73,7 @@ returns c =
     (pins (pinsOf (a .pin-node .now) (a .pin-start .now) (a .pin-end .now) count) 0 (a .m)) (a .capacity)
     {c₂ = rangesOf (t .last .0) (t .last .1 .0) (t .last .1 .1 .0) (t .last .1 .1 .1 .0) (t .last .1 .1 .1 .1 .0) (t .last .1 .1 .1 .1 .1 .0) (t .last .1 .1 .1 .1 .1 .1 .0)}
     {l₂ = outList (t .last .1 .1 .1 .1 .1 .1 .1 .1 .0) (t .last .1 .1 .1 .1 .1 .1 .1 .1 .1 .0) (t .last .1 .1 .1 .1 .1 .1 .1 .1 .1 .1 .0) (t .last .1 .1 .1 .1 .1 .1 .1 .1 .1 .1 .1 .0) (t .last .1 .1 .1 .1 .1 .1 .1 .1 .1 .1 .1 .1 .0) (t .last .1 .1 .1 .1 .1 .1 .1 .1 .1 .1 .1 .1 .1 .0)}
-    (t .ensures count)
+    {v₀ = a .version} (t .ensures count)
 
 pub bring-part-spec : {M : Type 1} → statement M
 bring-part-spec =

@@ -241,7 +241,7 @@ returns c =
     λ count.
     pool-given (z .pre) {q = rangesOf (k .last .0) (k .last .1 .0) (k .last .1 .1 .0) (k .last .1 .1 .1 .0) (k .last .1 .1 .1 .1 .0) (k .last .1 .1 .1 .1 .1 .0) (k .last .1 .1 .1 .1 .1 .1 .0)}
     {ms₂ = k .last .1 .1 .1 .1 .1 .1 .1 .0} {l₂ = outList (k .last .1 .1 .1 .1 .1 .1 .1 .1 .0) (k .last .1 .1 .1 .1 .1 .1 .1 .1 .1 .0) (k .last .1 .1 .1 .1 .1 .1 .1 .1 .1 .1 .0) (k .last .1 .1 .1 .1 .1 .1 .1 .1 .1 .1 .1 .0) (k .last .1 .1 .1 .1 .1 .1 .1 .1 .1 .1 .1 .1 .0) (k .last .1 .1 .1 .1 .1 .1 .1 .1 .1 .1 .1 .1 .1 .0)}
-    count (z .args .capacity) _ _ _ (width (128 * s) 128) (width (256 * s) 256) (width (32 * s) 32) (k .kept .1 .1 .1 .1 .1 .1 .1 .0) (k .ensures (mid (32 * s) ((32 * s + 32) - 32 * s) count))
+    {v₀ = z .args .version} count (z .args .capacity) _ _ _ (width (128 * s) 128) (width (256 * s) 256) (width (32 * s) 32) (k .kept .1 .1 .1 .1 .1 .1 .1 .0) (k .ensures (mid (32 * s) ((32 * s + 32) - 32 * s) count))
 
 pub bring-pools-spec : {M : Type 1} → statement M
 bring-pools-spec =

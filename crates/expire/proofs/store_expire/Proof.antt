@@ -11,14 +11,14 @@ use Rattle.expire.proofs.store_expire.Statement.{statement}
 use Rattle.expire.proofs.store_expire.Tie as tie
 
 abbrev Inv-loop : tie.InvT-loop
-Inv-loop node₀ start₀ end₀ id₀ stamp₀ touched₀ write₀ marks₀ out-node₀ out-start₀ out-end₀ out-write₀ out-bytes₀ out-dead₀ depth bytes n held time seconds left₀ h₀ k₀ node start end id stamp touched write marks out-node out-start out-end out-write out-bytes out-dead left h k =
-    Expiring depth bytes time seconds n (rangesOf node₀ start₀ end₀ id₀ stamp₀ touched₀ write₀) marks₀ (outList out-node₀ out-start₀ out-end₀ out-write₀ out-bytes₀ out-dead₀) left (rangesOf node start end id stamp touched write) marks (outList out-node out-start out-end out-write out-bytes out-dead) h k
+Inv-loop node₀ start₀ end₀ id₀ stamp₀ touched₀ write₀ marks₀ out-node₀ out-start₀ out-end₀ out-write₀ out-bytes₀ out-dead₀ depth bytes n held version time seconds left₀ h₀ v₀ k₀ node start end id stamp touched write marks out-node out-start out-end out-write out-bytes out-dead left h v k =
+    Expiring depth bytes time seconds n version (rangesOf node₀ start₀ end₀ id₀ stamp₀ touched₀ write₀) marks₀ (outList out-node₀ out-start₀ out-end₀ out-write₀ out-bytes₀ out-dead₀) left (rangesOf node start end id stamp touched write) marks (outList out-node out-start out-end out-write out-bytes out-dead) h k v
 
 abbrev μ-loop : tie.MeasureT-loop
-μ-loop node₀ start₀ end₀ id₀ stamp₀ touched₀ write₀ marks₀ out-node₀ out-start₀ out-end₀ out-write₀ out-bytes₀ out-dead₀ depth bytes n held time seconds left₀ h₀ k₀ node start end id stamp touched write marks out-node out-start out-end out-write out-bytes out-dead left h k = left
+μ-loop node₀ start₀ end₀ id₀ stamp₀ touched₀ write₀ marks₀ out-node₀ out-start₀ out-end₀ out-write₀ out-bytes₀ out-dead₀ depth bytes n held version time seconds left₀ h₀ v₀ k₀ node start end id stamp touched write marks out-node out-start out-end out-write out-bytes out-dead left h v k = left
 
 loop-holds : tie.Need-loop-holds Inv-loop μ-loop
-loop-holds c = expire-start (c .before .before .before .before .before .before .before .before .before .before .before .before .before .before .before .before .pre) _ _
+loop-holds c = expire-start (c .before .before .before .before .before .before .before .before .before .before .before .before .before .before .before .before .pre) _ _ (omega arith)
 
 oldest-aged-requires : tie.Need-oldest-aged-requires Inv-loop μ-loop
 oldest-aged-requires c κs =

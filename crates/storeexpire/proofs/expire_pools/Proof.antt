@@ -198,7 +198,7 @@ returns c =
     let s = z .args .s in
     let k = c .before .before .before .before .before .before .before .before .before .before .before .before .before .before .before .before .before .before .before .before .before .before .before .before .before .before .before .before .store-expire in
     pool-given (z .pre) {q = rangesOf (k .last .0) (k .last .1 .0) (k .last .1 .1 .0) (k .last .1 .1 .1 .0) (k .last .1 .1 .1 .1 .0) (k .last .1 .1 .1 .1 .1 .0) (k .last .1 .1 .1 .1 .1 .1 .0)} {ms₂ = k .last .1 .1 .1 .1 .1 .1 .1 .0} {l₂ = outList (k .last .1 .1 .1 .1 .1 .1 .1 .1 .0) (k .last .1 .1 .1 .1 .1 .1 .1 .1 .1 .0) (k .last .1 .1 .1 .1 .1 .1 .1 .1 .1 .1 .0) (k .last .1 .1 .1 .1 .1 .1 .1 .1 .1 .1 .1 .0) (k .last .1 .1 .1 .1 .1 .1 .1 .1 .1 .1 .1 .1 .0) (k .last .1 .1 .1 .1 .1 .1 .1 .1 .1 .1 .1 .1 .1 .0)}
-    (z .args .time) (z .args .seconds) _ _ (width (128 * s) 128) (width (256 * s) 256) (k .kept .1 .1 .1 .1 .1 .1 .1 .0) (k .ensures)
+    {v₀ = z .args .version} (z .args .time) (z .args .seconds) _ _ (width (128 * s) 128) (width (256 * s) 256) (k .kept .1 .1 .1 .1 .1 .1 .1 .0) (k .ensures)
 
 pub expire-pools-spec : {M : Type 1} → statement M
 expire-pools-spec =

@@ -13,15 +13,15 @@ use Rattle.trim.proofs.store_trim_capacity.Statement.{statement}
 use Rattle.trim.proofs.store_trim_capacity.Tie as tie
 
 abbrev Inv-loop : tie.InvT-loop
-Inv-loop node₀ start₀ end₀ id₀ stamp₀ touched₀ write₀ marks₀ out-node₀ out-start₀ out-end₀ out-write₀ out-bytes₀ out-dead₀ depth bytes pin-node pin-start pin-end n m held capacity left₀ h₀ k₀ node start end id stamp touched write marks out-node out-start out-end out-write out-bytes out-dead left h k =
+Inv-loop node₀ start₀ end₀ id₀ stamp₀ touched₀ write₀ marks₀ out-node₀ out-start₀ out-end₀ out-write₀ out-bytes₀ out-dead₀ depth bytes pin-node pin-start pin-end n m held capacity version left₀ h₀ v₀ k₀ node start end id stamp touched write marks out-node out-start out-end out-write out-bytes out-dead left h v k =
     (count : List ℕ)
-    → Trimming depth bytes (pins (pinsOf pin-node pin-start pin-end count) 0 m) capacity n (rangesOf node₀ start₀ end₀ id₀ stamp₀ touched₀ write₀) marks₀ (outList out-node₀ out-start₀ out-end₀ out-write₀ out-bytes₀ out-dead₀) left (rangesOf node start end id stamp touched write) marks (outList out-node out-start out-end out-write out-bytes out-dead) h k
+    → Trimming depth bytes (pins (pinsOf pin-node pin-start pin-end count) 0 m) capacity n version (rangesOf node₀ start₀ end₀ id₀ stamp₀ touched₀ write₀) marks₀ (outList out-node₀ out-start₀ out-end₀ out-write₀ out-bytes₀ out-dead₀) left (rangesOf node start end id stamp touched write) marks (outList out-node out-start out-end out-write out-bytes out-dead) h k v
 
 abbrev μ-loop : tie.MeasureT-loop
-μ-loop node₀ start₀ end₀ id₀ stamp₀ touched₀ write₀ marks₀ out-node₀ out-start₀ out-end₀ out-write₀ out-bytes₀ out-dead₀ depth bytes pin-node pin-start pin-end n m held capacity left₀ h₀ k₀ node start end id stamp touched write marks out-node out-start out-end out-write out-bytes out-dead left h k = h
+μ-loop node₀ start₀ end₀ id₀ stamp₀ touched₀ write₀ marks₀ out-node₀ out-start₀ out-end₀ out-write₀ out-bytes₀ out-dead₀ depth bytes pin-node pin-start pin-end n m held capacity version left₀ h₀ v₀ k₀ node start end id stamp touched write marks out-node out-start out-end out-write out-bytes out-dead left h v k = h
 
 loop-holds : tie.Need-loop-holds Inv-loop μ-loop
-loop-holds c = λ count. trim-start (c .before .before .before .before .before .before .before .before .before .before .before .before .before .before .before .before .before .before .before .pre .0) _ _
+loop-holds c = λ count. trim-start (c .before .before .before .before .before .before .before .before .before .before .before .before .before .before .before .before .before .before .before .pre .0) _ _ (omega arith)
 
 first-free-requires : tie.Need-first-free-requires Inv-loop μ-loop
 first-free-requires c κs =
