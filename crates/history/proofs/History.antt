@@ -2,7 +2,7 @@
 -- and not since given out or removed, and held is their number. Assumes nothing.
 use Prim.Native.Nat.{ℕ, zero, suc, _<_}
 use mathlib.Core.Bool.{Bool}
-use mathlib.Core.Path.{_≡_, refl, ap, subst, _∙_}
+use mathlib.Core.Path.{_≡_, refl, ap, subst}
 use mathlib.Core.Logic.{inl, inr}
 use mathlib.Core.List.{List, [], _∷_}
 use native.Mathlib.Omega.{arith}
@@ -17,14 +17,17 @@ use Rattle.model.specs.Refusals.{firstOf, setUpRefusals}
 use Rattle.model.specs.Calls as Calls
 use Rattle.model.specs.Calls.{done, Outcome, NoList, NoValue}
 use Rattle.sure.proofs.Refused.{setUp-kept}
+use Rattle.keptbring.proofs.Facts.{all-map}
 use Rattle.keptcalls.proofs.Accepted.{unless-done, set-up-fits}
 use Rattle.keptcalls.proofs.Stores.{store-sound}
 use Rattle.keptcalls.proofs.Calls as Kept
 use Rattle.model.specs.Blocks.{Holds}
+use Rattle.history.specs.Names.{nameOf}
 use Rattle.history.specs.History.{Call, setUp, resolve, insert, storeInsert, storeUsed, storeRemove, storeExpire, pinSource, unpinSource, lookup, storeHeld, storeCapacity, storePinned, storeAvailable, sourceVersion, pinStalls, bySetUp, replyOf, History, next, tell, since, run, nothing, Exactly, Steps, runAll, sinceAll}
 use Rattle.history.proofs.Exact.{real-held, same-block, Exact, still}
 use Rattle.history.proofs.Steps.{each-way, unless-at, none-where, storeInsert-exact, storeRemove-exact, storeExpire-exact, storeUsed-exact, pin-exact, unpin-exact}
 use Rattle.history.proofs.Insert.{insert-exact}
+use Rattle.history.proofs.Number.{namesOf, names-length, names-held, held-names, names-once}
 
 -- ---- set-up
 
@@ -151,6 +154,25 @@ held-is : (st : State) (q : ℕ) → heldOf st q ≡ storeOf st q .book .held
 unfolding storeOf
 held-is st q = refl
 
+exactly : (st : State) (h : History) (q : ℕ) → Sound st → Exact st h → q < storesOf st → Exactly st h q
+exactly st h q s x l =
+    let own = store-sound st q s l in
+    let rs = storeOf st q .ranges in
+    let two : (n o m p : ℕ) → Holds rs n o → Holds rs m p → nameOf (st .tree) n o ≡ nameOf (st .tree) m p → (n ≡ m) × (o ≡ p) =
+    λ n o m p a b. same-block st s n o m p (real-held st q s l n o a) (real-held st q s l m p b)
+    in
+    record {
+      sorted = own .ranges .sorted;
+      filled = all-map (λ r i. i .filled) rs (own .ranges .inside);
+      only = λ w. x .only q w l;
+      all = λ w y. x .all q w y .1;
+      names = namesOf (st .tree) rs;
+      theirs = λ w. (names-held (st .tree) rs w, λ y. held-names (st .tree) rs (y .node) (y .offset) w (y .is) (y .name));
+      once = names-once (st .tree) rs (own .ranges .sorted) two;
+      held = omega (arith, names-length (st .tree) rs, own .held, held-is st q);
+      named = two;
+    }
+
 start-exact : (pools : State) (table capacity : List ℕ) (refreshes : List Bool) → Calls.setUp pools table capacity refreshes .answer ≡ done tt
     → Exact (Calls.setUp pools table capacity refreshes .state) nothing
 unfolding Calls.setUp
@@ -165,16 +187,6 @@ pub history : (pools : State) (table capacity : List ℕ) (refreshes : List Bool
     → Exactly (runAll (Calls.setUp pools table capacity refreshes .state) cs) (sinceAll nothing (Calls.setUp pools table capacity refreshes .state) cs) q
 history pools table capacity refreshes e cs q l =
     let s = Kept.setUp-sound pools table capacity refreshes e in
-    let st = Calls.setUp pools table capacity refreshes .state in
-    let x = run-all-exact st cs nothing s (start-exact pools table capacity refreshes e) in
-    let own = store-sound (runAll st cs) q (run-all-sound st cs s) l in
-    record {
-      sorted = own .ranges .sorted;
-      held = held-is (runAll st cs) q ∙ own .held;
-      named =
-          λ n o m p a b.
-          same-block (runAll st cs) (run-all-sound st cs s) n o m p (real-held (runAll st cs) q (run-all-sound st cs s) l n o a)
-          (real-held (runAll st cs) q (run-all-sound st cs s) l m p b);
-      only = λ w. x .only q w l;
-      all = λ w y. x .all q w y .1;
-    }
+    let x = run-all-exact (Calls.setUp pools table capacity refreshes .state) cs nothing s (start-exact pools table capacity refreshes e) in
+    exactly (runAll (Calls.setUp pools table capacity refreshes .state) cs) (sinceAll nothing (Calls.setUp pools table capacity refreshes .state) cs) q
+    (run-all-sound (Calls.setUp pools table capacity refreshes .state) cs s) x l

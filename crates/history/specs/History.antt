@@ -1,21 +1,22 @@
 -- Demand 2's history: what the calls and their answers say was brought in, given out and removed, by name. Assumes nothing.
 use Prim.Native.Nat.{ℕ, _≤_, _<_}
 use mathlib.Core.Bool.{Bool}
-use mathlib.Core.Logic.{_⊎_}
+use mathlib.Core.Logic.{_⊎_, _↔_}
 use mathlib.Core.Path.{_≡_}
 use mathlib.Core.List.{List, [], _∷_}
+use lib.ListN.{length}
 use lib.Ieee.{Float}
 use Rattle.model.specs.declared.Span.{Span}
 use Rattle.model.specs.declared.BringAnswer.{BringAnswer}
 use Rattle.model.specs.declared.RemoveAnswer.{RemoveAnswer}
 use Rattle.model.specs.declared.ExpireAnswer.{ExpireAnswer}
-use Rattle.model.specs.State.{Tree, State, Range, at, heldOf}
-use Rattle.model.specs.Store.{storeOf, total}
+use Rattle.model.specs.State.{Tree, State, at, heldOf}
+use Rattle.model.specs.Store.{storeOf}
 use Rattle.model.specs.Refusals.{PathList, OutList}
 use Rattle.model.specs.Calls as Calls
 use Rattle.model.specs.Calls.{Outcome, Answer, refused, done, NoList, NoValue, LookupLists}
-use Rattle.kept.specs.Facts.{Sorted}
-use Rattle.model.specs.Blocks.{Holds, InSpan}
+use Rattle.kept.specs.Facts.{All, InOrder, Sorted}
+use Rattle.model.specs.Blocks.{Filled, Holds, InSpan}
 use Rattle.history.specs.Names.{nameOf, Named, Stored}
 
 -- a public call with its arguments, answer lists among them
@@ -157,17 +158,26 @@ sinceAll h st (c ∷ cs) = sinceAll (since h st c) (run st c) cs
 abbrev pub nothing : History
 nothing q w = ⊥
 
--- how many blocks ranges hold that are sorted and disjoint
-abbrev pub number : List Range → ℕ
-number rs = total rs
+-- the list has the name w
+unfoldable pub Has : List ℕ → List (List ℕ) → Type 0
+Has w [] = ⊥
+Has w (v ∷ vs) = (v ≡ w) ⊎ Has w vs
 
--- store q as demand 2 has it: "each store's ranges are sorted and disjoint and hold exactly the blocks .. ; held is their number"; two blocks that it holds
--- have two names, so that the named blocks are as many
+-- no name comes twice
+abbrev pub NoTwo : List (List ℕ) → Type 0
+NoTwo ns = InOrder (λ v w. v ≡ w → ⊥) ns
+
+-- store q as demand 2 has it: "each store's ranges are sorted and disjoint and hold exactly the blocks .. ; held is their number". So a list of their names,
+-- each once, is as long as held; and two blocks have two names
 pub record Exactly (st : State) (h : History) (q : ℕ) : Type 0 where
   pub sorted : Sorted (storeOf st q .ranges)
-  pub held : heldOf st q ≡ number (storeOf st q .ranges)
+  pub filled : All Filled (storeOf st q .ranges)
+  pub only : (w : List ℕ) → Stored st q w → h q w
+  pub all : (w : List ℕ) → h q w → Stored st q w
+  pub names : List (List ℕ)
+  pub theirs : (w : List ℕ) → Has w names ↔ Stored st q w
+  pub once : NoTwo names
+  pub held : length names ≡ heldOf st q
   pub named :
       (n o m p : ℕ) → Holds (storeOf st q .ranges) n o → Holds (storeOf st q .ranges) m p → nameOf (st .tree) n o ≡ nameOf (st .tree) m p
       → (n ≡ m) × (o ≡ p)
-  pub only : (w : List ℕ) → Stored st q w → h q w
-  pub all : (w : List ℕ) → h q w → Stored st q w
