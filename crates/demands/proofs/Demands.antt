@@ -3,85 +3,72 @@
 use Prim.Native.Nat.{ℕ, _≤_, _<_}
 use mathlib.Core.Bool.{Bool}
 use mathlib.Core.Path.{_≡_, refl, sym, ap, subst, _∙_}
-use mathlib.Core.List.{List, [], _∷_}
+use mathlib.Core.List.{List}
 use lib.Ieee.{Float}
 use Rattle.model.specs.declared.Span.{Span}
 use Rattle.model.specs.declared.ResolveAnswer.{ResolveAnswer}
-use Rattle.model.specs.declared.BringAnswer.{BringAnswer}
-use Rattle.model.specs.State.{State, at, storesOf}
+use Rattle.model.specs.State.{State, storesOf}
 use Rattle.model.specs.Sound.{Sound}
 use Rattle.model.specs.Tree.{blocks}
-use Rattle.model.specs.Tree as Trees
 use Rattle.model.specs.Chained.{Chained, LongestStored}
-use Rattle.model.specs.Store.{storeOf}
-use Rattle.model.specs.Refusals.{firstOf, PathList, OutList, resolveRefusals}
+use Rattle.model.specs.Refusals.{PathList, OutList}
 use Rattle.model.specs.Calls as Calls
-use Rattle.model.specs.Calls.{Outcome, Answer, refused, done, unless, NoList, LookupLists}
+use Rattle.model.specs.Calls.{Answer, done, NoList}
 use Rattle.sure.proofs.Refused.{resolve-kept}
 use Rattle.prefix.proofs.Prefix.{resolve-longest}
 use Rattle.keptcalls.proofs.Accepted.{unless-done, is-sound}
-use Rattle.model.specs.Blocks.{Holds}
 use Rattle.answers.specs.declared.Plain.{Plain}
 use Rattle.answers.specs.declared.Resolved.{Resolved}
 use Rattle.answers.specs.declared.StoreInserted.{StoreInserted}
-use Rattle.answers.specs.declared.Looked.{Looked}
 use Rattle.answers.specs.Answers.{outcome, plainOf, resolvedOf, storeInsertedOf, lookedOf}
 use Rattle.outcomes.specs.Settled.{World, Left, stateIn, Allows}
-use Rattle.history.specs.History.{Call, setUp, resolve, insert, storeInsert, storeUsed, storeRemove, storeExpire, pinSource, unpinSource, lookup, storeHeld, storeCapacity, storePinned, storeAvailable, sourceVersion, pinStalls, after, run, Steps, runAll, sinceAll, nothing, Exactly}
+use Rattle.history.specs.History.{Call, Reply, History, tell, run, since, Steps, runAll, sinceAll, nothing, Exactly}
 use Rattle.history.proofs.History.{history}
-use Rattle.room.specs.Room.{ButCapacity, Alike, blocksIn, MoreRoom}
+use Rattle.room.specs.Room.{ButCapacity}
 use Rattle.room.proofs.Room.{more-room}
-use Rattle.demands.specs.Calls.{Leaves, May, Ran, rest, call, Made, end, made, RoomForReading, covered}
+use Rattle.demands.specs.Calls.{leftBy, Ran, rest, call, Made, end, made, told, toldAll, RoomForReading, covered}
 
 -- ---- history (demand 2)
 
-leaves-is : {L A B : Type 0} {f : B → Answer A} {o : Outcome L A} {st : State} → Leaves f o st → o .state ≡ st
-leaves-is k = sym (ap (λ z. z .state) (k .allowed)) ∙ k .state
-
-may-is : (c : Call) (st st′ : State) → May c st st′ → after c st ≡ st′
-unfolding after
-may-is (setUp table capacity refreshes) st st′ k = leaves-is k
-may-is (resolve l hs) st st′ k = leaves-is k
-may-is (insert l hs) st st′ k = leaves-is k
-may-is (storeInsert l s sp time write) st st′ k = leaves-is k
-may-is (storeUsed s sps time counted) st st′ k = leaves-is k
-may-is (storeRemove l s sp) st st′ k = leaves-is k
-may-is (storeExpire l s now seconds) st st′ k = leaves-is k
-may-is (pinSource s sp) st st′ k = leaves-is k
-may-is (unpinSource s sp) st st′ k = leaves-is k
-may-is (lookup l ts hs) st st′ k = leaves-is k
-may-is (storeHeld s) st st′ k = leaves-is k
-may-is (storeCapacity s) st st′ k = leaves-is k
-may-is (storePinned s) st st′ k = leaves-is k
-may-is (storeAvailable s) st st′ k = leaves-is k
-may-is (sourceVersion s) st st′ k = leaves-is k
-may-is pinStalls st st′ k = leaves-is k
-
-ran-is : {st st′ : State} {cs : List Call} → Ran st cs st′ → run st cs ≡ st′
+ran-is : {st st₁ : State} {cs : List Call} → Ran st cs st₁ → run st cs ≡ st₁
 unfolding run
 ran-is rest = refl
-ran-is {st} (call {st₁ = st₁} {cs = cs} c k h) = ap (λ z. run z cs) (may-is c st st₁ k) ∙ ran-is h
+ran-is (call {cs = cs} c k r) = ap (λ z. run z cs) (sym (ap (λ z. z .state) (k .allowed))) ∙ ran-is r
 
-made-is : {st st′ : State} {cs : List Steps} → Made st cs st′ → runAll st cs ≡ st′
+-- what a call left is the reply of the definitions, so both tell one history
+told-is : {st st₁ : State} {cs : List Call} (r : Ran st cs st₁) (h : History) → told r h ≡ since h st cs
+unfolding told since
+told-is rest h = refl
+told-is (call {st = st} {cs = cs} c k r) h =
+    told-is r (tell c (st .tree) (leftBy k) h) ∙ ap (λ (z : Reply c). since (tell c (st .tree) z h) (z .state) cs) (k .allowed)
+
+made-is : {st st₁ : State} {cs : List Steps} → Made st cs st₁ → runAll st cs ≡ st₁
 unfolding runAll
 made-is end = refl
-made-is (made {cs = cs} c k h) = ap (λ z. runAll z cs) (ran-is k) ∙ made-is h
+made-is (made {cs = cs} c r m) = ap (λ z. runAll z cs) (ran-is r) ∙ made-is m
+
+told-all-is : {st st₁ : State} {cs : List Steps} (m : Made st cs st₁) (h : History) → toldAll m h ≡ sinceAll h st cs
+unfolding toldAll sinceAll
+told-all-is end h = refl
+told-all-is (made {st = st} {st₁ = st₁} {cs = cs} c r m) h =
+    told-all-is m (told r h)
+    ∙ (ap (λ (z : History). sinceAll z st₁ cs) (told-is r h) ∙ ap (λ z. sinceAll (since h st c) z cs) (sym (ran-is r)))
 
 -- "After any calls from set-up, each store's ranges are sorted and disjoint and hold exactly the blocks brought in and not since given out or removed; held
 -- is their number"
 pub history-of-calls : (pools : State) (table capacity : List ℕ) (refreshes : List Bool) (x : Left NoList Plain)
     → Allows plainOf (Calls.setUp pools table capacity refreshes) x
     → plainOf (x .answer) ≡ done tt
-    → (cs : List Steps) (st : State)
-    → Made (stateIn (x .world)) cs st
-    → (q : ℕ)
+    → (cs : List Steps) (st : State) (m : Made (stateIn (x .world)) cs st) (q : ℕ)
     → q < storesOf st
-    → Exactly st (sinceAll nothing (stateIn (x .world)) cs) q
-history-of-calls pools table capacity refreshes x k e cs st h =
-    let s : Calls.setUp pools table capacity refreshes .state ≡ stateIn (x .world) = sym (ap (λ z. z .state) k) in
-    subst (λ z. (q : ℕ) → q < storesOf z → Exactly z (sinceAll nothing (stateIn (x .world)) cs) q) (made-is h)
-    (subst (λ z. (q : ℕ) → q < storesOf (runAll z cs) → Exactly (runAll z cs) (sinceAll nothing z cs) q) s
-    (history pools table capacity refreshes (sym (ap (λ z. z .answer) k) ∙ e) cs))
+    → Exactly st (toldAll m nothing) q
+history-of-calls pools table capacity refreshes x k e cs st m q l =
+    let first : Calls.setUp pools table capacity refreshes .state ≡ stateIn (x .world) = sym (ap (λ z. z .state) k) in
+    let made : runAll (stateIn (x .world)) cs ≡ st = made-is m in
+    subst (λ (h : History). Exactly st h q) (sym (told-all-is m nothing))
+    (subst (λ z. q < storesOf z → Exactly z (sinceAll nothing (stateIn (x .world)) cs) q) made
+    (subst (λ z. q < storesOf (runAll z cs) → Exactly (runAll z cs) (sinceAll nothing z cs) q) first
+    (history pools table capacity refreshes (sym (ap (λ z. z .answer) k) ∙ e) cs q)) l)
 
 -- ---- the longest prefix (demand 2)
 

@@ -1,7 +1,7 @@
 -- A history is exact where each store holds just the blocks it names. A call that leaves the tree keeps it so where it holds what it held or brought in and
 -- did not give up; a call that only moves blocks keeps it so where no name changes. Assumes nothing.
-use Prim.Native.Nat.{ℕ, zero, suc, _+_, _≤_, _<_, zero-le}
-use mathlib.Core.Path.{_≡_, refl, sym, ap, subst, _∙_}
+use Prim.Native.Nat.{ℕ, zero, suc, _≤_, _<_, zero-le}
+use mathlib.Core.Path.{_≡_, sym, ap, subst, _∙_}
 use mathlib.Core.Logic.{_⊎_, inl, inr, ⊎-elim}
 use mathlib.Core.List.{List, [], _∷_}
 use native.Mathlib.Omega.{arith}
@@ -15,7 +15,7 @@ use Rattle.kept.specs.StoreSound.{TreeSound, Parts}
 use Rattle.keptstate.proofs.Parts.{sound-parts}
 use Rattle.model.specs.Blocks.{Holds, InSpan}
 use Rattle.history.specs.Names.{nameOf, Named, Stored}
-use Rattle.history.specs.History.{Call, after, BroughtIn, Gone, History, next}
+use Rattle.history.specs.History.{Report, silent, History, next}
 use Rattle.history.proofs.Names.{same-name}
 
 -- ---- blocks of the tree
@@ -58,19 +58,19 @@ pub record Exact (st : State) (h : History) : Type 0 where
   pub only : (q : ℕ) (w : List ℕ) → q < storesOf st → Stored st q w → h q w
   pub all : (q : ℕ) (w : List ℕ) → h q w → (q < storesOf st) × Stored st q w
 
--- what a call that leaves the tree does to the blocks of each store
-pub record Changes (c : Call) (a b : State) : Type 0 where
+-- what a call that leaves the tree and reports `rep` does to the blocks of each store
+pub record Changes (rep : Report) (a b : State) : Type 0 where
   pub tree : b .tree ≡ a .tree
   pub stores : storesOf b ≡ storesOf a
-  pub came : (q n o : ℕ) → q < storesOf a → Holds (storeOf b q .ranges) n o → Holds (storeOf a q .ranges) n o ⊎ BroughtIn c a q n o
-  pub stayed : (q n o : ℕ) → q < storesOf a → Holds (storeOf b q .ranges) n o → Gone c a q n o → ⊥
+  pub came : (q n o : ℕ) → q < storesOf a → Holds (storeOf b q .ranges) n o → Holds (storeOf a q .ranges) n o ⊎ rep .broughtIn q n o
+  pub stayed : (q n o : ℕ) → q < storesOf a → Holds (storeOf b q .ranges) n o → rep .gone q n o → ⊥
   pub kept :
-      (q n o : ℕ) → q < storesOf a → Holds (storeOf a q .ranges) n o ⊎ BroughtIn c a q n o → (Gone c a q n o → ⊥) → Holds (storeOf b q .ranges) n o
-  pub inUse : (q n o : ℕ) → BroughtIn c a q n o → q < storesOf a
-  pub goneReal : (q n o : ℕ) → Gone c a q n o → Real (a .tree) n o
+      (q n o : ℕ) → q < storesOf a → Holds (storeOf a q .ranges) n o ⊎ rep .broughtIn q n o → (rep .gone q n o → ⊥) → Holds (storeOf b q .ranges) n o
+  pub inUse : (q n o : ℕ) → rep .broughtIn q n o → q < storesOf a
+  pub goneReal : (q n o : ℕ) → rep .gone q n o → Real (a .tree) n o
 
-module _ (c : Call) (a b : State) (h : History) (s : Sound a) (t : Sound b) (k : Changes c a b) (e : Exact a h) where
-  only-of : (q : ℕ) (w : List ℕ) → q < storesOf b → Stored b q w → next c a h q w
+module _ (rep : Report) (a b : State) (h : History) (s : Sound a) (t : Sound b) (k : Changes rep a b) (e : Exact a h) where
+  only-of : (q : ℕ) (w : List ℕ) → q < storesOf b → Stored b q w → next (a .tree) rep h q w
   only-of q w l x =
       let less : q < storesOf a = rw (k .stores) at l in
       let n = x .node in
@@ -81,11 +81,11 @@ module _ (c : Call) (a b : State) (h : History) (s : Sound a) (t : Sound b) (k :
             (λ y. inr (record { node = n; offset = o; is = y; name = name })) (k .came q n o less (x .is)),
         λ g.
             let same = same-block a s (g .node) (g .offset) n o (k .goneReal q (g .node) (g .offset) (g .is)) there (g .name ∙ sym name) in
-            k .stayed q n o less (x .is) (subst (Gone c a q n) (same .1) (subst (λ z. Gone c a q z (g .offset)) (same .0) (g .is))),
+            k .stayed q n o less (x .is) (subst (rep .gone q n) (same .1) (subst (λ z. rep .gone q z (g .offset)) (same .0) (g .is))),
       )
 
-  back : (q : ℕ) (w : List ℕ) (P : ℕ → ℕ → Type 0) → q < storesOf a → ((n o : ℕ) → P n o → Holds (storeOf a q .ranges) n o ⊎ BroughtIn c a q n o)
-      → Named (a .tree) P w → (Named (a .tree) (Gone c a q) w → ⊥) → (q < storesOf b) × Stored b q w
+  back : (q : ℕ) (w : List ℕ) (P : ℕ → ℕ → Type 0) → q < storesOf a → ((n o : ℕ) → P n o → Holds (storeOf a q .ranges) n o ⊎ rep .broughtIn q n o)
+      → Named (a .tree) P w → (Named (a .tree) (rep .gone q) w → ⊥) → (q < storesOf b) × Stored b q w
   back q w P less f x g = (
     rw (k .stores) less,
     record {
@@ -97,30 +97,36 @@ module _ (c : Call) (a b : State) (h : History) (s : Sound a) (t : Sound b) (k :
     },
   )
 
-  all-of : (q : ℕ) (w : List ℕ) → next c a h q w → (q < storesOf b) × Stored b q w
+  all-of : (q : ℕ) (w : List ℕ) → next (a .tree) rep h q w → (q < storesOf b) × Stored b q w
   all-of q w (inl x, g) = let y = e .all q w x in back q w (Holds (storeOf a q .ranges)) (y .0) (λ n o z. inl z) (y .1) g
-  all-of q w (inr x, g) = back q w (BroughtIn c a q) (k .inUse q (x .node) (x .offset) (x .is)) (λ n o z. inr z) x g
+  all-of q w (inr x, g) = back q w (rep .broughtIn q) (k .inUse q (x .node) (x .offset) (x .is)) (λ n o z. inr z) x g
 
-  pub changes-exact : Exact b (next c a h)
+  pub changes-exact : Exact b (next (a .tree) rep h)
   changes-exact = record { only = only-of; all = all-of }
 
--- a call that brings nothing in and gives nothing up, and after which every store has the names it had
-pub record Moves (c : Call) (a b : State) : Type 0 where
-  pub none : (q n o : ℕ) → BroughtIn c a q n o → ⊥
-  pub nothing : (q n o : ℕ) → Gone c a q n o → ⊥
+-- every store has in b the names that it has in a
+pub record Renames (a b : State) : Type 0 where
   pub stores : storesOf b ≡ storesOf a
   pub came : (q : ℕ) (w : List ℕ) → q < storesOf a → Stored b q w → Stored a q w
   pub kept : (q : ℕ) (w : List ℕ) → q < storesOf a → Stored a q w → Stored b q w
 
-pub moves-exact : (c : Call) (a b : State) (h : History) → Moves c a b → Exact a h → Exact b (next c a h)
-moves-exact c a b h k e =
+pub renames-exact : (a b : State) (h : History) → Renames a b → Exact a h → Exact b (next (a .tree) silent h)
+renames-exact a b h k e =
     record {
       only =
           λ q w l x.
-          let less : q < storesOf a = rw (k .stores) at l in
-          (inl (e .only q w less (k .came q w less x)), λ g. k .nothing q (g .node) (g .offset) (g .is));
+          let less : q < storesOf a = rw (k .stores) at l in (inl (e .only q w less (k .came q w less x)), λ g. g .is);
       all =
           λ q w x.
-          ⊎-elim (λ y. let z = e .all q w y in (rw (k .stores) (z .0), k .kept q w (z .0) (z .1)))
-          (λ y. absurd (k .none q (y .node) (y .offset) (y .is))) (x .0);
+          ⊎-elim (λ y. let z = e .all q w y in (rw (k .stores) (z .0), k .kept q w (z .0) (z .1))) (λ y. absurd (y .is)) (x .0);
     }
+
+-- a call that leaves the state as it was and tells of no block
+pub still : (a b : State) (h : History) → b ≡ a → Exact a h → Exact b (next (a .tree) silent h)
+still a b h e =
+    renames-exact a b h
+    (record {
+      stores = ap (λ x. storesOf x) e;
+      came = λ q w l x. subst (λ z. Stored z q w) e x;
+      kept = λ q w l x. subst (λ z. Stored z q w) (sym e) x;
+    })

@@ -1,34 +1,33 @@
 -- Demand 2's history: after any calls from set-up, accepted or refused, each store's ranges are sorted and disjoint and hold exactly the blocks brought in
 -- and not since given out or removed, and held is their number. Assumes nothing.
-use Prim.Native.Nat.{ℕ, zero, suc, _+_, _≤_, _<_, zero-le}
+use Prim.Native.Nat.{ℕ, zero, suc, _<_}
 use mathlib.Core.Bool.{Bool}
-use mathlib.Core.Path.{_≡_, refl, sym, ap, subst, _∙_}
-use mathlib.Core.Logic.{_⊎_, inl, inr, ⊎-elim}
+use mathlib.Core.Path.{_≡_, refl, ap, subst}
+use mathlib.Core.Logic.{inl, inr}
 use mathlib.Core.List.{List, [], _∷_}
 use native.Mathlib.Omega.{arith}
-use lib.ListN.{length, replicate}
-use Rattle.model.specs.State.{State, Range, at, storesOf, heldOf}
+use Rattle.model.specs.State.{State, storesOf, heldOf}
 use Rattle.model.specs.Sound.{Sound}
-use Rattle.model.specs.Store.{storeOf, ranges, total}
+use Rattle.model.specs.Store.{storeOf, ranges}
 use Rattle.model.specs.declared.Book.{Book}
 use Rattle.model.specs.Sizes.{maxStores}
 use Rattle.model.specs.SetUp.{SetUpFits, setUpState}
 use Rattle.laid.proofs.SetUp.{new-book}
 use Rattle.model.specs.Refusals.{firstOf, setUpRefusals}
 use Rattle.model.specs.Calls as Calls
-use Rattle.model.specs.Calls.{Answer, refused, done, Outcome, NoList, NoValue, unless}
+use Rattle.model.specs.Calls.{done, Outcome, NoList, NoValue}
 use Rattle.sure.proofs.Refused.{setUp-kept}
-use Rattle.kept.specs.StoreSound.{StoreSound}
+use Rattle.keptbring.proofs.Facts.{all-map}
 use Rattle.keptcalls.proofs.Accepted.{unless-done, set-up-fits}
 use Rattle.keptcalls.proofs.Stores.{store-sound}
 use Rattle.keptcalls.proofs.Calls as Kept
-use Rattle.laid.proofs.SetUp as Set
 use Rattle.model.specs.Blocks.{Holds}
-use Rattle.history.specs.Names.{Named, Stored}
-use Rattle.history.specs.History.{Call, setUp, resolve, insert, storeInsert, storeUsed, storeRemove, storeExpire, pinSource, unpinSource, lookup, storeHeld, storeCapacity, storePinned, storeAvailable, sourceVersion, pinStalls, after, IfDone, BroughtIn, Gone, History, next, since, run, nothing, Exactly, Steps, runAll, sinceAll}
-use Rattle.history.proofs.Exact.{real-held, same-block, Exact}
-use Rattle.history.proofs.Steps.{still, unless-at, none-where, storeInsert-exact, storeRemove-exact, storeExpire-exact, storeUsed-exact, pin-exact, unpin-exact}
+use Rattle.history.specs.Names.{nameOf}
+use Rattle.history.specs.History.{Call, setUp, resolve, insert, storeInsert, storeUsed, storeRemove, storeExpire, pinSource, unpinSource, lookup, storeHeld, storeCapacity, storePinned, storeAvailable, sourceVersion, pinStalls, bySetUp, replyOf, History, next, tell, since, run, nothing, Exactly, Steps, runAll, sinceAll}
+use Rattle.history.proofs.Exact.{real-held, same-block, Exact, still}
+use Rattle.history.proofs.Steps.{each-way, unless-at, none-where, storeInsert-exact, storeRemove-exact, storeExpire-exact, storeUsed-exact, pin-exact, unpin-exact}
 use Rattle.history.proofs.Insert.{insert-exact}
+use Rattle.history.proofs.Number.{namesOf, names-length, names-held, held-names, names-once}
 
 -- ---- set-up
 
@@ -50,10 +49,6 @@ module _ (a : State) (table capacity : List ℕ) (refreshes : List Bool) where
   made : Outcome NoList NoValue
   made = record { state = setUpState a table capacity refreshes; lists = tt; answer = done tt }
 
-  outcome-is : (n : ℕ) → n₀ ≡ n → Calls.setUp a table capacity refreshes ≡ unless n a tt made
-  unfolding Calls.setUp made
-  outcome-is n e = unless-at n₀ n a tt made e
-
   fits : n₀ ≡ 0 → SetUpFits a table capacity refreshes
   unfolding Calls.setUp
   fits e = set-up-fits a table capacity refreshes (none-where _ _ _ (setUp-kept a table capacity refreshes) e .0)
@@ -68,54 +63,35 @@ module _ (a : State) (table capacity : List ℕ) (refreshes : List Bool) where
       }
 
   module _ (h : History) (exact : Exact a h) where
-    abbrev c : Call
-    c = setUp table capacity refreshes
-
-    set-refused : (n : ℕ) → n₀ ≡ suc n → Exact (Calls.setUp a table capacity refreshes .state) (next c a h)
-    unfolding BroughtIn Gone
-    set-refused n e =
-        let is = outcome-is (suc n) e in
-        still c a (Calls.setUp a table capacity refreshes .state) h (ap (λ (z : Outcome NoList NoValue). z .state) is) (λ q v o x. x)
-        (λ q v o x. subst (λ (z : Outcome NoList NoValue). IfDone (z .answer) (λ k. Unit {0})) is x) exact
-
-    all-gone : n₀ ≡ 0 → (q v o : ℕ) → Gone c a q v o
-    unfolding Gone made
-    all-gone e q v o = subst (λ (z : Outcome NoList NoValue). IfDone (z .answer) (λ k. Unit {0})) (sym (outcome-is 0 e)) tt
-
-    emptied : n₀ ≡ 0 → (q : ℕ) (w : List ℕ) → next c a h q w → ⊥
-    unfolding BroughtIn
-    emptied e q w (inl x, g) =
-        let y = exact .all q w x .1 in
-        g (record { node = y .node; offset = y .offset; is = all-gone e q (y .node) (y .offset); name = y .name })
-    emptied e q w (inr x, g) = x .is
-
-    set-accepted : n₀ ≡ 0 → Exact (Calls.setUp a table capacity refreshes .state) (next c a h)
+    emptied : (q : ℕ) (w : List ℕ) → next (a .tree) (bySetUp made) h q w → ⊥
     unfolding made
-    set-accepted e =
-        subst (λ (z : Outcome NoList NoValue). Exact (z .state) (next c a h)) (sym (outcome-is 0 e)) (fresh-exact (fits e) (next c a h) (emptied e))
+    emptied q w (inl x, g) = let y = exact .all q w x .1 in g (record { node = y .node; offset = y .offset; is = tt; name = y .name })
+    emptied q w (inr x, g) = x .is
 
-    setUp-exact : Exact (Calls.setUp a table capacity refreshes .state) (next c a h)
-    setUp-exact = go n₀ refl
-      where
-        go : (n : ℕ) → n₀ ≡ n → Exact (Calls.setUp a table capacity refreshes .state) (next c a h)
-        go zero e = set-accepted e
-        go (suc n) e = set-refused n e
+    set-accepted : n₀ ≡ 0 → Exact (made .state) (next (a .tree) (bySetUp made) h)
+    unfolding made
+    set-accepted e = fresh-exact (fits e) (next (a .tree) (bySetUp made) h) emptied
 
-  accepted-sound : n₀ ≡ 0 → Sound (Calls.setUp a table capacity refreshes .state)
-  unfolding made
-  accepted-sound e = Kept.setUp-sound a table capacity refreshes (ap (λ (z : Outcome NoList NoValue). z .answer) (outcome-is 0 e))
+    setUp-exact : Exact (Calls.setUp a table capacity refreshes .state) (next (a .tree) (bySetUp (Calls.setUp a table capacity refreshes)) h)
+    unfolding Calls.setUp made
+    setUp-exact =
+        each-way (λ (r : Outcome NoList NoValue). Exact (r .state) (next (a .tree) (bySetUp r) h)) n₀ a tt made set-accepted
+        (λ m. still a a h refl exact)
+
+  accepted-sound : n₀ ≡ 0 → Sound (made .state)
+  unfolding Calls.setUp made
+  accepted-sound e =
+      let is : Calls.setUp a table capacity refreshes ≡ made = unless-at n₀ 0 a tt made e in
+      subst (λ (r : Outcome NoList NoValue). Sound (r .state)) is
+      (Kept.setUp-sound a table capacity refreshes (ap (λ (r : Outcome NoList NoValue). r .answer) is))
 
   setUp-stays : Sound a → Sound (Calls.setUp a table capacity refreshes .state)
-  setUp-stays s = go n₀ refl
-    where
-      go : (n : ℕ) → n₀ ≡ n → Sound (Calls.setUp a table capacity refreshes .state)
-      go zero e = accepted-sound e
-      go (suc n) e = subst (λ (z : Outcome NoList NoValue). Sound (z .state)) (sym (outcome-is (suc n) e)) s
+  unfolding Calls.setUp made
+  setUp-stays s = each-way (λ (r : Outcome NoList NoValue). Sound (r .state)) n₀ a tt made accepted-sound (λ m. s)
 
 -- ---- any call
 
-call-sound : (c : Call) (a : State) → Sound a → Sound (after c a)
-unfolding after
+call-sound : (c : Call) (a : State) → Sound a → Sound (replyOf c a .state)
 call-sound (setUp table capacity refreshes) a s = setUp-stays a table capacity refreshes s
 call-sound (resolve l hs) a s = Kept.resolve-sound a l hs s
 call-sound (insert l hs) a s = Kept.insert-sound a l hs s
@@ -133,10 +109,9 @@ call-sound (storeAvailable k) a s = Kept.available-sound a k s
 call-sound (sourceVersion k) a s = Kept.version-sound a k s
 call-sound pinStalls a s = Kept.stalls-sound a s
 
-call-exact : (c : Call) (a : State) (h : History) → Sound a → Exact a h → Exact (after c a) (next c a h)
-unfolding after BroughtIn Gone
+call-exact : (c : Call) (a : State) (h : History) → Sound a → Exact a h → Exact (replyOf c a .state) (tell c (a .tree) (replyOf c a) h)
 call-exact (setUp table capacity refreshes) a h s e = setUp-exact a table capacity refreshes h e
-call-exact (resolve l hs) a h s e = still (resolve l hs) a (Calls.resolveCall a l hs .state) h (Kept.resolve-same a l hs) (λ q n o x. x) (λ q n o x. x) e
+call-exact (resolve l hs) a h s e = still a (Calls.resolveCall a l hs .state) h (Kept.resolve-same a l hs) e
 call-exact (insert l hs) a h s e = insert-exact a l hs h s e
 call-exact (storeInsert l k sp time write) a h s e = storeInsert-exact a l k sp time write h s e
 call-exact (storeUsed k sps time counted) a h s e = storeUsed-exact a k sps time counted h s e
@@ -144,26 +119,25 @@ call-exact (storeRemove l k sp) a h s e = storeRemove-exact a l k sp h s e
 call-exact (storeExpire l k now seconds) a h s e = storeExpire-exact a l k now seconds h s e
 call-exact (pinSource k sp) a h s e = pin-exact a k sp h s e
 call-exact (unpinSource k sp) a h s e = unpin-exact a k sp h s e
-call-exact (lookup l ts hs) a h s e =
-    still (lookup l ts hs) a (Calls.lookup a l ts hs .state) h (Kept.lookup-same a l ts hs) (λ q n o x. x) (λ q n o x. x) e
-call-exact (storeHeld k) a h s e = still (storeHeld k) a (Calls.heldCall a k .state) h (Kept.held-same a k) (λ q n o x. x) (λ q n o x. x) e
-call-exact (storeCapacity k) a h s e = still (storeCapacity k) a (Calls.capacityCall a k .state) h (Kept.capacity-same a k) (λ q n o x. x) (λ q n o x. x) e
-call-exact (storePinned k) a h s e = still (storePinned k) a (Calls.pinnedCall a k .state) h (Kept.pinned-same a k) (λ q n o x. x) (λ q n o x. x) e
-call-exact (storeAvailable k) a h s e = still (storeAvailable k) a (Calls.availableCall a k .state) h (Kept.available-same a k) (λ q n o x. x) (λ q n o x. x) e
-call-exact (sourceVersion k) a h s e = still (sourceVersion k) a (Calls.versionCall a k .state) h (Kept.version-same a k) (λ q n o x. x) (λ q n o x. x) e
-call-exact pinStalls a h s e = still pinStalls a (Calls.stallsCall a .state) h (Kept.stalls-same a) (λ q n o x. x) (λ q n o x. x) e
+call-exact (lookup l ts hs) a h s e = still a (Calls.lookup a l ts hs .state) h (Kept.lookup-same a l ts hs) e
+call-exact (storeHeld k) a h s e = still a (Calls.heldCall a k .state) h (Kept.held-same a k) e
+call-exact (storeCapacity k) a h s e = still a (Calls.capacityCall a k .state) h (Kept.capacity-same a k) e
+call-exact (storePinned k) a h s e = still a (Calls.pinnedCall a k .state) h (Kept.pinned-same a k) e
+call-exact (storeAvailable k) a h s e = still a (Calls.availableCall a k .state) h (Kept.available-same a k) e
+call-exact (sourceVersion k) a h s e = still a (Calls.versionCall a k .state) h (Kept.version-same a k) e
+call-exact pinStalls a h s e = still a (Calls.stallsCall a .state) h (Kept.stalls-same a) e
 
 -- ---- any calls
 
 pub run-sound : (a : State) (cs : List Call) → Sound a → Sound (run a cs)
 unfolding run
 run-sound a [] s = s
-run-sound a (c ∷ cs) s = run-sound (after c a) cs (call-sound c a s)
+run-sound a (c ∷ cs) s = run-sound (replyOf c a .state) cs (call-sound c a s)
 
 run-exact : (a : State) (cs : List Call) (h : History) → Sound a → Exact a h → Exact (run a cs) (since h a cs)
 unfolding run since
 run-exact a [] h s e = e
-run-exact a (c ∷ cs) h s e = run-exact (after c a) cs (next c a h) (call-sound c a s) (call-exact c a h s e)
+run-exact a (c ∷ cs) h s e = run-exact (replyOf c a .state) cs (tell c (a .tree) (replyOf c a) h) (call-sound c a s) (call-exact c a h s e)
 
 -- the same of calls of several steps
 run-all-sound : (a : State) (cs : List Steps) → Sound a → Sound (runAll a cs)
@@ -180,6 +154,25 @@ held-is : (st : State) (q : ℕ) → heldOf st q ≡ storeOf st q .book .held
 unfolding storeOf
 held-is st q = refl
 
+exactly : (st : State) (h : History) (q : ℕ) → Sound st → Exact st h → q < storesOf st → Exactly st h q
+exactly st h q s x l =
+    let own = store-sound st q s l in
+    let rs = storeOf st q .ranges in
+    let two : (n o m p : ℕ) → Holds rs n o → Holds rs m p → nameOf (st .tree) n o ≡ nameOf (st .tree) m p → (n ≡ m) × (o ≡ p) =
+    λ n o m p a b. same-block st s n o m p (real-held st q s l n o a) (real-held st q s l m p b)
+    in
+    record {
+      sorted = own .ranges .sorted;
+      filled = all-map (λ r i. i .filled) rs (own .ranges .inside);
+      only = λ w. x .only q w l;
+      all = λ w y. x .all q w y .1;
+      names = namesOf (st .tree) rs;
+      theirs = λ w. (names-held (st .tree) rs w, λ y. held-names (st .tree) rs (y .node) (y .offset) w (y .is) (y .name));
+      once = names-once (st .tree) rs (own .ranges .sorted) two;
+      held = omega (arith, names-length (st .tree) rs, own .held, held-is st q);
+      named = two;
+    }
+
 start-exact : (pools : State) (table capacity : List ℕ) (refreshes : List Bool) → Calls.setUp pools table capacity refreshes .answer ≡ done tt
     → Exact (Calls.setUp pools table capacity refreshes .state) nothing
 unfolding Calls.setUp
@@ -194,16 +187,6 @@ pub history : (pools : State) (table capacity : List ℕ) (refreshes : List Bool
     → Exactly (runAll (Calls.setUp pools table capacity refreshes .state) cs) (sinceAll nothing (Calls.setUp pools table capacity refreshes .state) cs) q
 history pools table capacity refreshes e cs q l =
     let s = Kept.setUp-sound pools table capacity refreshes e in
-    let st = Calls.setUp pools table capacity refreshes .state in
-    let x = run-all-exact st cs nothing s (start-exact pools table capacity refreshes e) in
-    let own = store-sound (runAll st cs) q (run-all-sound st cs s) l in
-    record {
-      sorted = own .ranges .sorted;
-      held = held-is (runAll st cs) q ∙ own .held;
-      named =
-          λ n o m p a b.
-          same-block (runAll st cs) (run-all-sound st cs s) n o m p (real-held (runAll st cs) q (run-all-sound st cs s) l n o a)
-          (real-held (runAll st cs) q (run-all-sound st cs s) l m p b);
-      only = λ w. x .only q w l;
-      all = λ w y. x .all q w y .1;
-    }
+    let x = run-all-exact (Calls.setUp pools table capacity refreshes .state) cs nothing s (start-exact pools table capacity refreshes e) in
+    exactly (runAll (Calls.setUp pools table capacity refreshes .state) cs) (sinceAll nothing (Calls.setUp pools table capacity refreshes .state) cs) q
+    (run-all-sound (Calls.setUp pools table capacity refreshes .state) cs s) x l

@@ -1,48 +1,41 @@
 -- An insert changes no name: the cut moves a store's blocks with their names, and the leaf leaves them. Assumes nothing.
-use Prim.Native.Nat.{ℕ, zero, suc, _+_, _-_, _≤_, _<_, zero-le}
+use Prim.Native.Nat.{ℕ, zero, suc, _+_, _-_, _≤_, _<_}
 use mathlib.Core.Bool.{Bool, true, false}
 use mathlib.Core.Path.{_≡_, refl, sym, ap, subst, _∙_}
-use mathlib.Core.Logic.{_⊎_, inl, inr, ⊎-elim, _≢_}
-use mathlib.Core.List.{List, [], _∷_, _++_}
+use mathlib.Core.Logic.{_⊎_, inl, inr}
+use mathlib.Core.List.{List}
 use native.Mathlib.Omega.{arith}
 use native.Mathlib.Decide.{ℕ-discrete}
 use lib.ListN.{length, drop, length-drop}
-use lib.Dec.{ltb}
 use borrow.Author.Tests.{ltb-true, ltb-false}
 use Rattle.model.specs.Words.{Each}
 use Rattle.model.specs.Sizes.{maxNodes, maxWords, maxHashes, maxStamp, storeRecords, storePins}
-use Rattle.model.specs.State.{Tree, State, Range, at, storesOf, nextIdOf, recordsOf, entriesOf, bookIn}
+use Rattle.model.specs.State.{Tree, State, at, storesOf, nextIdOf, recordsOf, entriesOf, bookIn}
 use Rattle.model.specs.Sound.{Sound}
 use Rattle.model.specs.Tree.{Seg, blocks}
 use Rattle.model.specs.Tree as Trees
 use Rattle.model.specs.Store.{storeOf, lay, plus, layCounts}
-use Rattle.model.specs.Insert.{nextNode, heads, tails, pinsAcross, cutTree, addLeaf, matchEnd, adds, endsInside, withTree, withLeaf, cut, cutFirst, grow, insertPath}
+use Rattle.model.specs.Insert.{nextNode, pinsAcross, cutTree, addLeaf, matchEnd, adds, endsInside, withTree, withLeaf, cut, cutFirst, grow, insertPath}
 use Rattle.model.specs.Refusals.{firstOf, PathList, nodeNeed, newBlocks, cuts, cutRecords, cutEntries, cutIds, insertRefusals}
 use Rattle.model.specs.Calls as Calls
-use Rattle.model.specs.Calls.{Outcome, done, unless}
+use Rattle.model.specs.Calls.{done, unless}
 use Rattle.sure.proofs.Refused.{insert-kept}
-use Rattle.kept.specs.StoreSound.{TreeSound, StoreSound, Parts}
+use Rattle.kept.specs.StoreSound.{TreeSound, Parts}
 use Rattle.keptcut.proofs.CutTree.{CutTo, cut-to, cutTree-sound}
-use Rattle.keptcut.proofs.Leaf.{LeafTo, leaf-to}
-use Rattle.keptcut.proofs.Insert.{EndsAt, match-end, leaf-here, leaf-cut, cut-tree}
+use Rattle.keptcut.proofs.Leaf.{leaf-to}
+use Rattle.keptcut.proofs.Insert.{match-end, leaf-here, leaf-cut, cut-tree}
 use Rattle.keptstate.proofs.Parts.{sound-parts}
-use Rattle.keptstate.proofs.Cut.{needs, sumTo, AfterCut, records-counted, entries-counted, ids-counted}
+use Rattle.keptstate.proofs.Cut.{needs, sumTo, records-counted, entries-counted, ids-counted}
 use Rattle.keptcalls.proofs.Accepted.{NoneHolds, each-fits}
 use Rattle.keptcalls.proofs.Insert.{after-cut}
 use Rattle.model.specs.Blocks.{Holds}
-use Rattle.history.specs.Names.{nameOf, Named, Stored}
-use Rattle.history.specs.History.{Call, insert, BroughtIn, Gone, History, next}
+use Rattle.history.specs.Names.{nameOf, Stored}
+use Rattle.history.specs.History.{silent, History, next}
 use Rattle.history.proofs.Grown.{leaf-name, stay-name, move-name}
 use Rattle.history.proofs.Blocks.{lt-or-le, cut-holds, cut-stays, cut-moves}
 use Rattle.history.proofs.CutStores.{WasCut, stores-cut}
-use Rattle.history.proofs.Exact.{Real, real-parts, Exact, Moves, moves-exact}
+use Rattle.history.proofs.Exact.{real-parts, Exact, Renames, renames-exact}
 use Rattle.history.proofs.Steps.{none-where}
-
--- every store has in b the names that it has in a
-pub record Renames (a b : State) : Type 0 where
-  pub stores : storesOf b ≡ storesOf a
-  pub came : (q : ℕ) (w : List ℕ) → q < storesOf a → Stored b q w → Stored a q w
-  pub kept : (q : ℕ) (w : List ℕ) → q < storesOf a → Stored a q w → Stored b q w
 
 renames-same : (a : State) → Renames a a
 renames-same a = record { stores = refl; came = λ q w l x. x; kept = λ q w l x. x }
@@ -241,9 +234,5 @@ module _ (a : State) (l : PathList) (hs : List ℕ) (h : History) (sound : Sound
   unfolding Calls.insert
   insert-renames = or-same a _ l _ _ (firstOf (insertRefusals a l hs)) (λ e. path-of (none-where _ _ _ (insert-kept a l hs) e))
 
-  pub insert-exact : Exact (Calls.insert a l hs .state) (next (insert l hs) a h)
-  unfolding BroughtIn Gone
-  insert-exact =
-      let k = insert-renames in
-      moves-exact (insert l hs) a (Calls.insert a l hs .state) h
-      (record { none = λ q n o z. z; nothing = λ q n o z. z; stores = k .stores; came = k .came; kept = k .kept }) exact
+  pub insert-exact : Exact (Calls.insert a l hs .state) (next (a .tree) silent h)
+  insert-exact = renames-exact a (Calls.insert a l hs .state) h insert-renames exact

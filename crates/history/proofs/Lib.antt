@@ -6,4 +6,5 @@ pub mod Exact
 pub mod Stores
 pub mod Steps
 pub mod Insert
+pub mod Number
 pub mod History

@@ -1,12 +1,11 @@
 -- Each public call keeps the history exact: a refused one and one that only reads leave all as it was; the others by what they do to the blocks of their
 -- store, and an insert by what it does to names. Assumes nothing.
-use Prim.Native.Nat.{ℕ, zero, suc, _+_, _-_, _*_, _≤_, _<_, zero-le}
-use mathlib.Core.Bool.{Bool, true, false}
+use Prim.Native.Nat.{ℕ, zero, suc, _+_, _*_, _≤_, _<_}
+use mathlib.Core.Bool.{Bool}
 use mathlib.Core.Path.{_≡_, refl, sym, ap, subst, _∙_}
 use mathlib.Core.Logic.{_⊎_, inl, inr, ⊎-elim, _≢_}
 use mathlib.Core.List.{List, [], _∷_}
 use native.Mathlib.Omega.{arith}
-use native.Mathlib.Nat.{le-refl, add-zero}
 use native.Mathlib.Decide.{ℕ-discrete}
 use lib.ListN.{length}
 use lib.Ieee.{Float}
@@ -20,12 +19,12 @@ use Rattle.model.specs.Sizes.{storeRecords, maxStamp}
 use Rattle.model.specs.State.{State, Range, Pin, at, storesOf, nextIdOf, stallsOf, recordsOf, stampOf}
 use Rattle.model.specs.Sound.{Sound, Finite}
 use Rattle.model.specs.Store.{Store, ranges, storeOf, layBook, layNext, withRanges, withPins, withNext}
-use Rattle.model.specs.Remove.{Removed, remove}
-use Rattle.model.specs.Expire.{Expired, expire, expireBy, oldest}
+use Rattle.model.specs.Remove.{Removed}
+use Rattle.model.specs.Expire.{Expired, expire}
 use Rattle.model.specs.Pins.{pinOf, addPin, takePin, repinned, pin, pinNeed, unpin}
 use Rattle.model.specs.Refusals.{Condition, firstOf, OutList, SpanIn, noSpan, touchedBy, touchSpan, turnRefusals, storeInsertRefusals, storeUsedRefusals, storeRemoveRefusals, storeExpireRefusals, pinRefusals, unpinRefusals}
 use Rattle.model.specs.Calls as Calls
-use Rattle.model.specs.Calls.{Outcome, Answer, refused, done, unless, layOuts, front, brought, bringIn, touchSpans, bytesTouched}
+use Rattle.model.specs.Calls.{Outcome, done, unless, layOuts, front, brought, bringIn, touchSpans, bytesTouched}
 use Rattle.sure.specs.Refused.{KeptWhenRefused}
 use Rattle.sure.proofs.Refused.{storeInsert-kept, storeUsed-kept, storeRemove-kept, storeExpire-kept, pin-kept, unpin-kept}
 use Rattle.laid.proofs.Books.{book-read, book-other}
@@ -40,33 +39,27 @@ use Rattle.kepttouch.proofs.Remove.{remove-holds, remove-length, remove-sound, 
 use Rattle.keptstate.proofs.Changed.{ranges-fit}
 use Rattle.keptcalls.proofs.Accepted.{NoneHolds, unless-done, neither, span-in, is-finite}
 use Rattle.keptcalls.proofs.Stores.{store-sound, removedBy, touchSpan-sound}
-use Rattle.keptcalls.proofs.Calls.{storeInsert-sound, storeUsed-sound, storeRemove-sound, storeExpire-sound, pin-sound, unpin-sound, resolve-same, lookup-same, held-same}
+use Rattle.keptcalls.proofs.Calls.{storeInsert-sound, storeRemove-sound, storeExpire-sound}
 use Rattle.room.proofs.After.{Taken, own, others, tree-stays, stores-stay}
 use Rattle.room.proofs.Room.{taken}
-use Rattle.history.specs.Names.{nameOf, Named, Stored}
-use Rattle.history.specs.History.{Call, setUp, resolve, insert, storeInsert, storeUsed, storeRemove, storeExpire, pinSource, unpinSource, lookup, after, IfDone, Listed, BroughtIn, Gone, History, next}
-use Rattle.history.proofs.Blocks.{InOuts, Split}
-use Rattle.history.proofs.Exact.{Real, real-held, real-span, Exact, Changes, changes-exact, Moves, moves-exact}
+use Rattle.history.specs.Names.{nameOf}
+use Rattle.history.specs.History.{Report, silent, byBringIn, byRemoval, byExpiry, History, next}
+use Rattle.history.proofs.Blocks.{InOuts}
+use Rattle.history.proofs.Exact.{Real, real-held, real-span, Exact, Changes, changes-exact, renames-exact, still}
 use Rattle.history.proofs.Stores.{Filled, bring-filled, expire-filled, listed-out, out-listed}
 
--- ---- a call that leaves the state as it was and tells of no block
+-- ---- accepted or refused
 
-pub still : (c : Call) (a b : State) (h : History) → b ≡ a → ((q n o : ℕ) → BroughtIn c a q n o → ⊥) → ((q n o : ℕ) → Gone c a q n o → ⊥) → Exact a h
-    → Exact b (next c a h)
-still c a b h e f g =
-    moves-exact c a b h
-    (record {
-      none = f;
-      nothing = g;
-      stores = ap (λ x. storesOf x) e;
-      came = λ q w l x. subst (λ z. Stored z q w) e x;
-      kept = λ q w l x. subst (λ z. Stored z q w) (sym e) x;
-    })
+-- what holds of the outcome of an accepted call and of every refusal holds of a call's outcome
+pub each-way : {L A : Type 0} (P : Outcome L A → Type 0) (n : ℕ) (st : State) (l : L) (o : Outcome L A) → (n ≡ 0 → P o)
+    → ((m : ℕ) → P (unless (suc m) st l o)) → P (unless n st l o)
+each-way P zero st l o f g = f refl
+each-way P (suc n) st l o f g = g n
 
--- no condition holds where the first number is 0
 pub unless-at : {L A : Type 0} (n m : ℕ) (x : State) (l : L) (o : Outcome L A) → n ≡ m → unless n x l o ≡ unless m x l o
 unless-at n m x l o e = ap (λ k. unless k x l o) e
 
+-- no condition holds where the first number is 0
 pub none-where : {L A : Type 0} {cs : List Condition} {st : State} {l : L} (st′ : State) (l′ : L) (v : A)
     → KeptWhenRefused cs st l (unless (firstOf cs) st l (record { state = st′; lists = l′; answer = done v })) → firstOf cs ≡ 0 → NoneHolds cs
 none-where {cs = cs} {st = st} {l = l} st′ l′ v k e =
@@ -89,38 +82,38 @@ module _ (st : State) (s need nextId stalls : ℕ) (y : Store) (h : Sound st) (l
 
 -- ---- a call that changes the ranges of store s alone: it has rs then, `In` was brought in and `Out` given up
 
-record OneStore (c : Call) (a b : State) (s : ℕ) (rs : List Range) (In Out : ℕ → ℕ → Type 0) : Type 0 where
+record OneStore (rep : Report) (a b : State) (s : ℕ) (rs : List Range) (In Out : ℕ → ℕ → Type 0) : Type 0 where
   less : s < storesOf a
   tree : b .tree ≡ a .tree
   stores : storesOf b ≡ storesOf a
   own : storeOf b s .ranges ≡ rs
   other : (q : ℕ) → q ≢ s → q < storesOf a → storeOf b q ≡ storeOf a q
-  inOf : (q v o : ℕ) → q ≡ s → In v o → BroughtIn c a q v o
-  ofIn : (q v o : ℕ) → BroughtIn c a q v o → (q ≡ s) × In v o
-  goneOf : (q v o : ℕ) → q ≡ s → Out v o → Gone c a q v o
-  ofGone : (q v o : ℕ) → Gone c a q v o → (q ≡ s) × Out v o
+  inOf : (q v o : ℕ) → q ≡ s → In v o → rep .broughtIn q v o
+  ofIn : (q v o : ℕ) → rep .broughtIn q v o → (q ≡ s) × In v o
+  goneOf : (q v o : ℕ) → q ≡ s → Out v o → rep .gone q v o
+  ofGone : (q v o : ℕ) → rep .gone q v o → (q ≡ s) × Out v o
   came : (v o : ℕ) → Holds rs v o → Holds (storeOf a s .ranges) v o ⊎ In v o
   stayed : (v o : ℕ) → Holds rs v o → Out v o → ⊥
   kept : (v o : ℕ) → Holds (storeOf a s .ranges) v o ⊎ In v o → (Out v o → ⊥) → Holds rs v o
   outReal : (v o : ℕ) → Out v o → Real (a .tree) v o
 
-module _ {c : Call} {a b : State} {s : ℕ} {rs : List Range} {In Out : ℕ → ℕ → Type 0} (k : OneStore c a b s rs In Out) where
-  one-came : (q v o : ℕ) → q < storesOf a → Dec (q ≡ s) → Holds (storeOf b q .ranges) v o → Holds (storeOf a q .ranges) v o ⊎ BroughtIn c a q v o
+module _ {rep : Report} {a b : State} {s : ℕ} {rs : List Range} {In Out : ℕ → ℕ → Type 0} (k : OneStore rep a b s rs In Out) where
+  one-came : (q v o : ℕ) → q < storesOf a → Dec (q ≡ s) → Holds (storeOf b q .ranges) v o → Holds (storeOf a q .ranges) v o ⊎ rep .broughtIn q v o
   one-came q v o less (yes i) = rw (i, k .own) (λ x. ⊎-elim (λ y. inl y) (λ y. inr (k .inOf s v o refl y)) (k .came v o x))
   one-came q v o less (no i) = rw (k .other q i less) (λ x. inl x)
 
-  one-stayed : (q v o : ℕ) → q < storesOf a → Dec (q ≡ s) → Holds (storeOf b q .ranges) v o → Gone c a q v o → ⊥
+  one-stayed : (q v o : ℕ) → q < storesOf a → Dec (q ≡ s) → Holds (storeOf b q .ranges) v o → rep .gone q v o → ⊥
   one-stayed q v o less (yes i) = rw (i, k .own) (λ x g. k .stayed v o x (k .ofGone s v o g .1))
   one-stayed q v o less (no i) = λ x g. i (k .ofGone q v o g .0)
 
-  one-kept : (q v o : ℕ) → q < storesOf a → Dec (q ≡ s) → Holds (storeOf a q .ranges) v o ⊎ BroughtIn c a q v o → (Gone c a q v o → ⊥)
+  one-kept : (q v o : ℕ) → q < storesOf a → Dec (q ≡ s) → Holds (storeOf a q .ranges) v o ⊎ rep .broughtIn q v o → (rep .gone q v o → ⊥)
       → Holds (storeOf b q .ranges) v o
   one-kept q v o less (yes i) =
       rw (i, k .own)
       (λ x g. k .kept v o (⊎-elim (λ y. inl y) (λ y. inr (k .ofIn s v o y .1)) x) (λ z. g (k .goneOf s v o refl z)))
   one-kept q v o less (no i) = rw (k .other q i less) (λ x g. ⊎-elim (λ y. y) (λ y. absurd (i (k .ofIn q v o y .0))) x)
 
-  one-changes : Changes c a b
+  one-changes : Changes rep a b
   one-changes =
       record {
         tree = k .tree;
@@ -135,9 +128,6 @@ module _ {c : Call} {a b : State} {s : ℕ} {rs : List Range} {In Out : ℕ → 
 -- ---- bring in
 
 module _ (a : State) (l : OutList) (s : ℕ) (sp : Span) (time : Float) (write : ℕ) (h : History) (sound : Sound a) (exact : Exact a h) where
-  abbrev c : Call
-  c = storeInsert l s sp time write
-
   abbrev n₀ : ℕ
   n₀ = firstOf (storeInsertRefusals a l s sp time)
 
@@ -149,45 +139,14 @@ module _ (a : State) (l : OutList) (s : ℕ) (sp : Span) (time : Float) (write :
         answer = done (record { outs = length (brought a s sp time write .outs) });
       }
 
-  outcome-is : (n : ℕ) → n₀ ≡ n → Calls.storeInsert a l s sp time write ≡ unless n a l made
-  unfolding Calls.storeInsert made
-  outcome-is n e = unless-at n₀ n a l made e
-
-  insert-refused : (n : ℕ) → n₀ ≡ suc n → Exact (Calls.storeInsert a l s sp time write .state) (next c a h)
-  unfolding BroughtIn Gone
-  insert-refused n e =
-      let is = outcome-is (suc n) e in
-      still c a (Calls.storeInsert a l s sp time write .state) h (ap (λ (x : Outcome OutList BringAnswer). x .state) is)
-      (λ q v o x. subst (λ (w : Outcome OutList BringAnswer). IfDone (w .answer) (λ k. (q ≡ s) × InSpan sp v o)) is x)
-      (λ q v o x. subst (λ (w : Outcome OutList BringAnswer). IfDone (w .answer) (λ k. (q ≡ s) × Listed (w .lists) (k .outs) v o)) is x) exact
-
   module _ (e : n₀ ≡ 0) where
-    abbrev done-is : Calls.storeInsert a l s sp time write ≡ unless 0 a l made
-    done-is = outcome-is 0 e
+    done-is : Calls.storeInsert a l s sp time write ≡ made
+    unfolding Calls.storeInsert made
+    done-is = unless-at n₀ 0 a l made e
 
     took : Taken a s sp time
     unfolding Calls.storeInsert
     took = taken a l s sp time sound (none-where _ _ _ (storeInsert-kept a l s sp time write) e)
-
-    in-of : (q v o : ℕ) → q ≡ s → InSpan sp v o → BroughtIn c a q v o
-    unfolding BroughtIn made
-    in-of q v o x y = subst (λ (w : Outcome OutList BringAnswer). IfDone (w .answer) (λ k. (q ≡ s) × InSpan sp v o)) (sym done-is) (x, y)
-
-    of-in : (q v o : ℕ) → BroughtIn c a q v o → (q ≡ s) × InSpan sp v o
-    unfolding BroughtIn made
-    of-in q v o x = subst (λ (w : Outcome OutList BringAnswer). IfDone (w .answer) (λ k. (q ≡ s) × InSpan sp v o)) done-is x
-
-    gone-of : (q v o : ℕ) → q ≡ s → InOuts (brought a s sp time write .outs) v o → Gone c a q v o
-    unfolding Gone made
-    gone-of q v o x y =
-        subst (λ (w : Outcome OutList BringAnswer). IfDone (w .answer) (λ k. (q ≡ s) × Listed (w .lists) (k .outs) v o)) (sym done-is)
-        (x, out-listed (brought a s sp time write .outs) l v o y)
-
-    of-gone : (q v o : ℕ) → Gone c a q v o → (q ≡ s) × InOuts (brought a s sp time write .outs) v o
-    unfolding Gone made
-    of-gone q v o x =
-        let y = subst (λ (w : Outcome OutList BringAnswer). IfDone (w .answer) (λ k. (q ≡ s) × Listed (w .lists) (k .outs) v o)) done-is x in
-        (y .0, listed-out (brought a s sp time write .outs) l v o (y .1))
 
     filled : (v o : ℕ) → Filled (storeOf a s) sp (brought a s sp time write) v o
     unfolding brought
@@ -195,7 +154,10 @@ module _ (a : State) (l : OutList) (s : ℕ) (sp : Span) (time : Float) (write :
         bring-filled (a .tree) (a .bytes) (nextIdOf a) (storeOf a s) sp time write (store-sound a s sound (took .store)) (took .span)
         (took .finite) (sound .counts .firstId) v o
 
-    one-brought : OneStore c a (bringIn a s sp time write) s (brought a s sp time write .store .ranges) (InSpan sp) (InOuts (brought a s sp time write .outs))
+    one-brought :
+        OneStore (byBringIn s sp made) a (bringIn a s sp time write) s (brought a s sp time write .store .ranges) (InSpan sp)
+        (InOuts (brought a s sp time write .outs))
+    unfolding made
     one-brought =
         record {
           less = took .store;
@@ -203,10 +165,10 @@ module _ (a : State) (l : OutList) (s : ℕ) (sp : Span) (time : Float) (write :
           stores = stores-stay a s sp time write took;
           own = own a s sp time write took;
           other = others a s sp time write took;
-          inOf = in-of;
-          ofIn = of-in;
-          goneOf = gone-of;
-          ofGone = of-gone;
+          inOf = λ q v o x y. (x, record { node = y .node; low = omega (arith, y .low); high = omega (arith, y .high) });
+          ofIn = λ q v o x. (x .0, record { node = x .1 .node; low = omega (arith, x .1 .low); high = omega (arith, x .1 .high) });
+          goneOf = λ q v o x y. (x, out-listed (brought a s sp time write .outs) l v o y);
+          ofGone = λ q v o x. (x .0, listed-out (brought a s sp time write .outs) l v o (x .1));
           came = λ v o. filled v o .came;
           stayed = λ v o. filled v o .stayed;
           kept = λ v o. filled v o .kept;
@@ -215,26 +177,21 @@ module _ (a : State) (l : OutList) (s : ℕ) (sp : Span) (time : Float) (write :
               ⊎-elim (λ y. real-held a s sound (took .store) v o y) (λ y. real-span a sp sound (took .span) v o y) (filled v o .was x);
         }
 
-    insert-accepted : Exact (Calls.storeInsert a l s sp time write .state) (next c a h)
+    insert-accepted : Exact (made .state) (next (a .tree) (byBringIn s sp made) h)
     unfolding made
     insert-accepted =
-        subst (λ (w : Outcome OutList BringAnswer). Exact (w .state) (next c a h)) (sym done-is)
-        (changes-exact c a (bringIn a s sp time write) h sound
-        (subst (λ (w : Outcome OutList BringAnswer). Sound (w .state)) done-is (storeInsert-sound a l s sp time write sound)) (one-changes one-brought) exact)
+        changes-exact (byBringIn s sp made) a (bringIn a s sp time write) h sound
+        (subst (λ (r : Outcome OutList BringAnswer). Sound (r .state)) done-is (storeInsert-sound a l s sp time write sound)) (one-changes one-brought) exact
 
-  pub storeInsert-exact : Exact (Calls.storeInsert a l s sp time write .state) (next c a h)
-  storeInsert-exact = go n₀ refl
-    where
-      go : (n : ℕ) → n₀ ≡ n → Exact (Calls.storeInsert a l s sp time write .state) (next c a h)
-      go zero e = insert-accepted e
-      go (suc n) e = insert-refused n e
+  pub storeInsert-exact : Exact (Calls.storeInsert a l s sp time write .state) (next (a .tree) (byBringIn s sp (Calls.storeInsert a l s sp time write)) h)
+  unfolding Calls.storeInsert made
+  storeInsert-exact =
+      each-way (λ (r : Outcome OutList BringAnswer). Exact (r .state) (next (a .tree) (byBringIn s sp r) h)) n₀ a l made insert-accepted
+      (λ m. still a a h refl exact)
 
 -- ---- remove
 
 module _ (a : State) (l : List ℕ) (s : ℕ) (sp : Span) (h : History) (sound : Sound a) (exact : Exact a h) where
-  abbrev r : Call
-  r = storeRemove l s sp
-
   abbrev r₀ : ℕ
   r₀ = firstOf (storeRemoveRefusals a l s sp)
 
@@ -247,17 +204,6 @@ module _ (a : State) (l : List ℕ) (s : ℕ) (sp : Span) (h : History) (sound :
   unmade : Outcome (List ℕ) RemoveAnswer
   unmade = record { state = removed; lists = front (w .writes) l; answer = done (record { writes = length (w .writes) }) }
 
-  remove-is : (n : ℕ) → r₀ ≡ n → Calls.storeRemove a l s sp ≡ unless n a l unmade
-  unfolding Calls.storeRemove unmade removed w
-  remove-is n e = unless-at r₀ n a l unmade e
-
-  remove-refused : (n : ℕ) → r₀ ≡ suc n → Exact (Calls.storeRemove a l s sp .state) (next r a h)
-  unfolding BroughtIn Gone
-  remove-refused n e =
-      let is = remove-is (suc n) e in
-      still r a (Calls.storeRemove a l s sp .state) h (ap (λ (x : Outcome (List ℕ) RemoveAnswer). x .state) is) (λ q v o x. x)
-      (λ q v o x. subst (λ (z : Outcome (List ℕ) RemoveAnswer). IfDone (z .answer) (λ k. (q ≡ s) × InSpan sp v o)) is x) exact
-
   -- what an accepted removal asks of the state
   removable : NoneHolds (storeRemoveRefusals a l s sp)
       → (s < storesOf a) × (SpanIn (a .tree) sp × (recordsOf a s + w .need ≤ storeRecords))
@@ -265,8 +211,9 @@ module _ (a : State) (l : List ℕ) (s : ℕ) (sp : Span) (h : History) (sound :
   removable (unsound, (short, (noStore, (badSpan, (fewRecords, (late, end)))))) = (omega arith, (span-in (a .tree) sp badSpan, omega arith))
 
   module _ (e : r₀ ≡ 0) where
-    abbrev gone-is : Calls.storeRemove a l s sp ≡ unless 0 a l unmade
-    gone-is = remove-is 0 e
+    gone-is : Calls.storeRemove a l s sp ≡ unmade
+    unfolding Calls.storeRemove unmade removed w
+    gone-is = unless-at r₀ 0 a l unmade e
 
     asks : (s < storesOf a) × (SpanIn (a .tree) sp × (recordsOf a s + w .need ≤ storeRecords))
     unfolding Calls.storeRemove
@@ -296,8 +243,8 @@ module _ (a : State) (l : List ℕ) (s : ℕ) (sp : Span) (h : History) (sound :
     unfolding w
     holds-removed v o = remove-holds (storeOf a s) (nextIdOf a) sp own-sound inside first-id v o
 
-    one-removed : OneStore r a removed s (w .store .ranges) (λ v o. ⊥) (InSpan sp)
-    unfolding BroughtIn Gone unmade removed withNext withRanges layNext layBook
+    one-removed : OneStore (byRemoval s sp unmade) a removed s (w .store .ranges) (λ v o. ⊥) (InSpan sp)
+    unfolding unmade removed withNext withRanges layNext layBook
     one-removed =
         record {
           less = here;
@@ -307,35 +254,29 @@ module _ (a : State) (l : List ℕ) (s : ℕ) (sp : Span) (h : History) (sound :
           other = laid-other a s (w .need) (nextIdOf a + w .need) (stallsOf a) (w .store) sound here fit-removed;
           inOf = λ q v o x y. y;
           ofIn = λ q v o x. absurd x;
-          goneOf =
-              λ q v o x y. subst (λ (z : Outcome (List ℕ) RemoveAnswer). IfDone (z .answer) (λ k. (q ≡ s) × InSpan sp v o)) (sym gone-is) (x, y);
-          ofGone = λ q v o x. subst (λ (z : Outcome (List ℕ) RemoveAnswer). IfDone (z .answer) (λ k. (q ≡ s) × InSpan sp v o)) gone-is x;
+          goneOf = λ q v o x y. (x, y);
+          ofGone = λ q v o x. x;
           came = λ v o x. inl (holds-removed v o .0 x .0);
           stayed = λ v o x. holds-removed v o .0 x .1;
           kept = λ v o x g. holds-removed v o .1 (⊎-elim (λ y. y) (λ y. absurd y) x, g);
           outReal = λ v o x. real-span a sp sound inside v o x;
         }
 
-    remove-accepted : Exact (Calls.storeRemove a l s sp .state) (next r a h)
+    remove-accepted : Exact (unmade .state) (next (a .tree) (byRemoval s sp unmade) h)
     unfolding unmade
     remove-accepted =
-        subst (λ (z : Outcome (List ℕ) RemoveAnswer). Exact (z .state) (next r a h)) (sym gone-is)
-        (changes-exact r a removed h sound (subst (λ (z : Outcome (List ℕ) RemoveAnswer). Sound (z .state)) gone-is (storeRemove-sound a l s sp sound))
-        (one-changes one-removed) exact)
+        changes-exact (byRemoval s sp unmade) a removed h sound
+        (subst (λ (z : Outcome (List ℕ) RemoveAnswer). Sound (z .state)) gone-is (storeRemove-sound a l s sp sound)) (one-changes one-removed) exact
 
-  pub storeRemove-exact : Exact (Calls.storeRemove a l s sp .state) (next r a h)
-  storeRemove-exact = go r₀ refl
-    where
-      go : (n : ℕ) → r₀ ≡ n → Exact (Calls.storeRemove a l s sp .state) (next r a h)
-      go zero e = remove-accepted e
-      go (suc n) e = remove-refused n e
+  pub storeRemove-exact : Exact (Calls.storeRemove a l s sp .state) (next (a .tree) (byRemoval s sp (Calls.storeRemove a l s sp)) h)
+  unfolding Calls.storeRemove unmade removed w
+  storeRemove-exact =
+      each-way (λ (z : Outcome (List ℕ) RemoveAnswer). Exact (z .state) (next (a .tree) (byRemoval s sp z) h)) r₀ a l unmade remove-accepted
+      (λ m. still a a h refl exact)
 
 -- ---- expire
 
 module _ (a : State) (l : OutList) (s : ℕ) (now seconds : Float) (h : History) (sound : Sound a) (exact : Exact a h) where
-  abbrev x : Call
-  x = storeExpire l s now seconds
-
   abbrev x₀ : ℕ
   x₀ = firstOf (storeExpireRefusals a l s now seconds)
 
@@ -348,23 +289,13 @@ module _ (a : State) (l : OutList) (s : ℕ) (now seconds : Float) (h : History)
   outlived : Outcome OutList ExpireAnswer
   outlived = record { state = expired; lists = layOuts (aged .outs) l; answer = done (record { outs = length (aged .outs) }) }
 
-  expire-is : (n : ℕ) → x₀ ≡ n → Calls.storeExpire a l s now seconds ≡ unless n a l outlived
-  unfolding Calls.storeExpire outlived expired aged
-  expire-is n e = unless-at x₀ n a l outlived e
-
-  expire-refused : (n : ℕ) → x₀ ≡ suc n → Exact (Calls.storeExpire a l s now seconds .state) (next x a h)
-  unfolding BroughtIn Gone
-  expire-refused n e =
-      let is = expire-is (suc n) e in
-      still x a (Calls.storeExpire a l s now seconds .state) h (ap (λ (z : Outcome OutList ExpireAnswer). z .state) is) (λ q v o y. y)
-      (λ q v o y. subst (λ (z : Outcome OutList ExpireAnswer). IfDone (z .answer) (λ k. (q ≡ s) × Listed (z .lists) (k .outs) v o)) is y) exact
-
   expirable : NoneHolds (storeExpireRefusals a l s now seconds) → s < storesOf a
   expirable (unsound, (short, (noStore, (badTimes, end)))) = omega arith
 
   module _ (e : x₀ ≡ 0) where
-    abbrev aged-is : Calls.storeExpire a l s now seconds ≡ unless 0 a l outlived
-    aged-is = expire-is 0 e
+    aged-is : Calls.storeExpire a l s now seconds ≡ outlived
+    unfolding Calls.storeExpire outlived expired aged
+    aged-is = unless-at x₀ 0 a l outlived e
 
     used : s < storesOf a
     unfolding Calls.storeExpire
@@ -390,19 +321,8 @@ module _ (a : State) (l : OutList) (s : ℕ) (now seconds : Float) (h : History)
         let k = expire-filled (a .tree) (a .bytes) (nextIdOf a) (storeOf a s) now seconds store-is v o in
         (k .was, (k .apart, (λ y g. ⊎-elim (λ z. z) (λ z. absurd (g z)) (k .held y), k .out)))
 
-    gone-out : (q v o : ℕ) → q ≡ s → InOuts (aged .outs) v o → Gone x a q v o
-    unfolding Gone outlived
-    gone-out q v o y z =
-        subst (λ (w : Outcome OutList ExpireAnswer). IfDone (w .answer) (λ k. (q ≡ s) × Listed (w .lists) (k .outs) v o)) (sym aged-is) (y, out-listed (aged .outs) l v o z)
-
-    out-gone : (q v o : ℕ) → Gone x a q v o → (q ≡ s) × InOuts (aged .outs) v o
-    unfolding Gone outlived
-    out-gone q v o y =
-        let z = subst (λ (w : Outcome OutList ExpireAnswer). IfDone (w .answer) (λ k. (q ≡ s) × Listed (w .lists) (k .outs) v o)) aged-is y in
-        (z .0, listed-out (aged .outs) l v o (z .1))
-
-    one-expired : OneStore x a expired s (aged .store .ranges) (λ v o. ⊥) (InOuts (aged .outs))
-    unfolding BroughtIn expired withRanges layBook
+    one-expired : OneStore (byExpiry s outlived) a expired s (aged .store .ranges) (λ v o. ⊥) (InOuts (aged .outs))
+    unfolding outlived expired withRanges layBook
     one-expired =
         record {
           less = used;
@@ -412,27 +332,25 @@ module _ (a : State) (l : OutList) (s : ℕ) (now seconds : Float) (h : History)
           other = λ q i less. ranges-other a s 0 (aged .store) (sound-roomy a s sound used) fit-expired q i (sound-roomy a q sound less .records);
           inOf = λ q v o y z. z;
           ofIn = λ q v o y. absurd y;
-          goneOf = gone-out;
-          ofGone = out-gone;
+          goneOf = λ q v o y z. (y, out-listed (aged .outs) l v o z);
+          ofGone = λ q v o y. (y .0, listed-out (aged .outs) l v o (y .1));
           came = λ v o y. inl (split-here v o .0 y);
           stayed = λ v o. split-here v o .1 .0;
           kept = λ v o y. split-here v o .1 .1 .0 (⊎-elim (λ z. z) (λ z. absurd z) y);
           outReal = λ v o y. real-held a s sound used v o (split-here v o .1 .1 .1 y);
         }
 
-    expire-accepted : Exact (Calls.storeExpire a l s now seconds .state) (next x a h)
+    expire-accepted : Exact (outlived .state) (next (a .tree) (byExpiry s outlived) h)
     unfolding outlived
     expire-accepted =
-        subst (λ (z : Outcome OutList ExpireAnswer). Exact (z .state) (next x a h)) (sym aged-is)
-        (changes-exact x a expired h sound
-        (subst (λ (z : Outcome OutList ExpireAnswer). Sound (z .state)) aged-is (storeExpire-sound a l s now seconds sound)) (one-changes one-expired) exact)
+        changes-exact (byExpiry s outlived) a expired h sound
+        (subst (λ (z : Outcome OutList ExpireAnswer). Sound (z .state)) aged-is (storeExpire-sound a l s now seconds sound)) (one-changes one-expired) exact
 
-  pub storeExpire-exact : Exact (Calls.storeExpire a l s now seconds .state) (next x a h)
-  storeExpire-exact = go x₀ refl
-    where
-      go : (n : ℕ) → x₀ ≡ n → Exact (Calls.storeExpire a l s now seconds .state) (next x a h)
-      go zero e = expire-accepted e
-      go (suc n) e = expire-refused n e
+  pub storeExpire-exact : Exact (Calls.storeExpire a l s now seconds .state) (next (a .tree) (byExpiry s (Calls.storeExpire a l s now seconds)) h)
+  unfolding Calls.storeExpire outlived expired aged
+  storeExpire-exact =
+      each-way (λ (z : Outcome OutList ExpireAnswer). Exact (z .state) (next (a .tree) (byExpiry s z) h)) x₀ a l outlived expire-accepted
+      (λ m. still a a h refl exact)
 
 -- ---- touch: every store holds what it held
 
@@ -452,13 +370,10 @@ same-then {a} {b} {c} f g =
       kept = λ q n o l y. g .kept q n o (rw (f .stores) l) (f .kept q n o l y);
     }
 
-same-blocks : (c : Call) (a b : State) (h : History) → ((q n o : ℕ) → BroughtIn c a q n o → ⊥) → ((q n o : ℕ) → Gone c a q n o → ⊥) → SameBlocks a b
-    → Exact a h → Exact b (next c a h)
-same-blocks c a b h none nothing k =
-    moves-exact c a b h
+same-blocks : (a b : State) (h : History) → SameBlocks a b → Exact a h → Exact b (next (a .tree) silent h)
+same-blocks a b h k =
+    renames-exact a b h
     (record {
-      none = none;
-      nothing = nothing;
       stores = k .stores;
       came =
           λ q w l y.
@@ -561,9 +476,6 @@ spans-same st s (sp ∷ sps) time counted h less inside finite none =
     (subst (λ t. All (SpanIn t) sps) (sym (touch-tree st s sp time counted)) (inside .1)) finite (none .1 .1))
 
 module _ (a : State) (s : ℕ) (sps : List Span) (time : Float) (counted : Bool) (h : History) (sound : Sound a) (exact : Exact a h) where
-  abbrev u : Call
-  u = storeUsed s sps time counted
-
   abbrev u₀ : ℕ
   u₀ = firstOf (storeUsedRefusals a s sps time counted)
 
@@ -579,9 +491,8 @@ module _ (a : State) (s : ℕ) (sps : List Span) (time : Float) (counted : Bool)
       same-or a (touchSpans a s sps time counted) _ _ told u₀
       (λ e. spans-of (none-where _ _ _ (storeUsed-kept a s sps time counted) e))
 
-  pub storeUsed-exact : Exact (Calls.storeUsed a s sps time counted .state) (next u a h)
-  unfolding BroughtIn Gone
-  storeUsed-exact = same-blocks u a (Calls.storeUsed a s sps time counted .state) h (λ q n o z. z) (λ q n o z. z) used-same exact
+  pub storeUsed-exact : Exact (Calls.storeUsed a s sps time counted .state) (next (a .tree) silent h)
+  storeUsed-exact = same-blocks a (Calls.storeUsed a s sps time counted .state) h used-same exact
 
 -- ---- pins: no range moves
 
@@ -637,10 +548,8 @@ module _ (a : State) (s : ℕ) (sp : Span) (h : History) (sound : Sound a) (exac
       (λ e. pins-same a s 0 (unpin (storeOf a s) sp) sound (unpin-there (none-where _ _ _ (unpin-kept a s sp) e))
       (unmoved-records a s (takePin (pinOf sp 1) (storeOf a s .pins))))
 
-  pub pin-exact : Exact (Calls.pinSource a s sp .state) (next (pinSource s sp) a h)
-  unfolding BroughtIn Gone
-  pin-exact = same-blocks (pinSource s sp) a (Calls.pinSource a s sp .state) h (λ q n o z. z) (λ q n o z. z) pinned-same exact
+  pub pin-exact : Exact (Calls.pinSource a s sp .state) (next (a .tree) silent h)
+  pin-exact = same-blocks a (Calls.pinSource a s sp .state) h pinned-same exact
 
-  pub unpin-exact : Exact (Calls.unpinSource a s sp .state) (next (unpinSource s sp) a h)
-  unfolding BroughtIn Gone
-  unpin-exact = same-blocks (unpinSource s sp) a (Calls.unpinSource a s sp .state) h (λ q n o z. z) (λ q n o z. z) unpinned-same exact
+  pub unpin-exact : Exact (Calls.unpinSource a s sp .state) (next (a .tree) silent h)
+  unpin-exact = same-blocks a (Calls.unpinSource a s sp .state) h unpinned-same exact

@@ -1,20 +1,22 @@
 -- Demand 2's history: what the calls and their answers say was brought in, given out and removed, by name. Assumes nothing.
 use Prim.Native.Nat.{ℕ, _≤_, _<_}
 use mathlib.Core.Bool.{Bool}
-use mathlib.Core.Logic.{_⊎_}
+use mathlib.Core.Logic.{_⊎_, _↔_}
 use mathlib.Core.Path.{_≡_}
 use mathlib.Core.List.{List, [], _∷_}
+use lib.ListN.{length}
 use lib.Ieee.{Float}
 use Rattle.model.specs.declared.Span.{Span}
 use Rattle.model.specs.declared.BringAnswer.{BringAnswer}
+use Rattle.model.specs.declared.RemoveAnswer.{RemoveAnswer}
 use Rattle.model.specs.declared.ExpireAnswer.{ExpireAnswer}
-use Rattle.model.specs.State.{State, Range, at, heldOf}
-use Rattle.model.specs.Store.{Store, storeOf, total}
+use Rattle.model.specs.State.{Tree, State, at, heldOf}
+use Rattle.model.specs.Store.{storeOf}
 use Rattle.model.specs.Refusals.{PathList, OutList}
 use Rattle.model.specs.Calls as Calls
-use Rattle.model.specs.Calls.{Answer, refused, done, LookupLists}
-use Rattle.kept.specs.Facts.{Sorted}
-use Rattle.model.specs.Blocks.{Holds, InSpan}
+use Rattle.model.specs.Calls.{Outcome, Answer, refused, done, NoList, NoValue, LookupLists}
+use Rattle.kept.specs.Facts.{All, InOrder, Sorted}
+use Rattle.model.specs.Blocks.{Filled, Holds, InSpan}
 use Rattle.history.specs.Names.{nameOf, Named, Stored}
 
 -- a public call with its arguments, answer lists among them
@@ -36,30 +38,6 @@ pub data Call : Type 0 where
   sourceVersion : ℕ → Call
   pinStalls : Call
 
--- the state that a call leaves
-unfoldable pub after : Call → State → State
-after (setUp table capacity refreshes) st = Calls.setUp st table capacity refreshes .state
-after (resolve l hs) st = Calls.resolveCall st l hs .state
-after (insert l hs) st = Calls.insert st l hs .state
-after (storeInsert l s sp time write) st = Calls.storeInsert st l s sp time write .state
-after (storeUsed s sps time counted) st = Calls.storeUsed st s sps time counted .state
-after (storeRemove l s sp) st = Calls.storeRemove st l s sp .state
-after (storeExpire l s now seconds) st = Calls.storeExpire st l s now seconds .state
-after (pinSource s sp) st = Calls.pinSource st s sp .state
-after (unpinSource s sp) st = Calls.unpinSource st s sp .state
-after (lookup l ts hs) st = Calls.lookup st l ts hs .state
-after (storeHeld s) st = Calls.heldCall st s .state
-after (storeCapacity s) st = Calls.capacityCall st s .state
-after (storePinned s) st = Calls.pinnedCall st s .state
-after (storeAvailable s) st = Calls.availableCall st s .state
-after (sourceVersion s) st = Calls.versionCall st s .state
-after pinStalls st = Calls.stallsCall st .state
-
--- what is said of an accepted call's answer; a refused one says nothing
-abbrev pub IfDone : {A : Type 0} → Answer A → (A → Type 0) → Type 0
-IfDone (refused n) P = ⊥
-IfDone (done a) P = P a
-
 -- block o of node n is in one of the first k spans of an answer list
 pub record Listed (l : OutList) (k n o : ℕ) : Type 0 where
   pub place : ℕ
@@ -68,64 +46,99 @@ pub record Listed (l : OutList) (k n o : ℕ) : Type 0 where
   pub low : at (l .start) place ≤ o
   pub high : o < at (l .end) place
 
--- "brought in": the span of an accepted bring-in, of its store q
-unfoldable pub BroughtIn : Call → State → ℕ → ℕ → ℕ → Type 0
-BroughtIn (setUp table capacity refreshes) st q n o = ⊥
-BroughtIn (resolve l hs) st q n o = ⊥
-BroughtIn (insert l hs) st q n o = ⊥
-BroughtIn (storeInsert l s sp time write) st q n o = IfDone (Calls.storeInsert st l s sp time write .answer) (λ k. (q ≡ s) × InSpan sp n o)
-BroughtIn (storeUsed s sps time counted) st q n o = ⊥
-BroughtIn (storeRemove l s sp) st q n o = ⊥
-BroughtIn (storeExpire l s now seconds) st q n o = ⊥
-BroughtIn (pinSource s sp) st q n o = ⊥
-BroughtIn (unpinSource s sp) st q n o = ⊥
-BroughtIn (lookup l ts hs) st q n o = ⊥
-BroughtIn (storeHeld s) st q n o = ⊥
-BroughtIn (storeCapacity s) st q n o = ⊥
-BroughtIn (storePinned s) st q n o = ⊥
-BroughtIn (storeAvailable s) st q n o = ⊥
-BroughtIn (sourceVersion s) st q n o = ⊥
-BroughtIn pinStalls st q n o = ⊥
+-- ---- what the calls say of blocks, each by its store q, node n and offset o
 
--- "given out": the spans that an accepted bring-in or expiry answers with; "removed": the span of an accepted removal. Set-up begins anew
-unfoldable pub Gone : Call → State → ℕ → ℕ → ℕ → Type 0
-Gone (setUp table capacity refreshes) st q n o = IfDone (Calls.setUp st table capacity refreshes .answer) (λ k. Unit {0})
-Gone (resolve l hs) st q n o = ⊥
-Gone (insert l hs) st q n o = ⊥
-Gone (storeInsert l s sp time write) st q n o =
-    let w = Calls.storeInsert st l s sp time write in
-    IfDone (w .answer) (λ k. (q ≡ s) × Listed (w .lists) (k .outs) n o)
-Gone (storeUsed s sps time counted) st q n o = ⊥
-Gone (storeRemove l s sp) st q n o = IfDone (Calls.storeRemove st l s sp .answer) (λ k. (q ≡ s) × InSpan sp n o)
-Gone (storeExpire l s now seconds) st q n o =
-    let w = Calls.storeExpire st l s now seconds in
-    IfDone (w .answer) (λ k. (q ≡ s) × Listed (w .lists) (k .outs) n o)
-Gone (pinSource s sp) st q n o = ⊥
-Gone (unpinSource s sp) st q n o = ⊥
-Gone (lookup l ts hs) st q n o = ⊥
-Gone (storeHeld s) st q n o = ⊥
-Gone (storeCapacity s) st q n o = ⊥
-Gone (storePinned s) st q n o = ⊥
-Gone (storeAvailable s) st q n o = ⊥
-Gone (sourceVersion s) st q n o = ⊥
-Gone pinStalls st q n o = ⊥
+pub record Report : Type 1 where
+  pub broughtIn : ℕ → ℕ → ℕ → Type 0
+  pub gone : ℕ → ℕ → ℕ → Type 0
 
--- for each store the names of "the blocks brought in and not since given out or removed"
+abbrev pub silent : Report
+silent = record { broughtIn = λ q n o. ⊥; gone = λ q n o. ⊥ }
+
+-- a refused call says nothing
+abbrev pub ifDone : {A : Type 0} → Answer A → (A → Report) → Report
+ifDone (refused n) f = silent
+ifDone (done a) f = f a
+
+-- set-up begins anew
+abbrev pub bySetUp : Outcome NoList NoValue → Report
+bySetUp r = ifDone (r .answer) (λ a. record { broughtIn = λ q n o. ⊥; gone = λ q n o. Unit {0} })
+
+-- "brought in": the span; "given out": the spans that the call answers with
+abbrev pub byBringIn : ℕ → Span → Outcome OutList BringAnswer → Report
+byBringIn s sp r =
+    ifDone (r .answer)
+    (λ a. record { broughtIn = λ q n o. (q ≡ s) × InSpan sp n o; gone = λ q n o. (q ≡ s) × Listed (r .lists) (a .outs) n o })
+
+-- "removed": the span
+abbrev pub byRemoval : ℕ → Span → Outcome (List ℕ) RemoveAnswer → Report
+byRemoval s sp r = ifDone (r .answer) (λ a. record { broughtIn = λ q n o. ⊥; gone = λ q n o. (q ≡ s) × InSpan sp n o })
+
+-- "given out": the spans that the call answers with
+abbrev pub byExpiry : ℕ → Outcome OutList ExpireAnswer → Report
+byExpiry s r = ifDone (r .answer) (λ a. record { broughtIn = λ q n o. ⊥; gone = λ q n o. (q ≡ s) × Listed (r .lists) (a .outs) n o })
+
+-- ---- each call: what it leaves by the definitions, and what any reply to it says of blocks
+
+pub record Meaning : Type 1 where
+  pub Lists : Type 0
+  pub Value : Type 0
+  pub leaves : State → Outcome Lists Value
+  pub says : Outcome Lists Value → Report
+
+abbrev pub saying : {L A : Type 0} → (Outcome L A → Report) → (State → Outcome L A) → Meaning
+saying {L} {A} f g = record { Lists = L; Value = A; leaves = g; says = f }
+
+abbrev pub quiet : {L A : Type 0} → (State → Outcome L A) → Meaning
+quiet g = saying (λ r. silent) g
+
+abbrev pub meaning : Call → Meaning
+meaning (setUp table capacity refreshes) = saying bySetUp (λ st. Calls.setUp st table capacity refreshes)
+meaning (resolve l hs) = quiet (λ st. Calls.resolveCall st l hs)
+meaning (insert l hs) = quiet (λ st. Calls.insert st l hs)
+meaning (storeInsert l s sp time write) = saying (byBringIn s sp) (λ st. Calls.storeInsert st l s sp time write)
+meaning (storeUsed s sps time counted) = quiet (λ st. Calls.storeUsed st s sps time counted)
+meaning (storeRemove l s sp) = saying (byRemoval s sp) (λ st. Calls.storeRemove st l s sp)
+meaning (storeExpire l s now seconds) = saying (byExpiry s) (λ st. Calls.storeExpire st l s now seconds)
+meaning (pinSource s sp) = quiet (λ st. Calls.pinSource st s sp)
+meaning (unpinSource s sp) = quiet (λ st. Calls.unpinSource st s sp)
+meaning (lookup l ts hs) = quiet (λ st. Calls.lookup st l ts hs)
+meaning (storeHeld s) = quiet (λ st. Calls.heldCall st s)
+meaning (storeCapacity s) = quiet (λ st. Calls.capacityCall st s)
+meaning (storePinned s) = quiet (λ st. Calls.pinnedCall st s)
+meaning (storeAvailable s) = quiet (λ st. Calls.availableCall st s)
+meaning (sourceVersion s) = quiet (λ st. Calls.versionCall st s)
+meaning pinStalls = quiet (λ st. Calls.stallsCall st)
+
+-- what a call leaves, whoever makes it: state, answer lists and answer
+abbrev pub Reply : Call → Type 0
+Reply c = Outcome (meaning c .Lists) (meaning c .Value)
+
+-- the reply of the definitions
+abbrev pub replyOf : (c : Call) → State → Reply c
+replyOf c st = meaning c .leaves st
+
+-- ---- for each store the names of "the blocks brought in and not since given out or removed"
+
 abbrev pub History : Type 1
 History = ℕ → List ℕ → Type 0
 
--- a block's name is read from the tree before the call
-abbrev pub next : Call → State → History → History
-next c st h q w = (h q w ⊎ Named (st .tree) (BroughtIn c st q) w) × (Named (st .tree) (Gone c st q) w → ⊥)
+-- after one more report; a block's name is read from the tree before the call
+abbrev pub next : Tree → Report → History → History
+next t x h q w = (h q w ⊎ Named t (x .broughtIn q) w) × (Named t (x .gone q) w → ⊥)
+
+-- the history that a call's reply tells
+abbrev pub tell : (c : Call) → Tree → Reply c → History → History
+tell c t r h = next t (meaning c .says r) h
+
+-- the calls of the definitions, one after another
+unfoldable pub run : State → List Call → State
+run st [] = st
+run st (c ∷ cs) = run (replyOf c st .state) cs
 
 unfoldable pub since : History → State → List Call → History
 since h st [] = h
-since h st (c ∷ cs) = since (next c st h) (after c st) cs
-
-unfoldable pub run : State → List Call → State
-unfolding after
-run st [] = st
-run st (c ∷ cs) = run (after c st) cs
+since h st (c ∷ cs) = since (tell c (st .tree) (replyOf c st) h) (replyOf c st .state) cs
 
 -- A call may be a sequence of steps, each judged in turn on what the earlier ones left: one step for each call above, several for a batch or a job
 abbrev pub Steps : Type 0
@@ -145,17 +158,26 @@ sinceAll h st (c ∷ cs) = sinceAll (since h st c) (run st c) cs
 abbrev pub nothing : History
 nothing q w = ⊥
 
--- how many blocks ranges hold that are sorted and disjoint
-abbrev pub number : List Range → ℕ
-number rs = total rs
+-- the list has the name w
+unfoldable pub Has : List ℕ → List (List ℕ) → Type 0
+Has w [] = ⊥
+Has w (v ∷ vs) = (v ≡ w) ⊎ Has w vs
 
--- store q as demand 2 has it: "each store's ranges are sorted and disjoint and hold exactly the blocks .. ; held is their number"; two blocks that it holds
--- have two names, so that the named blocks are as many
+-- no name comes twice
+abbrev pub NoTwo : List (List ℕ) → Type 0
+NoTwo ns = InOrder (λ v w. v ≡ w → ⊥) ns
+
+-- store q as demand 2 has it: "each store's ranges are sorted and disjoint and hold exactly the blocks .. ; held is their number". So a list of their names,
+-- each once, is as long as held; and two blocks have two names
 pub record Exactly (st : State) (h : History) (q : ℕ) : Type 0 where
   pub sorted : Sorted (storeOf st q .ranges)
-  pub held : heldOf st q ≡ number (storeOf st q .ranges)
+  pub filled : All Filled (storeOf st q .ranges)
+  pub only : (w : List ℕ) → Stored st q w → h q w
+  pub all : (w : List ℕ) → h q w → Stored st q w
+  pub names : List (List ℕ)
+  pub theirs : (w : List ℕ) → Has w names ↔ Stored st q w
+  pub once : NoTwo names
+  pub held : length names ≡ heldOf st q
   pub named :
       (n o m p : ℕ) → Holds (storeOf st q .ranges) n o → Holds (storeOf st q .ranges) m p → nameOf (st .tree) n o ≡ nameOf (st .tree) m p
       → (n ≡ m) × (o ≡ p)
-  pub only : (w : List ℕ) → Stored st q w → h q w
-  pub all : (w : List ℕ) → h q w → Stored st q w
