@@ -6,27 +6,20 @@ use mathlib.Core.Path.{_≡_, refl, sym, ap, subst, _∙_}
 use mathlib.Core.List.{List}
 use lib.Ieee.{Float}
 use Rattle.model.specs.declared.Span.{Span}
-use Rattle.model.specs.declared.ResolveAnswer.{ResolveAnswer}
 use Rattle.model.specs.State.{State, storesOf}
 use Rattle.model.specs.Sound.{Sound}
-use Rattle.model.specs.Tree.{blocks}
-use Rattle.model.specs.Chained.{Chained, LongestStored}
-use Rattle.model.specs.Refusals.{PathList, OutList}
+use Rattle.model.specs.Refusals.{OutList}
 use Rattle.model.specs.Calls as Calls
-use Rattle.model.specs.Calls.{Answer, done, NoList}
-use Rattle.sure.proofs.Refused.{resolve-kept}
-use Rattle.prefix.proofs.Prefix.{resolve-longest}
-use Rattle.keptcalls.proofs.Accepted.{unless-done, is-sound}
+use Rattle.model.specs.Calls.{done, NoList}
 use Rattle.answers.specs.declared.Plain.{Plain}
-use Rattle.answers.specs.declared.Resolved.{Resolved}
 use Rattle.answers.specs.declared.StoreInserted.{StoreInserted}
-use Rattle.answers.specs.Answers.{outcome, plainOf, resolvedOf, storeInsertedOf, lookedOf}
-use Rattle.outcomes.specs.Settled.{World, Left, stateIn, Allows}
+use Rattle.answers.specs.Answers.{plainOf, storeInsertedOf, lookedOf}
+use Rattle.outcomes.specs.Settled.{Left, stateIn, Allows}
 use Rattle.history.specs.History.{Call, Reply, History, tell, run, since, Steps, runAll, sinceAll, nothing, Exactly}
 use Rattle.history.proofs.History.{history}
 use Rattle.room.specs.Room.{ButCapacity}
 use Rattle.room.proofs.Room.{more-room}
-use Rattle.demands.specs.Calls.{leftBy, Ran, rest, call, Made, end, made, told, toldAll, RoomForReading, covered}
+use Rattle.demands.specs.Calls.{leftBy, Ran, rest, call, Made, end, made, told, toldAll, RoomForReading}
 
 -- ---- history (demand 2)
 
@@ -69,26 +62,6 @@ history-of-calls pools table capacity refreshes x k e cs st m q l =
     (subst (λ z. q < storesOf z → Exactly z (sinceAll nothing (stateIn (x .world)) cs) q) made
     (subst (λ z. q < storesOf (runAll z cs) → Exactly (runAll z cs) (sinceAll nothing z cs) q) first
     (history pools table capacity refreshes (sym (ap (λ z. z .answer) k) ∙ e) cs q)) l)
-
--- ---- the longest prefix (demand 2)
-
-pub resolved-longest : (st after : State) (l k : PathList) (hs : List ℕ) (r : Answer ResolveAnswer) → outcome after k r ≡ Calls.resolveCall st l hs
-    → (a : ResolveAnswer)
-    → r ≡ done a
-    → Chained (st .tree) hs
-    → LongestStored (st .tree) hs (covered (a .path))
-unfolding Calls.resolveCall
-resolved-longest st after l k hs r o a e c =
-    let u = unless-done _ _ _ (resolve-kept st l hs) a (sym (ap (λ z. z .answer) o) ∙ e) in
-    subst (λ (z : ResolveAnswer). LongestStored (st .tree) hs (z .path .blocks)) (u .answer) (resolve-longest st (is-sound st (u .none .0)) hs c)
-
--- "For a list chained with the tree, resolve's answer is the longest prefix that any stored path has"
-pub longest-prefix : (w : World PathList) (hs : List ℕ) (x : Left PathList Resolved) → Allows resolvedOf (Calls.resolveCall (stateIn w) (w .lists) hs) x
-    → (a : ResolveAnswer)
-    → resolvedOf (x .answer) ≡ done a
-    → Chained (stateIn w .tree) hs
-    → LongestStored (stateIn w .tree) hs (covered (a .path))
-longest-prefix w hs x k a e c = resolved-longest (stateIn w) (stateIn (x .world)) (w .lists) (x .world .lists) hs (resolvedOf (x .answer)) k a e c
 
 -- ---- more room (demand 3)
 

@@ -1,2 +1,3 @@
 -- The demands of the lead, of the public calls.
 pub mod Demands
+pub mod Prefix

@@ -2,7 +2,6 @@
 use Prim.Native.Nat.{ℕ, _≤_}
 use mathlib.Core.Path.{_≡_}
 use mathlib.Core.List.{List, [], _∷_}
-use Rattle.model.specs.declared.Path.{Path}
 use Rattle.model.specs.declared.BringAnswer.{BringAnswer}
 use Rattle.model.specs.State.{State}
 use Rattle.model.specs.Calls as Calls
@@ -91,7 +90,3 @@ pub record RoomForReading (s : ℕ) (x y : Left OutList StoreInserted) : Type 0 
       → Allows lookedOf (Calls.lookup (stateIn (y .world)) l ts hs) v
       → Alike (lookedOf (u .answer)) (lookedOf (v .answer))
       × (blocksIn (lookedOf (u .answer)) ≤ blocksIn (lookedOf (v .answer)))
-
--- how many blocks of the list a path covers
-abbrev pub covered : Path → ℕ
-covered p = p .blocks

@@ -1,15 +1,16 @@
-// The demands of the public calls by their contracts: see proofs/Demands.antt. The one that is of a single call stands as a contract here.
+// The demands of the public calls by their contracts: see proofs/Demands.antt and proofs/Prefix.antt. The one of a single call stands as a contract here.
 use answers::Resolved;
 use model::ResolveAnswer;
 ghost use mathlib.Core.Path.{_≡_};
 ghost use Rattle.model.specs.State.{nodesIn, usedIn};
 ghost use Rattle.model.specs.Calls.{done};
-ghost use Rattle.model.specs.Chained.{Chained, LongestStored};
 ghost use Rattle.lent.specs.Lent.{treeOf};
+ghost use Rattle.tree.specs.Walk.{pathListOf};
 ghost use Rattle.answers.specs.Answers.{resolvedOf};
-ghost use Rattle.demands.specs.Calls.{covered};
+ghost use Rattle.demands.specs.Prefix.{LongestPath};
 
-// What resolve answers for a list that is chained with the tree is the longest prefix that any stored path has.
+// What resolve answers for a list that is chained with the tree is the longest prefix that any stored path has: the path, not only its length. The listed
+// segments spell the first hashes of the list, and the count is theirs.
 pub fn resolve_longest(
     parent: &[usize],
     depth: &[usize],
@@ -34,7 +35,15 @@ pub fn resolve_longest(
     path_len: &mut [usize],
     hashes: &[u64],
 ) -> Resolved
-    ensures { λ r. ⌜ ((a : ResolveAnswer) → resolvedOf r ≡ done a → Chained (treeOf (now (parent .entry)) (now (depth .entry)) (now (len .entry)) (now (run .entry)) (now (words .entry)) (nodesIn (now (books .entry))) (usedIn (now (books .entry)))) (now (hashes .entry)) → LongestStored (treeOf (now (parent .entry)) (now (depth .entry)) (now (len .entry)) (now (run .entry)) (now (words .entry)) (nodesIn (now (books .entry))) (usedIn (now (books .entry)))) (now (hashes .entry)) (covered (a .path))) ⌝ }
+    ensures { λ r. ⌜
+        ((a : ResolveAnswer) → resolvedOf r ≡ done a
+        → LongestPath
+        (treeOf (now (parent .entry)) (now (depth .entry)) (now (len .entry)) (now (run .entry)) (now (words .entry))
+        (nodesIn (now (books .entry))) (usedIn (now (books .entry))))
+        (now (hashes .entry))
+        (pathListOf (now («path_node» .exit)) (now («path_len» .exit)))
+        (a .path))
+        ⌝ }
 {
     radix::resolve(
         parent,
