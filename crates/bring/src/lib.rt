@@ -33,7 +33,9 @@ fn stalls_after(stalled: bool, stalls: u64) -> u64
 
 // The small numbers after store s, whose own were b, was trimmed; `need` is how many stamps and ids were given.
 fn settle(books: &mut [u64], s: usize, b: Book, need: usize, t: Trimming)
-    requires { ⌜ (s < maxStores) × (maxNumbers ≤ length (now books)) × (need ≤ 128) × (b .stamp ≤ 281474976710656) × (nextIdIn (now books) ≤ 281474976710656) ⌝ }
+    requires { ⌜
+        (s < maxStores) × (maxNumbers ≤ length (now books)) × (need ≤ 128) × (b .stamp ≤ 281474976710656) × (nextIdIn (now books) ≤ 281474976710656)
+        ⌝ }
     ensures { λ _. ⌜ now (books .exit) ≡ settled s b need (t .n) (t .held) (t .version) (t .stalled) (now (books .entry)) ⌝ }
 {
     let given = need as u64;
@@ -81,8 +83,36 @@ pub fn bring_in(
     time: f64,
     w: u32,
 ) -> usize
-    requires { ⌜ InsertReady (stateOf (treeOf (now parent) (now depth) (now len) (now run) (now words) (nodesIn (now books)) (usedIn (now books))) (rangesOf (now node) (now start) (now end) (now id) (now stamp) (now touched) (now write)) (pinsOf (now «pin_node») (now «pin_start») (now «pin_end») (now «pin_count»)) (now marks) (now bytes) (now books)) (outList (now «out_node») (now «out_start») (now «out_end») (now «out_write») (now «out_bytes») (now «out_dead»)) s sp g time ⌝ }
-    ensures { λ r. ⌜ BroughtIn (stateOf (treeOf (now (parent .entry)) (now (depth .entry)) (now (len .entry)) (now (run .entry)) (now (words .entry)) (nodesIn (now (books .entry))) (usedIn (now (books .entry)))) (rangesOf (now (node .entry)) (now (start .entry)) (now (end .entry)) (now (id .entry)) (now (stamp .entry)) (now (touched .entry)) (now (write .entry))) (pinsOf (now («pin_node» .entry)) (now («pin_start» .entry)) (now («pin_end» .entry)) (now («pin_count» .entry))) (now (marks .entry)) (now (bytes .entry)) (now (books .entry))) (outList (now («out_node» .entry)) (now («out_start» .entry)) (now («out_end» .entry)) (now («out_write» .entry)) (now («out_bytes» .entry)) (now («out_dead» .entry))) s sp time w (stateOf (treeOf (now (parent .entry)) (now (depth .entry)) (now (len .entry)) (now (run .entry)) (now (words .entry)) (nodesIn (now (books .exit))) (usedIn (now (books .exit)))) (rangesOf (now (node .exit)) (now (start .exit)) (now (end .exit)) (now (id .exit)) (now (stamp .exit)) (now (touched .exit)) (now (write .exit))) (pinsOf (now («pin_node» .entry)) (now («pin_start» .entry)) (now («pin_end» .entry)) (now («pin_count» .entry))) (now (marks .exit)) (now (bytes .entry)) (now (books .exit))) (outList (now («out_node» .exit)) (now («out_start» .exit)) (now («out_end» .exit)) (now («out_write» .exit)) (now («out_bytes» .exit)) (now («out_dead» .exit))) r ⌝ }
+    requires { ⌜
+        InsertReady
+        (stateOf (treeOf (now parent) (now depth) (now len) (now run) (now words) (nodesIn (now books)) (usedIn (now books)))
+        (rangesOf (now node) (now start) (now end) (now id) (now stamp) (now touched) (now write))
+        (pinsOf (now «pin_node») (now «pin_start») (now «pin_end») (now «pin_count»)) (now marks) (now bytes) (now books))
+        (outList (now «out_node») (now «out_start») (now «out_end») (now «out_write») (now «out_bytes») (now «out_dead»)) s sp g time
+        ⌝ }
+    ensures { λ r. ⌜
+        BroughtIn
+        (stateOf
+        (treeOf (now (parent .entry)) (now (depth .entry)) (now (len .entry)) (now (run .entry)) (now (words .entry)) (nodesIn (now (books .entry)))
+        (usedIn (now (books .entry))))
+        (rangesOf (now (node .entry)) (now (start .entry)) (now (end .entry)) (now (id .entry)) (now (stamp .entry)) (now (touched .entry))
+        (now (write .entry)))
+        (pinsOf (now («pin_node» .entry)) (now («pin_start» .entry)) (now («pin_end» .entry)) (now («pin_count» .entry))) (now (marks .entry))
+        (now (bytes .entry)) (now (books .entry)))
+        (outList (now («out_node» .entry)) (now («out_start» .entry)) (now («out_end» .entry)) (now («out_write» .entry))
+        (now («out_bytes» .entry)) (now («out_dead» .entry)))
+        s sp time w
+        (stateOf
+        (treeOf (now (parent .entry)) (now (depth .entry)) (now (len .entry)) (now (run .entry)) (now (words .entry)) (nodesIn (now (books .exit)))
+        (usedIn (now (books .exit))))
+        (rangesOf (now (node .exit)) (now (start .exit)) (now (end .exit)) (now (id .exit)) (now (stamp .exit)) (now (touched .exit))
+        (now (write .exit)))
+        (pinsOf (now («pin_node» .entry)) (now («pin_start» .entry)) (now («pin_end» .entry)) (now («pin_count» .entry))) (now (marks .exit))
+        (now (bytes .entry)) (now (books .exit)))
+        (outList (now («out_node» .exit)) (now («out_start» .exit)) (now («out_end» .exit)) (now («out_write» .exit)) (now («out_bytes» .exit))
+        (now («out_dead» .exit)))
+        r
+        ⌝ }
 {
     let b = books::book_of(books, s);
     let t = bringpart::bring_pools(
@@ -135,8 +165,17 @@ pub fn give_back(
     sp: Span,
     w: u32,
 )
-    requires { ⌜ Priced (now depth) (now bytes) sp × OutFits (outList (now «out_node») (now «out_start») (now «out_end») (now «out_write») (now «out_bytes») (now «out_dead»)) ⌝ }
-    ensures { λ _. ⌜ outList (now («out_node» .exit)) (now («out_start» .exit)) (now («out_end» .exit)) (now («out_write» .exit)) (now («out_bytes» .exit)) (now («out_dead» .exit)) ≡ layOuts (whole (onlyDepth (now (depth .entry))) (now (bytes .entry)) sp w ∷ []) (outList (now («out_node» .entry)) (now («out_start» .entry)) (now («out_end» .entry)) (now («out_write» .entry)) (now («out_bytes» .entry)) (now («out_dead» .entry))) ⌝ }
+    requires { ⌜
+        Priced (now depth) (now bytes) sp
+        × OutFits (outList (now «out_node») (now «out_start») (now «out_end») (now «out_write») (now «out_bytes») (now «out_dead»))
+        ⌝ }
+    ensures { λ _. ⌜
+        outList (now («out_node» .exit)) (now («out_start» .exit)) (now («out_end» .exit)) (now («out_write» .exit)) (now («out_bytes» .exit))
+        (now («out_dead» .exit))
+        ≡ layOuts (whole (onlyDepth (now (depth .entry))) (now (bytes .entry)) sp w ∷ [])
+        (outList (now («out_node» .entry)) (now («out_start» .entry)) (now («out_end» .entry)) (now («out_write» .entry))
+        (now («out_bytes» .entry)) (now («out_dead» .entry)))
+        ⌝ }
 {
     let price = tree::span_bytes(depth, bytes, sp);
     let write = evicted::write_id(w);

@@ -48,7 +48,10 @@ pub fn bring_part(
     time: f64,
     w: u32,
 ) -> Trimming
-    requires { ⌜ PartReady (now depth) (now bytes) n held (rangesOf (now node) (now start) (now end) (now id) (now stamp) (now touched) (now write)) (now marks) (outList (now «out_node») (now «out_start») (now «out_end») (now «out_write») (now «out_bytes») (now «out_dead»)) nd g top next time w ⌝ }
+    requires { ⌜
+        PartReady (now depth) (now bytes) n held (rangesOf (now node) (now start) (now end) (now id) (now stamp) (now touched) (now write)) (now marks)
+        (outList (now «out_node») (now «out_start») (now «out_end») (now «out_write») (now «out_bytes») (now «out_dead»)) nd g top next time w
+        ⌝ }
     requires { ⌜ (m ≤ length (now «pin_node»)) × (m ≤ length (now «pin_start»)) × (m ≤ length (now «pin_end»)) ⌝ }
     ensures { λ r. ⌜
         ((count : List ℕ) → GivenOut
@@ -150,7 +153,11 @@ pub fn bring_pools(
     time: f64,
     w: u32,
 ) -> Trimming
-    requires { ⌜ PoolReady (now depth) (now bytes) s n m held (rangesOf (now node) (now start) (now end) (now id) (now stamp) (now touched) (now write)) (now marks) (outList (now «out_node») (now «out_start») (now «out_end») (now «out_write») (now «out_bytes») (now «out_dead»)) (now «pin_node») (now «pin_start») (now «pin_end») nd g top next time w ⌝ }
+    requires { ⌜
+        PoolReady (now depth) (now bytes) s n m held (rangesOf (now node) (now start) (now end) (now id) (now stamp) (now touched) (now write)) (now marks)
+        (outList (now «out_node») (now «out_start») (now «out_end») (now «out_write») (now «out_bytes») (now «out_dead»)) (now «pin_node»)
+        (now «pin_start») (now «pin_end») nd g top next time w
+        ⌝ }
     ensures { λ r. ⌜
         ((count : List ℕ) → GivenOutAt s
         (trimOf (onlyDepth (now (depth .entry))) (now (bytes .entry))

@@ -101,9 +101,14 @@ pub fn first_free(
     pin_end: &[usize],
     m: usize,
 ) -> Place
-    requires { ⌜ (n ≤ length (now node)) × (n ≤ length (now start)) × (n ≤ length (now end)) × (n ≤ length (now id)) × (n ≤ length (now stamp)) ⌝ }
+    requires { ⌜
+        (n ≤ length (now node)) × (n ≤ length (now start)) × (n ≤ length (now end)) × (n ≤ length (now id)) × (n ≤ length (now stamp))
+        ⌝ }
     requires { ⌜ (m ≤ length (now «pin_node»)) × (m ≤ length (now «pin_start»)) × (m ≤ length (now «pin_end»)) ⌝ }
-    ensures { λ r. ⌜ FreeIs (now (node .entry)) (now (start .entry)) (now (end .entry)) (now (id .entry)) (now (stamp .entry)) n (now («pin_node» .entry)) (now («pin_start» .entry)) (now («pin_end» .entry)) m (placeOf r) ⌝ }
+    ensures { λ r. ⌜
+        FreeIs (now (node .entry)) (now (start .entry)) (now (end .entry)) (now (id .entry)) (now (stamp .entry)) n (now («pin_node» .entry))
+        (now («pin_start» .entry)) (now («pin_end» .entry)) m (placeOf r)
+        ⌝ }
 {
     let mut best = n;
     let mut i = n;

@@ -73,8 +73,15 @@ fn split_range(
     m: usize,
     new: u64,
 )
-    requires { ⌜ (p < n) × (n < 128) × (k ≤ at (now end) p) × Sized 128 (rangesOf (now node) (now start) (now end) (now id) (now stamp) (now touched) (now write)) ⌝ }
-    ensures { λ _. ⌜ rangesOf (now (node .exit)) (now (start .exit)) (now (end .exit)) (now (id .exit)) (now (stamp .exit)) (now (touched .exit)) (now (write .exit)) ≡ splitRange n p k m new (rangesOf (now (node .entry)) (now (start .entry)) (now (end .entry)) (now (id .entry)) (now (stamp .entry)) (now (touched .entry)) (now (write .entry))) ⌝ }
+    requires { ⌜
+        (p < n) × (n < 128) × (k ≤ at (now end) p) × Sized 128 (rangesOf (now node) (now start) (now end) (now id) (now stamp) (now touched) (now write))
+        ⌝ }
+    ensures { λ _. ⌜
+        rangesOf (now (node .exit)) (now (start .exit)) (now (end .exit)) (now (id .exit)) (now (stamp .exit)) (now (touched .exit)) (now (write .exit))
+        ≡ splitRange n p k m new
+        (rangesOf (now (node .entry)) (now (start .entry)) (now (end .entry)) (now (id .entry)) (now (stamp .entry)) (now (touched .entry))
+        (now (write .entry)))
+        ⌝ }
 {
     let last = end[p];
     node[n] = m;
@@ -101,8 +108,19 @@ fn move_range(
     k: usize,
     m: usize,
 )
-    requires { ⌜ (p < n) × (n ≤ 128) × (k ≤ at (now start) p) × (k ≤ at (now end) p) × Sized 128 (rangesOf (now node) (now start) (now end) (now id) (now stamp) (now touched) (now write)) ⌝ }
-    ensures { λ _. ⌜ rangesOf (now (node .exit)) (now (start .exit)) (now (end .exit)) (now (id .exit)) (now (stamp .exit)) (now (touched .exit)) (now (write .exit)) ≡ moveRange n p k m (rangesOf (now (node .entry)) (now (start .entry)) (now (end .entry)) (now (id .entry)) (now (stamp .entry)) (now (touched .entry)) (now (write .entry))) ⌝ }
+    requires { ⌜
+        (p < n)
+        × (n ≤ 128)
+        × (k ≤ at (now start) p)
+        × (k ≤ at (now end) p)
+        × Sized 128 (rangesOf (now node) (now start) (now end) (now id) (now stamp) (now touched) (now write))
+        ⌝ }
+    ensures { λ _. ⌜
+        rangesOf (now (node .exit)) (now (start .exit)) (now (end .exit)) (now (id .exit)) (now (stamp .exit)) (now (touched .exit)) (now (write .exit))
+        ≡ moveRange n p k m
+        (rangesOf (now (node .entry)) (now (start .entry)) (now (end .entry)) (now (id .entry)) (now (stamp .entry)) (now (touched .entry))
+        (now (write .entry)))
+        ⌝ }
 {
     let first = start[p] - k;
     let last = end[p] - k;
@@ -155,8 +173,21 @@ pub fn cut_next(
     k: usize,
     m: usize,
 ) -> Place
-    requires { ⌜ (s .at < s .top) × (s .top ≤ s .n) × (s .n ≤ 128) × (isAcross j k (at (now node) (s .at)) (at (now start) (s .at)) (at (now end) (s .at)) ≡ true → s .n < 128) × (s .next < 2 ^ 63) × Sized 128 (rangesOf (now node) (now start) (now end) (now id) (now stamp) (now touched) (now write)) ⌝ }
-    ensures { λ r. ⌜ (rangesOf (now (node .exit)) (now (start .exit)) (now (end .exit)) (now (id .exit)) (now (stamp .exit)) (now (touched .exit)) (now (write .exit)) ≡ stepRanges (isBeyond j k (at (now (node .entry)) (s .at)) (at (now (end .entry)) (s .at))) (ltb (at (now (start .entry)) (s .at)) k) s k m (rangesOf (now (node .entry)) (now (start .entry)) (now (end .entry)) (now (id .entry)) (now (stamp .entry)) (now (touched .entry)) (now (write .entry)))) × (r ≡ stepPlace (isBeyond j k (at (now (node .entry)) (s .at)) (at (now (end .entry)) (s .at))) (ltb (at (now (start .entry)) (s .at)) k) s) ⌝ }
+    requires { ⌜
+        (s .at < s .top)
+        × (s .top ≤ s .n)
+        × (s .n ≤ 128)
+        × (isAcross j k (at (now node) (s .at)) (at (now start) (s .at)) (at (now end) (s .at)) ≡ true → s .n < 128)
+        × (s .next < 2 ^ 63)
+        × Sized 128 (rangesOf (now node) (now start) (now end) (now id) (now stamp) (now touched) (now write))
+        ⌝ }
+    ensures { λ r. ⌜
+        (rangesOf (now (node .exit)) (now (start .exit)) (now (end .exit)) (now (id .exit)) (now (stamp .exit)) (now (touched .exit)) (now (write .exit))
+        ≡ stepRanges (isBeyond j k (at (now (node .entry)) (s .at)) (at (now (end .entry)) (s .at))) (ltb (at (now (start .entry)) (s .at)) k) s k m
+        (rangesOf (now (node .entry)) (now (start .entry)) (now (end .entry)) (now (id .entry)) (now (stamp .entry)) (now (touched .entry))
+        (now (write .entry))))
+        × (r ≡ stepPlace (isBeyond j k (at (now (node .entry)) (s .at)) (at (now (end .entry)) (s .at))) (ltb (at (now (start .entry)) (s .at)) k) s)
+        ⌝ }
 {
     let p = s.at;
     let n = s.n;

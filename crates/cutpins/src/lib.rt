@@ -207,7 +207,13 @@ fn cut_list(
     k: usize,
     m: usize,
 ) -> Entries
-    requires { ⌜ (n ≤ length (now node)) × (n ≤ length (now start)) × (n ≤ length (now end)) × (n ≤ length (now count)) × Small (cutPins j k m (pins (pinsOf (now node) (now start) (now end) (now count)) 0 n)) ⌝ }
+    requires { ⌜
+        (n ≤ length (now node))
+        × (n ≤ length (now start))
+        × (n ≤ length (now end))
+        × (n ≤ length (now count))
+        × Small (cutPins j k m (pins (pinsOf (now node) (now start) (now end) (now count)) 0 n))
+        ⌝ }
     ensures { λ r. ⌜ pinsIn r ≡ cutPins j k m (pins (pinsOf (now (node .entry)) (now (start .entry)) (now (end .entry)) (now (count .entry))) 0 n) ⌝ }
 {
     let mut l = Entries {
@@ -241,7 +247,9 @@ pub fn pins_across(
     k: usize,
 ) -> usize
     requires { ⌜ (n ≤ length (now node)) × (n ≤ length (now start)) × (n ≤ length (now end)) ⌝ }
-    ensures { λ r. ⌜ ((c : Pins) → c .node ≡ now (node .entry) → c .start ≡ now (start .entry) → c .end ≡ now (end .entry) → r ≡ pinsAcrossIn j k n c) ⌝ }
+    ensures { λ r. ⌜
+        ((c : Pins) → c .node ≡ now (node .entry) → c .start ≡ now (start .entry) → c .end ≡ now (end .entry) → r ≡ pinsAcrossIn j k n c)
+        ⌝ }
 {
     cutcols::count_across(node, start, end, n, j, k)
 }
@@ -287,7 +295,10 @@ pub fn lay_pins(
     k: usize,
 )
     requires { ⌜ (l .n ≤ k) × (k ≤ 32) × PinsSized 32 (pinsOf (now node) (now start) (now end) (now count)) ⌝ }
-    ensures { λ _. ⌜ pinsOf (now (node .exit)) (now (start .exit)) (now (end .exit)) (now (count .exit)) ≡ layPins 0 k (pinsIn l) (pinsOf (now (node .entry)) (now (start .entry)) (now (end .entry)) (now (count .entry))) ⌝ }
+    ensures { λ _. ⌜
+        pinsOf (now (node .exit)) (now (start .exit)) (now (end .exit)) (now (count .exit))
+        ≡ layPins 0 k (pinsIn l) (pinsOf (now (node .entry)) (now (start .entry)) (now (end .entry)) (now (count .entry)))
+        ⌝ }
 {
     let n = l.n;
     let nodes = l.node;
@@ -353,8 +364,16 @@ pub fn cut_pins(
     k: usize,
     m: usize,
 ) -> usize
-    requires { ⌜ (n + pinsAcrossIn j k n (pinsOf (now node) (now start) (now end) (now count)) ≤ 32) × (counts (pins (pinsOf (now node) (now start) (now end) (now count)) 0 n) ≤ maxPinned) × PinsSized 32 (pinsOf (now node) (now start) (now end) (now count)) ⌝ }
-    ensures { λ r. ⌜ (pinsOf (now (node .exit)) (now (start .exit)) (now (end .exit)) (now (count .exit)) ≡ cutEntries j k m n (pinsOf (now (node .entry)) (now (start .entry)) (now (end .entry)) (now (count .entry)))) × (r ≡ length (cutPins j k m (pins (pinsOf (now (node .entry)) (now (start .entry)) (now (end .entry)) (now (count .entry))) 0 n))) ⌝ }
+    requires { ⌜
+        (n + pinsAcrossIn j k n (pinsOf (now node) (now start) (now end) (now count)) ≤ 32)
+        × (counts (pins (pinsOf (now node) (now start) (now end) (now count)) 0 n) ≤ maxPinned)
+        × PinsSized 32 (pinsOf (now node) (now start) (now end) (now count))
+        ⌝ }
+    ensures { λ r. ⌜
+        (pinsOf (now (node .exit)) (now (start .exit)) (now (end .exit)) (now (count .exit))
+        ≡ cutEntries j k m n (pinsOf (now (node .entry)) (now (start .entry)) (now (end .entry)) (now (count .entry))))
+        × (r ≡ length (cutPins j k m (pins (pinsOf (now (node .entry)) (now (start .entry)) (now (end .entry)) (now (count .entry))) 0 n)))
+        ⌝ }
 {
     if all_stay(node, start, end, n, j) {
         return n;

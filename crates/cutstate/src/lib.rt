@@ -29,8 +29,23 @@ fn cut_stores(
     k: usize,
     m: usize,
 )
-    requires { ⌜ StoresCuttable j k m (rangesOf (now node) (now start) (now end) (now id) (now stamp) (now touched) (now write)) (pinsOf (now «pin_node») (now «pin_start») (now «pin_end») (now «pin_count»)) (now marks) (now books) ⌝ }
-    ensures { λ _. ⌜ ((t : Tree) (bytes : List ℕ) → stateOf t (rangesOf (now (node .exit)) (now (start .exit)) (now (end .exit)) (now (id .exit)) (now (stamp .exit)) (now (touched .exit)) (now (write .exit))) (pinsOf (now («pin_node» .exit)) (now («pin_start» .exit)) (now («pin_end» .exit)) (now («pin_count» .exit))) (now (marks .exit)) bytes (now (books .exit)) ≡ cutStores j k m 0 (storesIn (now (books .entry))) (stateOf t (rangesOf (now (node .entry)) (now (start .entry)) (now (end .entry)) (now (id .entry)) (now (stamp .entry)) (now (touched .entry)) (now (write .entry))) (pinsOf (now («pin_node» .entry)) (now («pin_start» .entry)) (now («pin_end» .entry)) (now («pin_count» .entry))) (now (marks .entry)) bytes (now (books .entry)))) ⌝ }
+    requires { ⌜
+        StoresCuttable j k m (rangesOf (now node) (now start) (now end) (now id) (now stamp) (now touched) (now write))
+        (pinsOf (now «pin_node») (now «pin_start») (now «pin_end») (now «pin_count»)) (now marks) (now books)
+        ⌝ }
+    ensures { λ _. ⌜
+        ((t : Tree) (bytes : List ℕ)
+        → stateOf t
+        (rangesOf (now (node .exit)) (now (start .exit)) (now (end .exit)) (now (id .exit)) (now (stamp .exit)) (now (touched .exit)) (now (write .exit)))
+        (pinsOf (now («pin_node» .exit)) (now («pin_start» .exit)) (now («pin_end» .exit)) (now («pin_count» .exit))) (now (marks .exit)) bytes
+        (now (books .exit))
+        ≡ cutStores j k m 0 (storesIn (now (books .entry)))
+        (stateOf t
+        (rangesOf (now (node .entry)) (now (start .entry)) (now (end .entry)) (now (id .entry)) (now (stamp .entry)) (now (touched .entry))
+        (now (write .entry)))
+        (pinsOf (now («pin_node» .entry)) (now («pin_start» .entry)) (now («pin_end» .entry)) (now («pin_count» .entry))) (now (marks .entry))
+        bytes (now (books .entry))))
+        ⌝ }
 {
     let stores = books[2] as usize;
     let mut s: usize = 0;
@@ -82,8 +97,21 @@ pub fn cut_all(
     j: usize,
     k: usize,
 )
-    requires { ⌜ Cuttable j k (stateFrom (now parent) (now depth) (now len) (now run) (now words) (now node) (now start) (now end) (now id) (now stamp) (now touched) (now write) (now «pin_node») (now «pin_start») (now «pin_end») (now «pin_count») (now marks) (now bytes) (now books)) ⌝ }
-    ensures { λ _. ⌜ stateFrom (now (parent .exit)) (now (depth .exit)) (now (len .exit)) (now (run .exit)) (now (words .entry)) (now (node .exit)) (now (start .exit)) (now (end .exit)) (now (id .exit)) (now (stamp .exit)) (now (touched .exit)) (now (write .exit)) (now («pin_node» .exit)) (now («pin_start» .exit)) (now («pin_end» .exit)) (now («pin_count» .exit)) (now (marks .exit)) (now (bytes .entry)) (now (books .exit)) ≡ cut j k (stateFrom (now (parent .entry)) (now (depth .entry)) (now (len .entry)) (now (run .entry)) (now (words .entry)) (now (node .entry)) (now (start .entry)) (now (end .entry)) (now (id .entry)) (now (stamp .entry)) (now (touched .entry)) (now (write .entry)) (now («pin_node» .entry)) (now («pin_start» .entry)) (now («pin_end» .entry)) (now («pin_count» .entry)) (now (marks .entry)) (now (bytes .entry)) (now (books .entry))) ⌝ }
+    requires { ⌜
+        Cuttable j k
+        (stateFrom (now parent) (now depth) (now len) (now run) (now words) (now node) (now start) (now end) (now id) (now stamp) (now touched) (now write)
+        (now «pin_node») (now «pin_start») (now «pin_end») (now «pin_count») (now marks) (now bytes) (now books))
+        ⌝ }
+    ensures { λ _. ⌜
+        stateFrom (now (parent .exit)) (now (depth .exit)) (now (len .exit)) (now (run .exit)) (now (words .entry)) (now (node .exit)) (now (start .exit))
+        (now (end .exit)) (now (id .exit)) (now (stamp .exit)) (now (touched .exit)) (now (write .exit)) (now («pin_node» .exit))
+        (now («pin_start» .exit)) (now («pin_end» .exit)) (now («pin_count» .exit)) (now (marks .exit)) (now (bytes .entry)) (now (books .exit))
+        ≡ cut j k
+        (stateFrom (now (parent .entry)) (now (depth .entry)) (now (len .entry)) (now (run .entry)) (now (words .entry)) (now (node .entry))
+        (now (start .entry)) (now (end .entry)) (now (id .entry)) (now (stamp .entry)) (now (touched .entry)) (now (write .entry))
+        (now («pin_node» .entry)) (now («pin_start» .entry)) (now («pin_end» .entry)) (now («pin_count» .entry)) (now (marks .entry))
+        (now (bytes .entry)) (now (books .entry)))
+        ⌝ }
 {
     let nodes = books[0] as usize;
     let used = books[1] as usize;

@@ -29,8 +29,48 @@ pub fn cut_ranges(
     m: usize,
     next: u64,
 ) -> After
-    requires { ⌜ (s < 8) × (n + rangesAcross j k (ranges (rangesOf (now node) (now start) (now end) (now id) (now stamp) (now touched) (now write)) (128 * s) n) ≤ 128) × (next ≤ maxStamp) × RangesLent (rangesOf (now node) (now start) (now end) (now id) (now stamp) (now touched) (now write)) ⌝ }
-    ensures { λ r. ⌜ (rangesOf (now (node .exit)) (now (start .exit)) (now (end .exit)) (now (id .exit)) (now (stamp .exit)) (now (touched .exit)) (now (write .exit)) ≡ layRanges (128 * s) (n + rangesAcross j k (ranges (rangesOf (now (node .entry)) (now (start .entry)) (now (end .entry)) (now (id .entry)) (now (stamp .entry)) (now (touched .entry)) (now (write .entry))) (128 * s) n)) (heads j k (ranges (rangesOf (now (node .entry)) (now (start .entry)) (now (end .entry)) (now (id .entry)) (now (stamp .entry)) (now (touched .entry)) (now (write .entry))) (128 * s) n) ++ tails j k m next (ranges (rangesOf (now (node .entry)) (now (start .entry)) (now (end .entry)) (now (id .entry)) (now (stamp .entry)) (now (touched .entry)) (now (write .entry))) (128 * s) n)) (rangesOf (now (node .entry)) (now (start .entry)) (now (end .entry)) (now (id .entry)) (now (stamp .entry)) (now (touched .entry)) (now (write .entry)))) × (r .n ≡ n + rangesAcross j k (ranges (rangesOf (now (node .entry)) (now (start .entry)) (now (end .entry)) (now (id .entry)) (now (stamp .entry)) (now (touched .entry)) (now (write .entry))) (128 * s) n)) × (r .next ≡ next + rangesAcross j k (ranges (rangesOf (now (node .entry)) (now (start .entry)) (now (end .entry)) (now (id .entry)) (now (stamp .entry)) (now (touched .entry)) (now (write .entry))) (128 * s) n)) ⌝ }
+    requires { ⌜
+        (s < 8)
+        × (n + rangesAcross j k (ranges (rangesOf (now node) (now start) (now end) (now id) (now stamp) (now touched) (now write)) (128 * s) n) ≤ 128)
+        × (next ≤ maxStamp)
+        × RangesLent (rangesOf (now node) (now start) (now end) (now id) (now stamp) (now touched) (now write))
+        ⌝ }
+    ensures { λ r. ⌜
+        (rangesOf (now (node .exit)) (now (start .exit)) (now (end .exit)) (now (id .exit)) (now (stamp .exit)) (now (touched .exit)) (now (write .exit))
+        ≡ layRanges (128 * s)
+        (n
+        + rangesAcross j k
+        (ranges
+        (rangesOf (now (node .entry)) (now (start .entry)) (now (end .entry)) (now (id .entry)) (now (stamp .entry)) (now (touched .entry))
+        (now (write .entry)))
+        (128 * s) n))
+        (heads j k
+        (ranges
+        (rangesOf (now (node .entry)) (now (start .entry)) (now (end .entry)) (now (id .entry)) (now (stamp .entry)) (now (touched .entry))
+        (now (write .entry)))
+        (128 * s) n)
+        ++ tails j k m next
+        (ranges
+        (rangesOf (now (node .entry)) (now (start .entry)) (now (end .entry)) (now (id .entry)) (now (stamp .entry)) (now (touched .entry))
+        (now (write .entry)))
+        (128 * s) n))
+        (rangesOf (now (node .entry)) (now (start .entry)) (now (end .entry)) (now (id .entry)) (now (stamp .entry)) (now (touched .entry))
+        (now (write .entry))))
+        × (r .n
+        ≡ n
+        + rangesAcross j k
+        (ranges
+        (rangesOf (now (node .entry)) (now (start .entry)) (now (end .entry)) (now (id .entry)) (now (stamp .entry)) (now (touched .entry))
+        (now (write .entry)))
+        (128 * s) n))
+        × (r .next
+        ≡ next
+        + rangesAcross j k
+        (ranges
+        (rangesOf (now (node .entry)) (now (start .entry)) (now (end .entry)) (now (id .entry)) (now (stamp .entry)) (now (touched .entry))
+        (now (write .entry)))
+        (128 * s) n))
+        ⌝ }
 {
     let a = 128 * s;
     let e = a + 128;
@@ -61,7 +101,12 @@ pub fn cut_marks(
     m: usize,
 )
     requires { ⌜ (s < 8) × (n ≤ 128) × (j < 256) × (m < 256) × (2048 ≤ length (now marks)) × (1024 ≤ length (now node)) ⌝ }
-    ensures { λ _. ⌜ ((c : Ranges) → c .node ≡ now (node .entry) → now (marks .exit) ≡ lay 0 (256 * s) 256 (cutMarks j k m (ranges c (128 * s) n) (take 256 (drop (256 * s) (now (marks .entry))))) (now (marks .entry))) ⌝ }
+    ensures { λ _. ⌜
+        ((c : Ranges)
+        → c .node ≡ now (node .entry)
+        → now (marks .exit)
+        ≡ lay 0 (256 * s) 256 (cutMarks j k m (ranges c (128 * s) n) (take 256 (drop (256 * s) (now (marks .entry))))) (now (marks .entry)))
+        ⌝ }
 {
     let a = 256 * s;
     let e = a + 256;
@@ -81,7 +126,14 @@ pub fn ranges_across(
     k: usize,
 ) -> usize
     requires { ⌜ (s < 8) × (n ≤ 128) × (1024 ≤ length (now node)) × (1024 ≤ length (now start)) × (1024 ≤ length (now end)) ⌝ }
-    ensures { λ r. ⌜ (r ≤ n) × ((c : Ranges) → c .node ≡ now (node .entry) → c .start ≡ now (start .entry) → c .end ≡ now (end .entry) → r ≡ rangesAcross j k (ranges c (128 * s) n)) ⌝ }
+    ensures { λ r. ⌜
+        (r ≤ n)
+        × ((c : Ranges)
+        → c .node ≡ now (node .entry)
+        → c .start ≡ now (start .entry)
+        → c .end ≡ now (end .entry)
+        → r ≡ rangesAcross j k (ranges c (128 * s) n))
+        ⌝ }
 {
     let a = 128 * s;
     let e = a + 128;
@@ -98,8 +150,20 @@ pub fn records_over(
     j: usize,
     k: usize,
 ) -> bool
-    requires { ⌜ (stores ≤ 8) × ((s : ℕ) → s < stores → at records s ≤ 128) × (1024 ≤ length (now node)) × (1024 ≤ length (now start)) × (1024 ≤ length (now end)) ⌝ }
-    ensures { λ r. ⌜ ((c : Ranges) → c .node ≡ now (node .entry) → c .start ≡ now (start .entry) → c .end ≡ now (end .entry) → r ≡ any stores (overfull j k c records)) ⌝ }
+    requires { ⌜
+        (stores ≤ 8)
+        × ((s : ℕ) → s < stores → at records s ≤ 128)
+        × (1024 ≤ length (now node))
+        × (1024 ≤ length (now start))
+        × (1024 ≤ length (now end))
+        ⌝ }
+    ensures { λ r. ⌜
+        ((c : Ranges)
+        → c .node ≡ now (node .entry)
+        → c .start ≡ now (start .entry)
+        → c .end ≡ now (end .entry)
+        → r ≡ any stores (overfull j k c records))
+        ⌝ }
 {
     let mut s: usize = 0;
     while s < stores {
@@ -122,8 +186,21 @@ pub fn ids_needed(
     j: usize,
     k: usize,
 ) -> usize
-    requires { ⌜ (stores ≤ 8) × ((s : ℕ) → s < stores → at records s ≤ 128) × (1024 ≤ length (now node)) × (1024 ≤ length (now start)) × (1024 ≤ length (now end)) ⌝ }
-    ensures { λ r. ⌜ (r ≤ 128 * stores) × ((c : Ranges) → c .node ≡ now (node .entry) → c .start ≡ now (start .entry) → c .end ≡ now (end .entry) → r ≡ idsBelow j k c records stores) ⌝ }
+    requires { ⌜
+        (stores ≤ 8)
+        × ((s : ℕ) → s < stores → at records s ≤ 128)
+        × (1024 ≤ length (now node))
+        × (1024 ≤ length (now start))
+        × (1024 ≤ length (now end))
+        ⌝ }
+    ensures { λ r. ⌜
+        (r ≤ 128 * stores)
+        × ((c : Ranges)
+        → c .node ≡ now (node .entry)
+        → c .start ≡ now (start .entry)
+        → c .end ≡ now (end .entry)
+        → r ≡ idsBelow j k c records stores)
+        ⌝ }
 {
     let mut sum: usize = 0;
     let mut s: usize = 0;
@@ -146,8 +223,19 @@ pub fn cut_pins(
     k: usize,
     m: usize,
 ) -> usize
-    requires { ⌜ (s < 8) × (n + pinsAcross j k (pins (pinsOf (now node) (now start) (now end) (now count)) (32 * s) n) ≤ 32) × (counts (pins (pinsOf (now node) (now start) (now end) (now count)) (32 * s) n) ≤ maxPinned) × PinsLent (pinsOf (now node) (now start) (now end) (now count)) ⌝ }
-    ensures { λ r. ⌜ (pinsOf (now (node .exit)) (now (start .exit)) (now (end .exit)) (now (count .exit)) ≡ layPins (32 * s) (n + pinsAcross j k (pins (pinsOf (now (node .entry)) (now (start .entry)) (now (end .entry)) (now (count .entry))) (32 * s) n)) (cutPins j k m (pins (pinsOf (now (node .entry)) (now (start .entry)) (now (end .entry)) (now (count .entry))) (32 * s) n)) (pinsOf (now (node .entry)) (now (start .entry)) (now (end .entry)) (now (count .entry)))) × (r ≡ length (cutPins j k m (pins (pinsOf (now (node .entry)) (now (start .entry)) (now (end .entry)) (now (count .entry))) (32 * s) n))) ⌝ }
+    requires { ⌜
+        (s < 8)
+        × (n + pinsAcross j k (pins (pinsOf (now node) (now start) (now end) (now count)) (32 * s) n) ≤ 32)
+        × (counts (pins (pinsOf (now node) (now start) (now end) (now count)) (32 * s) n) ≤ maxPinned)
+        × PinsLent (pinsOf (now node) (now start) (now end) (now count))
+        ⌝ }
+    ensures { λ r. ⌜
+        (pinsOf (now (node .exit)) (now (start .exit)) (now (end .exit)) (now (count .exit))
+        ≡ layPins (32 * s) (n + pinsAcross j k (pins (pinsOf (now (node .entry)) (now (start .entry)) (now (end .entry)) (now (count .entry))) (32 * s) n))
+        (cutPins j k m (pins (pinsOf (now (node .entry)) (now (start .entry)) (now (end .entry)) (now (count .entry))) (32 * s) n))
+        (pinsOf (now (node .entry)) (now (start .entry)) (now (end .entry)) (now (count .entry))))
+        × (r ≡ length (cutPins j k m (pins (pinsOf (now (node .entry)) (now (start .entry)) (now (end .entry)) (now (count .entry))) (32 * s) n)))
+        ⌝ }
 {
     let a = 32 * s;
     let e = a + 32;
@@ -174,7 +262,14 @@ pub fn pins_across(
     k: usize,
 ) -> usize
     requires { ⌜ (s < 8) × (n ≤ 32) × (256 ≤ length (now node)) × (256 ≤ length (now start)) × (256 ≤ length (now end)) ⌝ }
-    ensures { λ r. ⌜ (r ≤ n) × ((c : Pins) → c .node ≡ now (node .entry) → c .start ≡ now (start .entry) → c .end ≡ now (end .entry) → r ≡ pinsAcross j k (pins c (32 * s) n)) ⌝ }
+    ensures { λ r. ⌜
+        (r ≤ n)
+        × ((c : Pins)
+        → c .node ≡ now (node .entry)
+        → c .start ≡ now (start .entry)
+        → c .end ≡ now (end .entry)
+        → r ≡ pinsAcross j k (pins c (32 * s) n))
+        ⌝ }
 {
     let a = 32 * s;
     let e = a + 32;
@@ -191,8 +286,20 @@ pub fn entries_over(
     j: usize,
     k: usize,
 ) -> bool
-    requires { ⌜ (stores ≤ 8) × ((s : ℕ) → s < stores → at entries s ≤ 32) × (256 ≤ length (now node)) × (256 ≤ length (now start)) × (256 ≤ length (now end)) ⌝ }
-    ensures { λ r. ⌜ ((c : Pins) → c .node ≡ now (node .entry) → c .start ≡ now (start .entry) → c .end ≡ now (end .entry) → r ≡ any stores (overpinned j k c entries)) ⌝ }
+    requires { ⌜
+        (stores ≤ 8)
+        × ((s : ℕ) → s < stores → at entries s ≤ 32)
+        × (256 ≤ length (now node))
+        × (256 ≤ length (now start))
+        × (256 ≤ length (now end))
+        ⌝ }
+    ensures { λ r. ⌜
+        ((c : Pins)
+        → c .node ≡ now (node .entry)
+        → c .start ≡ now (start .entry)
+        → c .end ≡ now (end .entry)
+        → r ≡ any stores (overpinned j k c entries))
+        ⌝ }
 {
     let mut s: usize = 0;
     while s < stores {

@@ -20,7 +20,9 @@ pub fn ranges_across(
     k: usize,
 ) -> usize
     requires { ⌜ (n ≤ 128) × (n ≤ length (now node)) × (n ≤ length (now start)) × (n ≤ length (now end)) ⌝ }
-    ensures { λ r. ⌜ ((c : Ranges) → c .node ≡ now (node .entry) → c .start ≡ now (start .entry) → c .end ≡ now (end .entry) → r ≡ acrossIn j k n c) ⌝ }
+    ensures { λ r. ⌜
+        ((c : Ranges) → c .node ≡ now (node .entry) → c .start ≡ now (start .entry) → c .end ≡ now (end .entry) → r ≡ acrossIn j k n c)
+        ⌝ }
 {
     cutcols::count_across(node, start, end, n, j, k)
 }
@@ -46,8 +48,27 @@ pub fn cut_ranges(
     m: usize,
     next: u64,
 ) -> After
-    requires { ⌜ (n + acrossIn j k n (rangesOf (now node) (now start) (now end) (now id) (now stamp) (now touched) (now write)) ≤ 128) × (next ≤ maxStamp) × Sized 128 (rangesOf (now node) (now start) (now end) (now id) (now stamp) (now touched) (now write)) ⌝ }
-    ensures { λ r. ⌜ (rangesOf (now (node .exit)) (now (start .exit)) (now (end .exit)) (now (id .exit)) (now (stamp .exit)) (now (touched .exit)) (now (write .exit)) ≡ cutRanges j k m next n (rangesOf (now (node .entry)) (now (start .entry)) (now (end .entry)) (now (id .entry)) (now (stamp .entry)) (now (touched .entry)) (now (write .entry)))) × (r .n ≡ n + acrossIn j k n (rangesOf (now (node .entry)) (now (start .entry)) (now (end .entry)) (now (id .entry)) (now (stamp .entry)) (now (touched .entry)) (now (write .entry)))) × (r .next ≡ next + acrossIn j k n (rangesOf (now (node .entry)) (now (start .entry)) (now (end .entry)) (now (id .entry)) (now (stamp .entry)) (now (touched .entry)) (now (write .entry)))) ⌝ }
+    requires { ⌜
+        (n + acrossIn j k n (rangesOf (now node) (now start) (now end) (now id) (now stamp) (now touched) (now write)) ≤ 128)
+        × (next ≤ maxStamp)
+        × Sized 128 (rangesOf (now node) (now start) (now end) (now id) (now stamp) (now touched) (now write))
+        ⌝ }
+    ensures { λ r. ⌜
+        (rangesOf (now (node .exit)) (now (start .exit)) (now (end .exit)) (now (id .exit)) (now (stamp .exit)) (now (touched .exit)) (now (write .exit))
+        ≡ cutRanges j k m next n
+        (rangesOf (now (node .entry)) (now (start .entry)) (now (end .entry)) (now (id .entry)) (now (stamp .entry)) (now (touched .entry))
+        (now (write .entry))))
+        × (r .n
+        ≡ n
+        + acrossIn j k n
+        (rangesOf (now (node .entry)) (now (start .entry)) (now (end .entry)) (now (id .entry)) (now (stamp .entry)) (now (touched .entry))
+        (now (write .entry))))
+        × (r .next
+        ≡ next
+        + acrossIn j k n
+        (rangesOf (now (node .entry)) (now (start .entry)) (now (end .entry)) (now (id .entry)) (now (stamp .entry)) (now (touched .entry))
+        (now (write .entry))))
+        ⌝ }
 {
     let mut s = Place {
         at: 0,

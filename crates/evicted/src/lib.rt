@@ -51,7 +51,11 @@ pub fn put_out(
     e: Evicted,
 )
     requires { ⌜ (k < 128) × OutFits (outList (now node) (now start) (now end) (now write) (now bytes) (now dead)) ⌝ }
-    ensures { λ _. ⌜ outList (now (node .exit)) (now (start .exit)) (now (end .exit)) (now (write .exit)) (now (bytes .exit)) (now (dead .exit)) ≡ setOut k (outOf e) (outList (now (node .entry)) (now (start .entry)) (now (end .entry)) (now (write .entry)) (now (bytes .entry)) (now (dead .entry))) ⌝ }
+    ensures { λ _. ⌜
+        outList (now (node .exit)) (now (start .exit)) (now (end .exit)) (now (write .exit)) (now (bytes .exit)) (now (dead .exit))
+        ≡ setOut k (outOf e)
+        (outList (now (node .entry)) (now (start .entry)) (now (end .entry)) (now (write .entry)) (now (bytes .entry)) (now (dead .entry)))
+        ⌝ }
 {
     let sp = e.span;
     let w = e.write;

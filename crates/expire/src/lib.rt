@@ -72,7 +72,10 @@ pub fn store_expire(
     time: f64,
     seconds: f64,
 ) -> Expiring
-    requires { ⌜ Ready (now depth) (now bytes) n held (rangesOf (now node) (now start) (now end) (now id) (now stamp) (now touched) (now write)) (now marks) (outList (now «out_node») (now «out_start») (now «out_end») (now «out_write») (now «out_bytes») (now «out_dead»)) ⌝ }
+    requires { ⌜
+        Ready (now depth) (now bytes) n held (rangesOf (now node) (now start) (now end) (now id) (now stamp) (now touched) (now write)) (now marks)
+        (outList (now «out_node») (now «out_start») (now «out_end») (now «out_write») (now «out_bytes») (now «out_dead»))
+        ⌝ }
     ensures { λ r. ⌜
         GivenOut
         (expired (onlyDepth (now (depth .entry))) (now (bytes .entry)) time seconds

@@ -59,7 +59,11 @@ pub fn store_missing(
     z: usize,
 ) -> Gaps
     requires { ⌜ (n ≤ 128) × (n ≤ length (now node)) × (n ≤ length (now start)) × (n ≤ length (now end)) ⌝ }
-    ensures { λ r. ⌜ (r .n ≤ n + 1) × ((id stamp write : List ℕ) (touched : List Float) → gapsOf r ≡ gapsBetween nd (ranges (rangesOf (now (node .entry)) (now (start .entry)) (now (end .entry)) id stamp touched write) 0 n) a z) ⌝ }
+    ensures { λ r. ⌜
+        (r .n ≤ n + 1)
+        × ((id stamp write : List ℕ) (touched : List Float)
+        → gapsOf r ≡ gapsBetween nd (ranges (rangesOf (now (node .entry)) (now (start .entry)) (now (end .entry)) id stamp touched write) 0 n) a z)
+        ⌝ }
 {
     let from = [0usize; 129];
     let upto = [0usize; 129];
@@ -101,7 +105,11 @@ fn goes_before(nd: usize, s: usize, node: usize, start: usize) -> bool
 // The place of a range of node nd that starts at s, among the records.
 pub fn place_for(node: &[usize], start: &[usize], n: usize, nd: usize, s: usize) -> usize
     requires { ⌜ (n ≤ length (now node)) × (n ≤ length (now start)) ⌝ }
-    ensures { λ r. ⌜ (r ≤ n) × ((end id stamp write : List ℕ) (touched : List Float) → PlaceFor nd s (ranges (rangesOf (now (node .entry)) (now (start .entry)) end id stamp touched write) 0 n) r) ⌝ }
+    ensures { λ r. ⌜
+        (r ≤ n)
+        × ((end id stamp write : List ℕ) (touched : List Float)
+        → PlaceFor nd s (ranges (rangesOf (now (node .entry)) (now (start .entry)) end id stamp touched write) 0 n) r)
+        ⌝ }
 {
     let mut i: usize = 0;
     while i < n {

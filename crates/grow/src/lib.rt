@@ -39,8 +39,22 @@ pub fn cut_tree(
     j: usize,
     k: usize,
 )
-    requires { ⌜ (1 ≤ nodes) × (nodes < length (now parent)) × (nodes < length (now depth)) × (nodes < length (now len)) × (nodes < length (now run)) × (j < nodes) × (k ≤ at (now len) j) × (at (now depth) j + k ≤ 1024) × (at (now run) j + k ≤ 4096) ⌝ }
-    ensures { λ _. ⌜ ((words : List ℕ) (used : ℕ) → treeOf (now (parent .exit)) (now (depth .exit)) (now (len .exit)) (now (run .exit)) words (nodes + 1) used ≡ cutTree j k (treeOf (now (parent .entry)) (now (depth .entry)) (now (len .entry)) (now (run .entry)) words nodes used)) ⌝ }
+    requires { ⌜
+        (1 ≤ nodes)
+        × (nodes < length (now parent))
+        × (nodes < length (now depth))
+        × (nodes < length (now len))
+        × (nodes < length (now run))
+        × (j < nodes)
+        × (k ≤ at (now len) j)
+        × (at (now depth) j + k ≤ 1024)
+        × (at (now run) j + k ≤ 4096)
+        ⌝ }
+    ensures { λ _. ⌜
+        ((words : List ℕ) (used : ℕ)
+        → treeOf (now (parent .exit)) (now (depth .exit)) (now (len .exit)) (now (run .exit)) words (nodes + 1) used
+        ≡ cutTree j k (treeOf (now (parent .entry)) (now (depth .entry)) (now (len .entry)) (now (run .entry)) words nodes used))
+        ⌝ }
 {
     let d = depth[j] + k;
     let l = len[j] - k;
@@ -78,8 +92,20 @@ pub fn add_leaf(
     hashes: &[u64],
     from: usize,
 )
-    requires { ⌜ (nodes < length (now parent)) × (nodes < length (now depth)) × (nodes < length (now len)) × (nodes < length (now run)) × (from ≤ length (now hashes)) × (used + (length (now hashes) - from) ≤ length (now words)) ⌝ }
-    ensures { λ _. ⌜ treeOf (now (parent .exit)) (now (depth .exit)) (now (len .exit)) (now (run .exit)) (now (words .exit)) (nodes + 1) (used + (length (now (hashes .entry)) - from)) ≡ addLeaf p from (drop from (now (hashes .entry))) (treeOf (now (parent .entry)) (now (depth .entry)) (now (len .entry)) (now (run .entry)) (now (words .entry)) nodes used) ⌝ }
+    requires { ⌜
+        (nodes < length (now parent))
+        × (nodes < length (now depth))
+        × (nodes < length (now len))
+        × (nodes < length (now run))
+        × (from ≤ length (now hashes))
+        × (used + (length (now hashes) - from) ≤ length (now words))
+        ⌝ }
+    ensures { λ _. ⌜
+        treeOf (now (parent .exit)) (now (depth .exit)) (now (len .exit)) (now (run .exit)) (now (words .exit)) (nodes + 1)
+        (used + (length (now (hashes .entry)) - from))
+        ≡ addLeaf p from (drop from (now (hashes .entry)))
+        (treeOf (now (parent .entry)) (now (depth .entry)) (now (len .entry)) (now (run .entry)) (now (words .entry)) nodes used)
+        ⌝ }
 {
     parent[nodes] = p;
     depth[nodes] = from;

@@ -49,8 +49,21 @@ fn cut_refusal(
     j: usize,
     k: usize,
 ) -> u8
-    requires { ⌜ (stores ≤ 8) × ((s : ℕ) → s < stores → at records s ≤ 128) × (1024 ≤ length (now node)) × (1024 ≤ length (now start)) × (1024 ≤ length (now end)) × (next ≤ maxStamp) ⌝ }
-    ensures { λ r. ⌜ ((c : Ranges) → c .node ≡ now (node .entry) → c .start ≡ now (start .entry) → c .end ≡ now (end .entry) → r ≡ cutRefusal j k over c records stores next) ⌝ }
+    requires { ⌜
+        (stores ≤ 8)
+        × ((s : ℕ) → s < stores → at records s ≤ 128)
+        × (1024 ≤ length (now node))
+        × (1024 ≤ length (now start))
+        × (1024 ≤ length (now end))
+        × (next ≤ maxStamp)
+        ⌝ }
+    ensures { λ r. ⌜
+        ((c : Ranges)
+        → c .node ≡ now (node .entry)
+        → c .start ≡ now (start .entry)
+        → c .end ≡ now (end .entry)
+        → r ≡ cutRefusal j k over c records stores next)
+        ⌝ }
 {
     if records_over(node, start, end, records, stores, j, k) {
         return 8;
@@ -87,7 +100,11 @@ pub fn insert_refusal(
     count: usize,
 ) -> u8
     requires { ⌜ ((st : State) × (hs : List ℕ) × Seen (now len) (now node) (now start) (now end) (now books) over m count st hs) ⌝ }
-    ensures { λ r. ⌜ ((st : State) (hs : List ℕ) → Seen (now (len .entry)) (now (node .entry)) (now (start .entry)) (now (end .entry)) (now (books .entry)) over m count st hs → r ≡ insertRefusal st hs) ⌝ }
+    ensures { λ r. ⌜
+        ((st : State) (hs : List ℕ)
+        → Seen (now (len .entry)) (now (node .entry)) (now (start .entry)) (now (end .entry)) (now (books .entry)) over m count st hs
+        → r ≡ insertRefusal st hs)
+        ⌝ }
 {
     if count <= m.blocks {
         return 0;
@@ -125,8 +142,17 @@ pub fn refusal(
     m: Match,
     count: usize,
 ) -> u8
-    requires { ⌜ ((st : State) × (hs : List ℕ) × Shown (now len) (now node) (now start) (now end) (now «pin_node») (now «pin_start») (now «pin_end») (now books) m count st hs) ⌝ }
-    ensures { λ r. ⌜ ((st : State) (hs : List ℕ) → Shown (now (len .entry)) (now (node .entry)) (now (start .entry)) (now (end .entry)) (now («pin_node» .entry)) (now («pin_start» .entry)) (now («pin_end» .entry)) (now (books .entry)) m count st hs → r ≡ insertRefusal st hs) ⌝ }
+    requires { ⌜
+        ((st : State)
+        × (hs : List ℕ)
+        × Shown (now len) (now node) (now start) (now end) (now «pin_node») (now «pin_start») (now «pin_end») (now books) m count st hs)
+        ⌝ }
+    ensures { λ r. ⌜
+        ((st : State) (hs : List ℕ)
+        → Shown (now (len .entry)) (now (node .entry)) (now (start .entry)) (now (end .entry)) (now («pin_node» .entry)) (now («pin_start» .entry))
+        (now («pin_end» .entry)) (now (books .entry)) m count st hs
+        → r ≡ insertRefusal st hs)
+        ⌝ }
 {
     let stores = books[2] as usize;
     let entries = entries_of(books);
@@ -152,7 +178,14 @@ fn cut_range_half(
     next: u64,
 ) -> After
     requires { ⌜ RangesRoom j k m s n next (rangesOf (now node) (now start) (now end) (now id) (now stamp) (now touched) (now write)) (now marks) ⌝ }
-    ensures { λ r. ⌜ RangesCut j k m s n next (rangesOf (now (node .entry)) (now (start .entry)) (now (end .entry)) (now (id .entry)) (now (stamp .entry)) (now (touched .entry)) (now (write .entry))) (now (marks .entry)) (rangesOf (now (node .exit)) (now (start .exit)) (now (end .exit)) (now (id .exit)) (now (stamp .exit)) (now (touched .exit)) (now (write .exit))) (now (marks .exit)) r ⌝ }
+    ensures { λ r. ⌜
+        RangesCut j k m s n next
+        (rangesOf (now (node .entry)) (now (start .entry)) (now (end .entry)) (now (id .entry)) (now (stamp .entry)) (now (touched .entry))
+        (now (write .entry)))
+        (now (marks .entry))
+        (rangesOf (now (node .exit)) (now (start .exit)) (now (end .exit)) (now (id .exit)) (now (stamp .exit)) (now (touched .exit)) (now (write .exit)))
+        (now (marks .exit)) r
+        ⌝ }
 {
     let cut = cut_ranges(
         &mut *node,
@@ -177,7 +210,9 @@ fn cut_range_half(
 // The small numbers with those of store s after its cut. A cut pins no block more, so the count of pinned blocks stays.
 fn cut_books(books: &mut [u64], s: usize, b: Book, cut: After, entries: usize)
     requires { ⌜ (s < maxStores) × (maxNumbers ≤ length (now books)) ⌝ }
-    ensures { λ _. ⌜ now (books .exit) ≡ layNext (cut .next) (stallsIn (now (books .entry))) (layBook s (cutBook b (cut .n) entries) (now (books .entry))) ⌝ }
+    ensures { λ _. ⌜
+        now (books .exit) ≡ layNext (cut .next) (stallsIn (now (books .entry))) (layBook s (cutBook b (cut .n) entries) (now (books .entry)))
+        ⌝ }
 {
     let mut new = b;
     new.records = cut.n;
@@ -207,8 +242,23 @@ pub fn cut_store(
     k: usize,
     m: usize,
 )
-    requires { ⌜ StoreRoom j k m s (rangesOf (now node) (now start) (now end) (now id) (now stamp) (now touched) (now write)) (pinsOf (now «pin_node») (now «pin_start») (now «pin_end») (now «pin_count»)) (now marks) (now books) ⌝ }
-    ensures { λ _. ⌜ ((t : Tree) (bytes : List ℕ) → stateOf t (rangesOf (now (node .exit)) (now (start .exit)) (now (end .exit)) (now (id .exit)) (now (stamp .exit)) (now (touched .exit)) (now (write .exit))) (pinsOf (now («pin_node» .exit)) (now («pin_start» .exit)) (now («pin_end» .exit)) (now («pin_count» .exit))) (now (marks .exit)) bytes (now (books .exit)) ≡ cutStoreIn j k m s (stateOf t (rangesOf (now (node .entry)) (now (start .entry)) (now (end .entry)) (now (id .entry)) (now (stamp .entry)) (now (touched .entry)) (now (write .entry))) (pinsOf (now («pin_node» .entry)) (now («pin_start» .entry)) (now («pin_end» .entry)) (now («pin_count» .entry))) (now (marks .entry)) bytes (now (books .entry)))) ⌝ }
+    requires { ⌜
+        StoreRoom j k m s (rangesOf (now node) (now start) (now end) (now id) (now stamp) (now touched) (now write))
+        (pinsOf (now «pin_node») (now «pin_start») (now «pin_end») (now «pin_count»)) (now marks) (now books)
+        ⌝ }
+    ensures { λ _. ⌜
+        ((t : Tree) (bytes : List ℕ)
+        → stateOf t
+        (rangesOf (now (node .exit)) (now (start .exit)) (now (end .exit)) (now (id .exit)) (now (stamp .exit)) (now (touched .exit)) (now (write .exit)))
+        (pinsOf (now («pin_node» .exit)) (now («pin_start» .exit)) (now («pin_end» .exit)) (now («pin_count» .exit))) (now (marks .exit)) bytes
+        (now (books .exit))
+        ≡ cutStoreIn j k m s
+        (stateOf t
+        (rangesOf (now (node .entry)) (now (start .entry)) (now (end .entry)) (now (id .entry)) (now (stamp .entry)) (now (touched .entry))
+        (now (write .entry)))
+        (pinsOf (now («pin_node» .entry)) (now («pin_start» .entry)) (now («pin_end» .entry)) (now («pin_count» .entry))) (now (marks .entry))
+        bytes (now (books .entry))))
+        ⌝ }
 {
     let b = book_of(books, s);
     let cut = cut_range_half(

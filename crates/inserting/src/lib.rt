@@ -34,8 +34,14 @@ fn lay_path(
     found_len: &[usize],
     n: usize,
 )
-    requires { ⌜ (n ≤ length (now «found_node»)) × (n ≤ length (now «found_len»)) × (n ≤ length (now «path_node»)) × (n ≤ length (now «path_len»)) ⌝ }
-    ensures { λ _. ⌜ (pathListOf (now («path_node» .exit)) (now («path_len» .exit))) ≡ pathListOf (front (take n (now («found_node» .entry))) (now («path_node» .entry))) (front (take n (now («found_len» .entry))) (now («path_len» .entry))) ⌝ }
+    requires { ⌜
+        (n ≤ length (now «found_node»)) × (n ≤ length (now «found_len»)) × (n ≤ length (now «path_node»)) × (n ≤ length (now «path_len»))
+        ⌝ }
+    ensures { λ _. ⌜
+        (pathListOf (now («path_node» .exit)) (now («path_len» .exit)))
+        ≡ pathListOf (front (take n (now («found_node» .entry))) (now («path_node» .entry)))
+        (front (take n (now («found_len» .entry))) (now («path_len» .entry)))
+        ⌝ }
 {
     copy_front(path_node, found_node, n);
     copy_front(path_len, found_len, n);
@@ -51,8 +57,14 @@ fn lay_longer(
     node: usize,
     len: usize,
 )
-    requires { ⌜ (n ≤ length (now «found_node»)) × (n ≤ length (now «found_len»)) × (n < length (now «path_node»)) × (n < length (now «path_len»)) ⌝ }
-    ensures { λ _. ⌜ (pathListOf (now («path_node» .exit)) (now («path_len» .exit))) ≡ pathListOf (front (take n (now («found_node» .entry)) ++ (node ∷ [])) (now («path_node» .entry))) (front (take n (now («found_len» .entry)) ++ (len ∷ [])) (now («path_len» .entry))) ⌝ }
+    requires { ⌜
+        (n ≤ length (now «found_node»)) × (n ≤ length (now «found_len»)) × (n < length (now «path_node»)) × (n < length (now «path_len»))
+        ⌝ }
+    ensures { λ _. ⌜
+        (pathListOf (now («path_node» .exit)) (now («path_len» .exit)))
+        ≡ pathListOf (front (take n (now («found_node» .entry)) ++ (node ∷ [])) (now («path_node» .entry)))
+        (front (take n (now («found_len» .entry)) ++ (len ∷ [])) (now («path_len» .entry)))
+        ⌝ }
 {
     lay_path(&mut *path_node, &mut *path_len, found_node, found_len, n);
     path_node[n] = node;
@@ -74,8 +86,27 @@ fn add_rest(
     found_node: &[usize],
     found_len: &[usize],
 )
-    requires { ⌜ ((ss : List Seg) × LeafRoom ss (treeOf (now parent) (now depth) (now len) (now run) (now words) (nodesIn (now books)) (usedIn (now books))) (now books) (pathListOf (now «path_node») (now «path_len»)) (now hashes) m (pathListOf (now «found_node») (now «found_len»))) ⌝ }
-    ensures { λ _. ⌜ ((ss : List Seg) (split : Split) (c : Ranges) (p : Pins) (marks bytes : List ℕ) → Found ss m (pathListOf (now («found_node» .entry)) (now («found_len» .entry))) → Left (withLeaf (now (hashes .entry)) ss split (stateOf (treeOf (now (parent .entry)) (now (depth .entry)) (now (len .entry)) (now (run .entry)) (now (words .entry)) (nodesIn (now (books .entry))) (usedIn (now (books .entry)))) c p marks bytes (now (books .entry)))) (pathListOf (now («path_node» .entry)) (now («path_len» .entry))) (stateOf (treeOf (now (parent .exit)) (now (depth .exit)) (now (len .exit)) (now (run .exit)) (now (words .exit)) (nodesIn (now (books .exit))) (usedIn (now (books .exit)))) c p marks bytes (now (books .exit))) (pathListOf (now («path_node» .exit)) (now («path_len» .exit)))) ⌝ }
+    requires { ⌜
+        ((ss : List Seg)
+        × LeafRoom ss (treeOf (now parent) (now depth) (now len) (now run) (now words) (nodesIn (now books)) (usedIn (now books))) (now books)
+        (pathListOf (now «path_node») (now «path_len»)) (now hashes) m (pathListOf (now «found_node») (now «found_len»)))
+        ⌝ }
+    ensures { λ _. ⌜
+        ((ss : List Seg) (split : Split) (c : Ranges) (p : Pins) (marks bytes : List ℕ)
+        → Found ss m (pathListOf (now («found_node» .entry)) (now («found_len» .entry)))
+        → Left
+        (withLeaf (now (hashes .entry)) ss split
+        (stateOf
+        (treeOf (now (parent .entry)) (now (depth .entry)) (now (len .entry)) (now (run .entry)) (now (words .entry)) (nodesIn (now (books .entry)))
+        (usedIn (now (books .entry))))
+        c p marks bytes (now (books .entry))))
+        (pathListOf (now («path_node» .entry)) (now («path_len» .entry)))
+        (stateOf
+        (treeOf (now (parent .exit)) (now (depth .exit)) (now (len .exit)) (now (run .exit)) (now (words .exit)) (nodesIn (now (books .exit)))
+        (usedIn (now (books .exit))))
+        c p marks bytes (now (books .exit)))
+        (pathListOf (now («path_node» .exit)) (now («path_len» .exit))))
+        ⌝ }
 {
     let nodes = books[0] as usize;
     let used = books[1] as usize;
@@ -132,8 +163,25 @@ fn insert_found(
     found_node: &[usize],
     found_len: &[usize],
 ) -> Inserted
-    requires { ⌜ Passed (stateFrom (now parent) (now depth) (now len) (now run) (now words) (now node) (now start) (now end) (now id) (now stamp) (now touched) (now write) (now «pin_node») (now «pin_start») (now «pin_end») (now «pin_count») (now marks) (now bytes) (now books)) (pathListOf (now «path_node») (now «path_len»)) (now hashes) m (pathListOf (now «found_node») (now «found_len»)) ⌝ }
-    ensures { λ r. ⌜ outcome (stateFrom (now (parent .exit)) (now (depth .exit)) (now (len .exit)) (now (run .exit)) (now (words .exit)) (now (node .exit)) (now (start .exit)) (now (end .exit)) (now (id .exit)) (now (stamp .exit)) (now (touched .exit)) (now (write .exit)) (now («pin_node» .exit)) (now («pin_start» .exit)) (now («pin_end» .exit)) (now («pin_count» .exit)) (now (marks .exit)) (now (bytes .entry)) (now (books .exit))) (pathListOf (now («path_node» .exit)) (now («path_len» .exit))) (insertedOf r) ≡ insertCall (stateFrom (now (parent .entry)) (now (depth .entry)) (now (len .entry)) (now (run .entry)) (now (words .entry)) (now (node .entry)) (now (start .entry)) (now (end .entry)) (now (id .entry)) (now (stamp .entry)) (now (touched .entry)) (now (write .entry)) (now («pin_node» .entry)) (now («pin_start» .entry)) (now («pin_end» .entry)) (now («pin_count» .entry)) (now (marks .entry)) (now (bytes .entry)) (now (books .entry))) (pathListOf (now («path_node» .entry)) (now («path_len» .entry))) (now (hashes .entry)) ⌝ }
+    requires { ⌜
+        Passed
+        (stateFrom (now parent) (now depth) (now len) (now run) (now words) (now node) (now start) (now end) (now id) (now stamp) (now touched) (now write)
+        (now «pin_node») (now «pin_start») (now «pin_end») (now «pin_count») (now marks) (now bytes) (now books))
+        (pathListOf (now «path_node») (now «path_len»)) (now hashes) m (pathListOf (now «found_node») (now «found_len»))
+        ⌝ }
+    ensures { λ r. ⌜
+        outcome
+        (stateFrom (now (parent .exit)) (now (depth .exit)) (now (len .exit)) (now (run .exit)) (now (words .exit)) (now (node .exit)) (now (start .exit))
+        (now (end .exit)) (now (id .exit)) (now (stamp .exit)) (now (touched .exit)) (now (write .exit)) (now («pin_node» .exit))
+        (now («pin_start» .exit)) (now («pin_end» .exit)) (now («pin_count» .exit)) (now (marks .exit)) (now (bytes .entry)) (now (books .exit)))
+        (pathListOf (now («path_node» .exit)) (now («path_len» .exit))) (insertedOf r)
+        ≡ insertCall
+        (stateFrom (now (parent .entry)) (now (depth .entry)) (now (len .entry)) (now (run .entry)) (now (words .entry)) (now (node .entry))
+        (now (start .entry)) (now (end .entry)) (now (id .entry)) (now (stamp .entry)) (now (touched .entry)) (now (write .entry))
+        (now («pin_node» .entry)) (now («pin_start» .entry)) (now («pin_end» .entry)) (now («pin_count» .entry)) (now (marks .entry))
+        (now (bytes .entry)) (now (books .entry)))
+        (pathListOf (now («path_node» .entry)) (now («path_len» .entry))) (now (hashes .entry))
+        ⌝ }
 {
     let count = hashes.len();
     if count <= m.blocks {
@@ -248,8 +296,25 @@ pub fn insert(
     path_len: &mut [usize],
     hashes: &[u64],
 ) -> Inserted
-    requires { ⌜ Sound (stateFrom (now parent) (now depth) (now len) (now run) (now words) (now node) (now start) (now end) (now id) (now stamp) (now touched) (now write) (now «pin_node») (now «pin_start») (now «pin_end») (now «pin_count») (now marks) (now bytes) (now books)) × PathFits (pathListOf (now «path_node») (now «path_len»)) ⌝ }
-    ensures { λ r. ⌜ outcome (stateFrom (now (parent .exit)) (now (depth .exit)) (now (len .exit)) (now (run .exit)) (now (words .exit)) (now (node .exit)) (now (start .exit)) (now (end .exit)) (now (id .exit)) (now (stamp .exit)) (now (touched .exit)) (now (write .exit)) (now («pin_node» .exit)) (now («pin_start» .exit)) (now («pin_end» .exit)) (now («pin_count» .exit)) (now (marks .exit)) (now (bytes .entry)) (now (books .exit))) (pathListOf (now («path_node» .exit)) (now («path_len» .exit))) (insertedOf r) ≡ insertCall (stateFrom (now (parent .entry)) (now (depth .entry)) (now (len .entry)) (now (run .entry)) (now (words .entry)) (now (node .entry)) (now (start .entry)) (now (end .entry)) (now (id .entry)) (now (stamp .entry)) (now (touched .entry)) (now (write .entry)) (now («pin_node» .entry)) (now («pin_start» .entry)) (now («pin_end» .entry)) (now («pin_count» .entry)) (now (marks .entry)) (now (bytes .entry)) (now (books .entry))) (pathListOf (now («path_node» .entry)) (now («path_len» .entry))) (now (hashes .entry)) ⌝ }
+    requires { ⌜
+        Sound
+        (stateFrom (now parent) (now depth) (now len) (now run) (now words) (now node) (now start) (now end) (now id) (now stamp) (now touched) (now write)
+        (now «pin_node») (now «pin_start») (now «pin_end») (now «pin_count») (now marks) (now bytes) (now books))
+        × PathFits (pathListOf (now «path_node») (now «path_len»))
+        ⌝ }
+    ensures { λ r. ⌜
+        outcome
+        (stateFrom (now (parent .exit)) (now (depth .exit)) (now (len .exit)) (now (run .exit)) (now (words .exit)) (now (node .exit)) (now (start .exit))
+        (now (end .exit)) (now (id .exit)) (now (stamp .exit)) (now (touched .exit)) (now (write .exit)) (now («pin_node» .exit))
+        (now («pin_start» .exit)) (now («pin_end» .exit)) (now («pin_count» .exit)) (now (marks .exit)) (now (bytes .entry)) (now (books .exit)))
+        (pathListOf (now («path_node» .exit)) (now («path_len» .exit))) (insertedOf r)
+        ≡ insertCall
+        (stateFrom (now (parent .entry)) (now (depth .entry)) (now (len .entry)) (now (run .entry)) (now (words .entry)) (now (node .entry))
+        (now (start .entry)) (now (end .entry)) (now (id .entry)) (now (stamp .entry)) (now (touched .entry)) (now (write .entry))
+        (now («pin_node» .entry)) (now («pin_start» .entry)) (now («pin_end» .entry)) (now («pin_count» .entry)) (now (marks .entry))
+        (now (bytes .entry)) (now (books .entry)))
+        (pathListOf (now («path_node» .entry)) (now («path_len» .entry))) (now (hashes .entry))
+        ⌝ }
 {
     let count = hashes.len();
     if 1024 < count {

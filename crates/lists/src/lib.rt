@@ -27,7 +27,9 @@ pub fn outs_fit(
     bytes: &[u64],
     dead: &[u64],
 ) -> bool
-    ensures { λ r. ⌜ Says r (OutFits (outList (now (node .entry)) (now (start .entry)) (now (end .entry)) (now (write .entry)) (now (bytes .entry)) (now (dead .entry)))) ⌝ }
+    ensures { λ r. ⌜
+        Says r (OutFits (outList (now (node .entry)) (now (start .entry)) (now (end .entry)) (now (write .entry)) (now (bytes .entry)) (now (dead .entry))))
+        ⌝ }
 {
     if node.len() < 128 {
         return false;
@@ -60,7 +62,9 @@ pub fn writes_fit(list: &[u32]) -> bool
 }
 
 pub fn tiers_fit(tier: &[usize], node: &[usize], start: &[usize], end: &[usize]) -> bool
-    ensures { λ r. ⌜ Says r (TierFits (record { tier = now (tier .entry); node = now (node .entry); start = now (start .entry); end = now (end .entry) })) ⌝ }
+    ensures { λ r. ⌜
+        Says r (TierFits (record { tier = now (tier .entry); node = now (node .entry); start = now (start .entry); end = now (end .entry) }))
+        ⌝ }
 {
     if tier.len() < 1024 {
         return false;

@@ -97,7 +97,12 @@ pub fn held_bytes(
 ) -> u64
     requires { ⌜ (lo ≤ hi) × (hi ≤ 128) × (hi ≤ length (now start)) × (hi ≤ length (now end)) × Priced (now depth) (now bytes) sp ⌝ }
     requires { ⌜ Each lo hi (λ (i : ℕ). max (sp .start) (at (now start) i) ≤ min (sp .end) (at (now end) i)) ⌝ }
-    ensures { λ r. ⌜ ((node id stamp write : List ℕ) (touched : List Float) → r ≡ heldBytes (onlyDepth (now (depth .entry))) (now (bytes .entry)) (sp .node) (sp .start) (sp .end) (ranges (rangesOf node (now (start .entry)) (now (end .entry)) id stamp touched write) lo (hi - lo))) ⌝ }
+    ensures { λ r. ⌜
+        ((node id stamp write : List ℕ) (touched : List Float)
+        → r
+        ≡ heldBytes (onlyDepth (now (depth .entry))) (now (bytes .entry)) (sp .node) (sp .start) (sp .end)
+        (ranges (rangesOf node (now (start .entry)) (now (end .entry)) id stamp touched write) lo (hi - lo)))
+        ⌝ }
 {
     let mut sum: u64 = 0;
     let mut i = lo;
@@ -199,7 +204,17 @@ pub fn split_rec(
     new: u64,
 )
     requires { ⌜ (i < n) × (n < 128) × Sized 128 (rangesOf (now node) (now start) (now end) (now id) (now stamp) (now touched) (now write)) ⌝ }
-    ensures { λ _. ⌜ rangesOf (now (node .exit)) (now (start .exit)) (now (end .exit)) (now (id .exit)) (now (stamp .exit)) (now (touched .exit)) (now (write .exit)) ≡ layRanges 0 (n + 1) (atPlace i (halves m new) (ranges (rangesOf (now (node .entry)) (now (start .entry)) (now (end .entry)) (now (id .entry)) (now (stamp .entry)) (now (touched .entry)) (now (write .entry))) 0 n)) (rangesOf (now (node .entry)) (now (start .entry)) (now (end .entry)) (now (id .entry)) (now (stamp .entry)) (now (touched .entry)) (now (write .entry))) ⌝ }
+    ensures { λ _. ⌜
+        rangesOf (now (node .exit)) (now (start .exit)) (now (end .exit)) (now (id .exit)) (now (stamp .exit)) (now (touched .exit)) (now (write .exit))
+        ≡ layRanges 0 (n + 1)
+        (atPlace i (halves m new)
+        (ranges
+        (rangesOf (now (node .entry)) (now (start .entry)) (now (end .entry)) (now (id .entry)) (now (stamp .entry)) (now (touched .entry))
+        (now (write .entry)))
+        0 n))
+        (rangesOf (now (node .entry)) (now (start .entry)) (now (end .entry)) (now (id .entry)) (now (stamp .entry)) (now (touched .entry))
+        (now (write .entry)))
+        ⌝ }
 {
     let r = Record {
         node: node[i],

@@ -119,7 +119,12 @@ fn put_pin(
     sp: Span,
 )
     requires { ⌜ (s < 8) × (n < 32) × (at ≤ n) × PinsLent (pinsOf (now node) (now start) (now end) (now count)) ⌝ }
-    ensures { λ _. ⌜ pinsOf (now (node .exit)) (now (start .exit)) (now (end .exit)) (now (count .exit)) ≡ layPins (32 * s) (n + 1) (insertAt at (pinOf sp 1) (pins (pinsOf (now (node .entry)) (now (start .entry)) (now (end .entry)) (now (count .entry))) (32 * s) n)) (pinsOf (now (node .entry)) (now (start .entry)) (now (end .entry)) (now (count .entry))) ⌝ }
+    ensures { λ _. ⌜
+        pinsOf (now (node .exit)) (now (start .exit)) (now (end .exit)) (now (count .exit))
+        ≡ layPins (32 * s) (n + 1)
+        (insertAt at (pinOf sp 1) (pins (pinsOf (now (node .entry)) (now (start .entry)) (now (end .entry)) (now (count .entry))) (32 * s) n))
+        (pinsOf (now (node .entry)) (now (start .entry)) (now (end .entry)) (now (count .entry)))
+        ⌝ }
 {
     let a = 32 * s;
     let e = a + 32;
@@ -140,7 +145,11 @@ fn cut_pin(
     at: usize,
 )
     requires { ⌜ (s < 8) × (n ≤ 32) × (at < n) × PinsLent (pinsOf (now node) (now start) (now end) (now count)) ⌝ }
-    ensures { λ _. ⌜ pinsOf (now (node .exit)) (now (start .exit)) (now (end .exit)) (now (count .exit)) ≡ layPins (32 * s) n (removeAt at (pins (pinsOf (now (node .entry)) (now (start .entry)) (now (end .entry)) (now (count .entry))) (32 * s) n)) (pinsOf (now (node .entry)) (now (start .entry)) (now (end .entry)) (now (count .entry))) ⌝ }
+    ensures { λ _. ⌜
+        pinsOf (now (node .exit)) (now (start .exit)) (now (end .exit)) (now (count .exit))
+        ≡ layPins (32 * s) n (removeAt at (pins (pinsOf (now (node .entry)) (now (start .entry)) (now (end .entry)) (now (count .entry))) (32 * s) n))
+        (pinsOf (now (node .entry)) (now (start .entry)) (now (end .entry)) (now (count .entry)))
+        ⌝ }
 {
     let a = 32 * s;
     let e = a + 32;
@@ -161,8 +170,20 @@ fn pin_at(
     place: Place,
     sp: Span,
 ) -> usize
-    requires { ⌜ (s < 8) × (n + plus (not (place .there)) 0 ≤ 32) × Placed (now node) (now start) (now end) (32 * s) n sp place × (place .there ≡ true → at (now count) (32 * s + place .at) ≤ maxPinned) × PinsLent (pinsOf (now node) (now start) (now end) (now count)) ⌝ }
-    ensures { λ r. ⌜ (pinsOf (now (node .exit)) (now (start .exit)) (now (end .exit)) (now (count .exit)) ≡ layPins (32 * s) (n + plus (not (place .there)) 0) (addPin (pinOf sp 1) (pins (pinsOf (now (node .entry)) (now (start .entry)) (now (end .entry)) (now (count .entry))) (32 * s) n)) (pinsOf (now (node .entry)) (now (start .entry)) (now (end .entry)) (now (count .entry)))) × (r ≡ length (addPin (pinOf sp 1) (pins (pinsOf (now (node .entry)) (now (start .entry)) (now (end .entry)) (now (count .entry))) (32 * s) n))) ⌝ }
+    requires { ⌜
+        (s < 8)
+        × (n + plus (not (place .there)) 0 ≤ 32)
+        × Placed (now node) (now start) (now end) (32 * s) n sp place
+        × (place .there ≡ true → at (now count) (32 * s + place .at) ≤ maxPinned)
+        × PinsLent (pinsOf (now node) (now start) (now end) (now count))
+        ⌝ }
+    ensures { λ r. ⌜
+        (pinsOf (now (node .exit)) (now (start .exit)) (now (end .exit)) (now (count .exit))
+        ≡ layPins (32 * s) (n + plus (not (place .there)) 0)
+        (addPin (pinOf sp 1) (pins (pinsOf (now (node .entry)) (now (start .entry)) (now (end .entry)) (now (count .entry))) (32 * s) n))
+        (pinsOf (now (node .entry)) (now (start .entry)) (now (end .entry)) (now (count .entry))))
+        × (r ≡ length (addPin (pinOf sp 1) (pins (pinsOf (now (node .entry)) (now (start .entry)) (now (end .entry)) (now (count .entry))) (32 * s) n)))
+        ⌝ }
 {
     let at = place.at;
     if place.there {
@@ -185,8 +206,20 @@ fn unpin_at(
     place: Place,
     sp: Span,
 ) -> usize
-    requires { ⌜ (s < 8) × (n ≤ 32) × (place .there ≡ true) × Placed (now node) (now start) (now end) (32 * s) n sp place × PinsLent (pinsOf (now node) (now start) (now end) (now count)) ⌝ }
-    ensures { λ r. ⌜ (pinsOf (now (node .exit)) (now (start .exit)) (now (end .exit)) (now (count .exit)) ≡ layPins (32 * s) n (takePin (pinOf sp 1) (pins (pinsOf (now (node .entry)) (now (start .entry)) (now (end .entry)) (now (count .entry))) (32 * s) n)) (pinsOf (now (node .entry)) (now (start .entry)) (now (end .entry)) (now (count .entry)))) × (r ≡ length (takePin (pinOf sp 1) (pins (pinsOf (now (node .entry)) (now (start .entry)) (now (end .entry)) (now (count .entry))) (32 * s) n))) ⌝ }
+    requires { ⌜
+        (s < 8)
+        × (n ≤ 32)
+        × (place .there ≡ true)
+        × Placed (now node) (now start) (now end) (32 * s) n sp place
+        × PinsLent (pinsOf (now node) (now start) (now end) (now count))
+        ⌝ }
+    ensures { λ r. ⌜
+        (pinsOf (now (node .exit)) (now (start .exit)) (now (end .exit)) (now (count .exit))
+        ≡ layPins (32 * s) n
+        (takePin (pinOf sp 1) (pins (pinsOf (now (node .entry)) (now (start .entry)) (now (end .entry)) (now (count .entry))) (32 * s) n))
+        (pinsOf (now (node .entry)) (now (start .entry)) (now (end .entry)) (now (count .entry))))
+        × (r ≡ length (takePin (pinOf sp 1) (pins (pinsOf (now (node .entry)) (now (start .entry)) (now (end .entry)) (now (count .entry))) (32 * s) n)))
+        ⌝ }
 {
     let at = place.at;
     let i = 32 * s + at;
@@ -223,8 +256,25 @@ pub fn pin_source(
     s: usize,
     sp: Span,
 ) -> Plain
-    requires { ⌜ Sound (stateFrom (now parent) (now depth) (now len) (now run) (now words) (now node) (now start) (now end) (now id) (now stamp) (now touched) (now write) (now «pin_node») (now «pin_start») (now «pin_end») (now «pin_count») (now marks) (now bytes) (now books)) ⌝ }
-    ensures { λ r. ⌜ outcome (stateFrom (now (parent .entry)) (now (depth .entry)) (now (len .entry)) (now (run .entry)) (now (words .entry)) (now (node .entry)) (now (start .entry)) (now (end .entry)) (now (id .entry)) (now (stamp .entry)) (now (touched .entry)) (now (write .entry)) (now («pin_node» .exit)) (now («pin_start» .exit)) (now («pin_end» .exit)) (now («pin_count» .exit)) (now (marks .entry)) (now (bytes .entry)) (now (books .exit))) tt (plainOf r) ≡ pinSource (stateFrom (now (parent .entry)) (now (depth .entry)) (now (len .entry)) (now (run .entry)) (now (words .entry)) (now (node .entry)) (now (start .entry)) (now (end .entry)) (now (id .entry)) (now (stamp .entry)) (now (touched .entry)) (now (write .entry)) (now («pin_node» .entry)) (now («pin_start» .entry)) (now («pin_end» .entry)) (now («pin_count» .entry)) (now (marks .entry)) (now (bytes .entry)) (now (books .entry))) s sp ⌝ }
+    requires { ⌜
+        Sound
+        (stateFrom (now parent) (now depth) (now len) (now run) (now words) (now node) (now start) (now end) (now id) (now stamp) (now touched) (now write)
+        (now «pin_node») (now «pin_start») (now «pin_end») (now «pin_count») (now marks) (now bytes) (now books))
+        ⌝ }
+    ensures { λ r. ⌜
+        outcome
+        (stateFrom (now (parent .entry)) (now (depth .entry)) (now (len .entry)) (now (run .entry)) (now (words .entry)) (now (node .entry))
+        (now (start .entry)) (now (end .entry)) (now (id .entry)) (now (stamp .entry)) (now (touched .entry)) (now (write .entry))
+        (now («pin_node» .exit)) (now («pin_start» .exit)) (now («pin_end» .exit)) (now («pin_count» .exit)) (now (marks .entry))
+        (now (bytes .entry)) (now (books .exit)))
+        tt (plainOf r)
+        ≡ pinSource
+        (stateFrom (now (parent .entry)) (now (depth .entry)) (now (len .entry)) (now (run .entry)) (now (words .entry)) (now (node .entry))
+        (now (start .entry)) (now (end .entry)) (now (id .entry)) (now (stamp .entry)) (now (touched .entry)) (now (write .entry))
+        (now («pin_node» .entry)) (now («pin_start» .entry)) (now («pin_end» .entry)) (now («pin_count» .entry)) (now (marks .entry))
+        (now (bytes .entry)) (now (books .entry)))
+        s sp
+        ⌝ }
 {
     let stores = books[2] as usize;
     if stores <= s {
@@ -272,8 +322,25 @@ pub fn unpin_source(
     s: usize,
     sp: Span,
 ) -> Plain
-    requires { ⌜ Sound (stateFrom (now parent) (now depth) (now len) (now run) (now words) (now node) (now start) (now end) (now id) (now stamp) (now touched) (now write) (now «pin_node») (now «pin_start») (now «pin_end») (now «pin_count») (now marks) (now bytes) (now books)) ⌝ }
-    ensures { λ r. ⌜ outcome (stateFrom (now (parent .entry)) (now (depth .entry)) (now (len .entry)) (now (run .entry)) (now (words .entry)) (now (node .entry)) (now (start .entry)) (now (end .entry)) (now (id .entry)) (now (stamp .entry)) (now (touched .entry)) (now (write .entry)) (now («pin_node» .exit)) (now («pin_start» .exit)) (now («pin_end» .exit)) (now («pin_count» .exit)) (now (marks .entry)) (now (bytes .entry)) (now (books .exit))) tt (plainOf r) ≡ unpinSource (stateFrom (now (parent .entry)) (now (depth .entry)) (now (len .entry)) (now (run .entry)) (now (words .entry)) (now (node .entry)) (now (start .entry)) (now (end .entry)) (now (id .entry)) (now (stamp .entry)) (now (touched .entry)) (now (write .entry)) (now («pin_node» .entry)) (now («pin_start» .entry)) (now («pin_end» .entry)) (now («pin_count» .entry)) (now (marks .entry)) (now (bytes .entry)) (now (books .entry))) s sp ⌝ }
+    requires { ⌜
+        Sound
+        (stateFrom (now parent) (now depth) (now len) (now run) (now words) (now node) (now start) (now end) (now id) (now stamp) (now touched) (now write)
+        (now «pin_node») (now «pin_start») (now «pin_end») (now «pin_count») (now marks) (now bytes) (now books))
+        ⌝ }
+    ensures { λ r. ⌜
+        outcome
+        (stateFrom (now (parent .entry)) (now (depth .entry)) (now (len .entry)) (now (run .entry)) (now (words .entry)) (now (node .entry))
+        (now (start .entry)) (now (end .entry)) (now (id .entry)) (now (stamp .entry)) (now (touched .entry)) (now (write .entry))
+        (now («pin_node» .exit)) (now («pin_start» .exit)) (now («pin_end» .exit)) (now («pin_count» .exit)) (now (marks .entry))
+        (now (bytes .entry)) (now (books .exit)))
+        tt (plainOf r)
+        ≡ unpinSource
+        (stateFrom (now (parent .entry)) (now (depth .entry)) (now (len .entry)) (now (run .entry)) (now (words .entry)) (now (node .entry))
+        (now (start .entry)) (now (end .entry)) (now (id .entry)) (now (stamp .entry)) (now (touched .entry)) (now (write .entry))
+        (now («pin_node» .entry)) (now («pin_start» .entry)) (now («pin_end» .entry)) (now («pin_count» .entry)) (now (marks .entry))
+        (now (bytes .entry)) (now (books .entry)))
+        s sp
+        ⌝ }
 {
     let stores = books[2] as usize;
     if stores <= s {

@@ -36,7 +36,24 @@ pub fn lookup(
     tiers: &[usize],
     hashes: &[u64],
 ) -> Looked
-    ensures { λ r. ⌜ outcome (stateFrom (now (parent .entry)) (now (depth .entry)) (now (len .entry)) (now (run .entry)) (now (words .entry)) (now (node .entry)) (now (start .entry)) (now (end .entry)) (now (id .entry)) (now (stamp .entry)) (now (touched .entry)) (now (write .entry)) (now («pin_node» .entry)) (now («pin_start» .entry)) (now («pin_end» .entry)) (now («pin_count» .entry)) (now (marks .entry)) (now (bytes .entry)) (now (books .entry))) (listsOf (pathListOf (now («path_node» .exit)) (now («path_len» .exit))) (tierListOf (now («span_tier» .exit)) (now («span_node» .exit)) (now («span_start» .exit)) (now («span_end» .exit)))) (lookedOf r) ≡ lookup (stateFrom (now (parent .entry)) (now (depth .entry)) (now (len .entry)) (now (run .entry)) (now (words .entry)) (now (node .entry)) (now (start .entry)) (now (end .entry)) (now (id .entry)) (now (stamp .entry)) (now (touched .entry)) (now (write .entry)) (now («pin_node» .entry)) (now («pin_start» .entry)) (now («pin_end» .entry)) (now («pin_count» .entry)) (now (marks .entry)) (now (bytes .entry)) (now (books .entry))) (listsOf (pathListOf (now («path_node» .entry)) (now («path_len» .entry))) (tierListOf (now («span_tier» .entry)) (now («span_node» .entry)) (now («span_start» .entry)) (now («span_end» .entry)))) (now (tiers .entry)) (now (hashes .entry)) ⌝ }
+    ensures { λ r. ⌜
+        outcome
+        (stateFrom (now (parent .entry)) (now (depth .entry)) (now (len .entry)) (now (run .entry)) (now (words .entry)) (now (node .entry))
+        (now (start .entry)) (now (end .entry)) (now (id .entry)) (now (stamp .entry)) (now (touched .entry)) (now (write .entry))
+        (now («pin_node» .entry)) (now («pin_start» .entry)) (now («pin_end» .entry)) (now («pin_count» .entry)) (now (marks .entry))
+        (now (bytes .entry)) (now (books .entry)))
+        (listsOf (pathListOf (now («path_node» .exit)) (now («path_len» .exit)))
+        (tierListOf (now («span_tier» .exit)) (now («span_node» .exit)) (now («span_start» .exit)) (now («span_end» .exit))))
+        (lookedOf r)
+        ≡ lookup
+        (stateFrom (now (parent .entry)) (now (depth .entry)) (now (len .entry)) (now (run .entry)) (now (words .entry)) (now (node .entry))
+        (now (start .entry)) (now (end .entry)) (now (id .entry)) (now (stamp .entry)) (now (touched .entry)) (now (write .entry))
+        (now («pin_node» .entry)) (now («pin_start» .entry)) (now («pin_end» .entry)) (now («pin_count» .entry)) (now (marks .entry))
+        (now (bytes .entry)) (now (books .entry)))
+        (listsOf (pathListOf (now («path_node» .entry)) (now («path_len» .entry)))
+        (tierListOf (now («span_tier» .entry)) (now («span_node» .entry)) (now («span_start» .entry)) (now («span_end» .entry))))
+        (now (tiers .entry)) (now (hashes .entry))
+        ⌝ }
 {
     if !sound::sound_state(
         parent,

@@ -30,7 +30,12 @@ pub fn put_rec(
     r: Record,
 )
     requires { ⌜ (at ≤ n) × (n < 128) × Sized 128 (rangesOf (now node) (now start) (now end) (now id) (now stamp) (now touched) (now write)) ⌝ }
-    ensures { λ _. ⌜ rangesOf (now (node .exit)) (now (start .exit)) (now (end .exit)) (now (id .exit)) (now (stamp .exit)) (now (touched .exit)) (now (write .exit)) ≡ putRange at (rangeOf r) n (rangesOf (now (node .entry)) (now (start .entry)) (now (end .entry)) (now (id .entry)) (now (stamp .entry)) (now (touched .entry)) (now (write .entry))) ⌝ }
+    ensures { λ _. ⌜
+        rangesOf (now (node .exit)) (now (start .exit)) (now (end .exit)) (now (id .exit)) (now (stamp .exit)) (now (touched .exit)) (now (write .exit))
+        ≡ putRange at (rangeOf r) n
+        (rangesOf (now (node .entry)) (now (start .entry)) (now (end .entry)) (now (id .entry)) (now (stamp .entry)) (now (touched .entry))
+        (now (write .entry)))
+        ⌝ }
 {
     cols::put_usize(node, n, at, r.node);
     cols::put_usize(start, n, at, r.start);
@@ -54,7 +59,12 @@ pub fn cut_rec(
     at: usize,
 )
     requires { ⌜ (at < n) × (n ≤ 128) × Sized 128 (rangesOf (now node) (now start) (now end) (now id) (now stamp) (now touched) (now write)) ⌝ }
-    ensures { λ _. ⌜ rangesOf (now (node .exit)) (now (start .exit)) (now (end .exit)) (now (id .exit)) (now (stamp .exit)) (now (touched .exit)) (now (write .exit)) ≡ cutRange at n (rangesOf (now (node .entry)) (now (start .entry)) (now (end .entry)) (now (id .entry)) (now (stamp .entry)) (now (touched .entry)) (now (write .entry))) ⌝ }
+    ensures { λ _. ⌜
+        rangesOf (now (node .exit)) (now (start .exit)) (now (end .exit)) (now (id .exit)) (now (stamp .exit)) (now (touched .exit)) (now (write .exit))
+        ≡ cutRange at n
+        (rangesOf (now (node .entry)) (now (start .entry)) (now (end .entry)) (now (id .entry)) (now (stamp .entry)) (now (touched .entry))
+        (now (write .entry)))
+        ⌝ }
 {
     cols::cut_usize(node, n, at, 0);
     cols::cut_usize(start, n, at, 0);
@@ -77,7 +87,13 @@ pub fn rec_at(
     i: usize,
 ) -> Record
     requires { ⌜ (i < 128) × Sized 128 (rangesOf (now node) (now start) (now end) (now id) (now stamp) (now touched) (now write)) ⌝ }
-    ensures { λ r. ⌜ rangeOf r ≡ rangeAt (rangesOf (now (node .entry)) (now (start .entry)) (now (end .entry)) (now (id .entry)) (now (stamp .entry)) (now (touched .entry)) (now (write .entry))) i ⌝ }
+    ensures { λ r. ⌜
+        rangeOf r
+        ≡ rangeAt
+        (rangesOf (now (node .entry)) (now (start .entry)) (now (end .entry)) (now (id .entry)) (now (stamp .entry)) (now (touched .entry))
+        (now (write .entry)))
+        i
+        ⌝ }
 {
     Record {
         node: node[i],

@@ -42,7 +42,10 @@ fn removed_blocks(start: &[usize], end: &[usize], sp: Span, lo: usize, hi: usize
 // The writes of the records from lo up to hi, listed; a record without one adds nothing.
 fn list_writes(write: &[u32], list: &mut [u32], lo: usize, hi: usize) -> usize
     requires { ⌜ (lo ≤ hi) × (hi ≤ length (now write)) × (hi ≤ length (now list)) ⌝ }
-    ensures { λ r. ⌜ (now (list .exit) ≡ front (writes (ranges (onlyWrite (now (write .entry))) lo (hi - lo))) (now (list .entry))) × (r ≡ length (writes (ranges (onlyWrite (now (write .entry))) lo (hi - lo)))) ⌝ }
+    ensures { λ r. ⌜
+        (now (list .exit) ≡ front (writes (ranges (onlyWrite (now (write .entry))) lo (hi - lo))) (now (list .entry)))
+        × (r ≡ length (writes (ranges (onlyWrite (now (write .entry))) lo (hi - lo))))
+        ⌝ }
 {
     let mut k: usize = 0;
     let mut i = lo;
@@ -98,7 +101,17 @@ fn trim_one(
 ) -> usize
     requires { ⌜ (i < n) × (n ≤ 128) × Sized 128 (rangesOf (now node) (now start) (now end) (now id) (now stamp) (now touched) (now write)) ⌝ }
     requires { ⌜ (ltb (at (now start) i) (sp .start) && ltb (sp .end) (at (now end) i)) ≡ false ⌝ }
-    ensures { λ _. ⌜ rangesOf (now (node .exit)) (now (start .exit)) (now (end .exit)) (now (id .exit)) (now (stamp .exit)) (now (touched .exit)) (now (write .exit)) ≡ layRanges 0 n (atPlace i (leftOf (sp .start) (sp .end)) (ranges (rangesOf (now (node .entry)) (now (start .entry)) (now (end .entry)) (now (id .entry)) (now (stamp .entry)) (now (touched .entry)) (now (write .entry))) 0 n)) (rangesOf (now (node .entry)) (now (start .entry)) (now (end .entry)) (now (id .entry)) (now (stamp .entry)) (now (touched .entry)) (now (write .entry))) ⌝ }
+    ensures { λ _. ⌜
+        rangesOf (now (node .exit)) (now (start .exit)) (now (end .exit)) (now (id .exit)) (now (stamp .exit)) (now (touched .exit)) (now (write .exit))
+        ≡ layRanges 0 n
+        (atPlace i (leftOf (sp .start) (sp .end))
+        (ranges
+        (rangesOf (now (node .entry)) (now (start .entry)) (now (end .entry)) (now (id .entry)) (now (stamp .entry)) (now (touched .entry))
+        (now (write .entry)))
+        0 n))
+        (rangesOf (now (node .entry)) (now (start .entry)) (now (end .entry)) (now (id .entry)) (now (stamp .entry)) (now (touched .entry))
+        (now (write .entry)))
+        ⌝ }
     ensures { λ r. ⌜ r ≡ plus (ltb (at (now (start .entry)) i) (sp .start)) (plus (ltb (sp .end) (at (now (end .entry)) i)) 0) ⌝ }
 {
     if start[i] < sp.start {
@@ -128,7 +141,17 @@ fn cut_middle(
     next: u64,
 )
     requires { ⌜ (i < n) × (n < 128) × Sized 128 (rangesOf (now node) (now start) (now end) (now id) (now stamp) (now touched) (now write)) ⌝ }
-    ensures { λ _. ⌜ rangesOf (now (node .exit)) (now (start .exit)) (now (end .exit)) (now (id .exit)) (now (stamp .exit)) (now (touched .exit)) (now (write .exit)) ≡ layRanges 0 (n + 1) (atPlace i (bothEnds (sp .start) (sp .end) next) (ranges (rangesOf (now (node .entry)) (now (start .entry)) (now (end .entry)) (now (id .entry)) (now (stamp .entry)) (now (touched .entry)) (now (write .entry))) 0 n)) (rangesOf (now (node .entry)) (now (start .entry)) (now (end .entry)) (now (id .entry)) (now (stamp .entry)) (now (touched .entry)) (now (write .entry))) ⌝ }
+    ensures { λ _. ⌜
+        rangesOf (now (node .exit)) (now (start .exit)) (now (end .exit)) (now (id .exit)) (now (stamp .exit)) (now (touched .exit)) (now (write .exit))
+        ≡ layRanges 0 (n + 1)
+        (atPlace i (bothEnds (sp .start) (sp .end) next)
+        (ranges
+        (rangesOf (now (node .entry)) (now (start .entry)) (now (end .entry)) (now (id .entry)) (now (stamp .entry)) (now (touched .entry))
+        (now (write .entry)))
+        0 n))
+        (rangesOf (now (node .entry)) (now (start .entry)) (now (end .entry)) (now (id .entry)) (now (stamp .entry)) (now (touched .entry))
+        (now (write .entry)))
+        ⌝ }
 {
     overlap::split_rec(
         node,
@@ -172,7 +195,14 @@ fn cut_ends(
 ) -> usize
     requires { ⌜ Cuttable (rangesOf (now node) (now start) (now end) (now id) (now stamp) (now touched) (now write)) n lo hi sp ⌝ }
     requires { ⌜ Each lo hi (λ (k : ℕ). (ltb (at (now start) k) (sp .start) && ltb (sp .end) (at (now end) k)) ≡ false) ⌝ }
-    ensures { λ r. ⌜ ((next : ℕ) → CutTo next 0 sp (rangesOf (now (node .entry)) (now (start .entry)) (now (end .entry)) (now (id .entry)) (now (stamp .entry)) (now (touched .entry)) (now (write .entry))) (rangesOf (now (node .exit)) (now (start .exit)) (now (end .exit)) (now (id .exit)) (now (stamp .exit)) (now (touched .exit)) (now (write .exit))) n r) ⌝ }
+    ensures { λ r. ⌜
+        ((next : ℕ)
+        → CutTo next 0 sp
+        (rangesOf (now (node .entry)) (now (start .entry)) (now (end .entry)) (now (id .entry)) (now (stamp .entry)) (now (touched .entry))
+        (now (write .entry)))
+        (rangesOf (now (node .exit)) (now (start .exit)) (now (end .exit)) (now (id .exit)) (now (stamp .exit)) (now (touched .exit)) (now (write .exit))) n
+        r)
+        ⌝ }
 {
     let mut i = lo;
     let mut j = lo;
@@ -216,9 +246,22 @@ fn cut_out(
     sp: Span,
     next: u64,
 ) -> Left
-    requires { ⌜ (lo < hi) × Cuttable (rangesOf (now node) (now start) (now end) (now id) (now stamp) (now touched) (now write)) n lo hi sp × Ordered (now node) (now start) (now end) n ⌝ }
-    requires { ⌜ n + middleCuts (sp .node) (sp .start) (sp .end) (ranges (rangesOf (now node) (now start) (now end) (now id) (now stamp) (now touched) (now write)) 0 n) ≤ 128 ⌝ }
-    ensures { λ r. ⌜ CutTo next (r .need) sp (rangesOf (now (node .entry)) (now (start .entry)) (now (end .entry)) (now (id .entry)) (now (stamp .entry)) (now (touched .entry)) (now (write .entry))) (rangesOf (now (node .exit)) (now (start .exit)) (now (end .exit)) (now (id .exit)) (now (stamp .exit)) (now (touched .exit)) (now (write .exit))) n (r .n) ⌝ }
+    requires { ⌜
+        (lo < hi)
+        × Cuttable (rangesOf (now node) (now start) (now end) (now id) (now stamp) (now touched) (now write)) n lo hi sp
+        × Ordered (now node) (now start) (now end) n
+        ⌝ }
+    requires { ⌜
+        n + middleCuts (sp .node) (sp .start) (sp .end) (ranges (rangesOf (now node) (now start) (now end) (now id) (now stamp) (now touched) (now write)) 0 n)
+        ≤ 128
+        ⌝ }
+    ensures { λ r. ⌜
+        CutTo next (r .need) sp
+        (rangesOf (now (node .entry)) (now (start .entry)) (now (end .entry)) (now (id .entry)) (now (stamp .entry)) (now (touched .entry))
+        (now (write .entry)))
+        (rangesOf (now (node .exit)) (now (start .exit)) (now (end .exit)) (now (id .exit)) (now (stamp .exit)) (now (touched .exit)) (now (write .exit))) n
+        (r .n)
+        ⌝ }
 {
     if past_both(start[lo], end[lo], sp) {
         cut_middle(node, start, end, id, stamp, touched, write, n, lo, sp, next);
@@ -243,10 +286,27 @@ pub fn store_remove(
     sp: Span,
     next: u64,
 ) -> Removing
-    requires { ⌜ (n ≤ 128) × Sized 128 (rangesOf (now node) (now start) (now end) (now id) (now stamp) (now touched) (now write)) × Ordered (now node) (now start) (now end) n ⌝ }
+    requires { ⌜
+        (n ≤ 128)
+        × Sized 128 (rangesOf (now node) (now start) (now end) (now id) (now stamp) (now touched) (now write))
+        × Ordered (now node) (now start) (now end) n
+        ⌝ }
     requires { ⌜ (sp .start < sp .end) × (sp .end ≤ 1024) × (sp .node < length (now marks)) × (128 ≤ length (now list)) ⌝ }
     requires { ⌜ RemoveFits (now node) (now start) (now end) n sp ⌝ }
-    ensures { λ r. ⌜ ((x : Store) → x .ranges ≡ ranges (rangesOf (now (node .entry)) (now (start .entry)) (now (end .entry)) (now (id .entry)) (now (stamp .entry)) (now (touched .entry)) (now (write .entry))) 0 n → x .marks ≡ now (marks .entry) → Freed x (remove x next sp) (rangesOf (now (node .entry)) (now (start .entry)) (now (end .entry)) (now (id .entry)) (now (stamp .entry)) (now (touched .entry)) (now (write .entry))) (rangesOf (now (node .exit)) (now (start .exit)) (now (end .exit)) (now (id .exit)) (now (stamp .exit)) (now (touched .exit)) (now (write .exit))) (now (marks .exit)) (now (list .entry)) (now (list .exit)) n r) ⌝ }
+    ensures { λ r. ⌜
+        ((x : Store)
+        → x .ranges
+        ≡ ranges
+        (rangesOf (now (node .entry)) (now (start .entry)) (now (end .entry)) (now (id .entry)) (now (stamp .entry)) (now (touched .entry))
+        (now (write .entry)))
+        0 n
+        → x .marks ≡ now (marks .entry)
+        → Freed x (remove x next sp)
+        (rangesOf (now (node .entry)) (now (start .entry)) (now (end .entry)) (now (id .entry)) (now (stamp .entry)) (now (touched .entry))
+        (now (write .entry)))
+        (rangesOf (now (node .exit)) (now (start .exit)) (now (end .exit)) (now (id .exit)) (now (stamp .exit)) (now (touched .exit)) (now (write .exit)))
+        (now (marks .exit)) (now (list .entry)) (now (list .exit)) n r)
+        ⌝ }
 {
     let lo = overlap::first_overlap(node, start, end, n, sp);
     let hi = overlap::end_overlap(node, start, end, n, sp, lo);

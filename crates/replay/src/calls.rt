@@ -46,8 +46,23 @@ pub fn set_up(
     k: usize,
     n: usize,
 ) -> Step
-    requires { ⌜ Ready on (stateFrom (now parent) (now depth) (now len) (now run) (now words) (now node) (now start) (now end) (now id) (now stamp) (now touched) (now write) (now «pin_node») (now «pin_start») (now «pin_end») (now «pin_count») (now marks) (now bytes) (now books)) × (at ≤ 500000) × (k ≤ length (now list)) × (n ≤ length (now capacity)) × (n ≤ length (now refreshes)) ⌝ }
-    ensures { λ r. ⌜ Ready (r .on) (stateFrom (now (parent .exit)) (now (depth .exit)) (now (len .exit)) (now (run .exit)) (now (words .entry)) (now (node .entry)) (now (start .entry)) (now (end .entry)) (now (id .entry)) (now (stamp .entry)) (now (touched .entry)) (now (write .entry)) (now («pin_node» .entry)) (now («pin_start» .entry)) (now («pin_end» .entry)) (now («pin_count» .entry)) (now (marks .exit)) (now (bytes .exit)) (now (books .exit))) × (r .at ≤ 1048576) ⌝ }
+    requires { ⌜
+        Ready on
+        (stateFrom (now parent) (now depth) (now len) (now run) (now words) (now node) (now start) (now end) (now id) (now stamp) (now touched) (now write)
+        (now «pin_node») (now «pin_start») (now «pin_end») (now «pin_count») (now marks) (now bytes) (now books))
+        × (at ≤ 500000)
+        × (k ≤ length (now list))
+        × (n ≤ length (now capacity))
+        × (n ≤ length (now refreshes))
+        ⌝ }
+    ensures { λ r. ⌜
+        Ready (r .on)
+        (stateFrom (now (parent .exit)) (now (depth .exit)) (now (len .exit)) (now (run .exit)) (now (words .entry)) (now (node .entry))
+        (now (start .entry)) (now (end .entry)) (now (id .entry)) (now (stamp .entry)) (now (touched .entry)) (now (write .entry))
+        (now («pin_node» .entry)) (now («pin_start» .entry)) (now («pin_end» .entry)) (now («pin_count» .entry)) (now (marks .exit))
+        (now (bytes .exit)) (now (books .exit)))
+        × (r .at ≤ 1048576)
+        ⌝ }
 {
     let r = known::set_up(
         parent,
@@ -111,8 +126,20 @@ pub fn pin(
     s: usize,
     sp: Span,
 ) -> usize
-    requires { ⌜ Sound (stateFrom (now parent) (now depth) (now len) (now run) (now words) (now node) (now start) (now end) (now id) (now stamp) (now touched) (now write) (now «pin_node») (now «pin_start») (now «pin_end») (now «pin_count») (now marks) (now bytes) (now books)) × (at ≤ 500000) ⌝ }
-    ensures { λ r. ⌜ Sound (stateFrom (now (parent .entry)) (now (depth .entry)) (now (len .entry)) (now (run .entry)) (now (words .entry)) (now (node .entry)) (now (start .entry)) (now (end .entry)) (now (id .entry)) (now (stamp .entry)) (now (touched .entry)) (now (write .entry)) (now («pin_node» .exit)) (now («pin_start» .exit)) (now («pin_end» .exit)) (now («pin_count» .exit)) (now (marks .entry)) (now (bytes .entry)) (now (books .exit))) × (r ≤ 1048576) ⌝ }
+    requires { ⌜
+        Sound
+        (stateFrom (now parent) (now depth) (now len) (now run) (now words) (now node) (now start) (now end) (now id) (now stamp) (now touched) (now write)
+        (now «pin_node») (now «pin_start») (now «pin_end») (now «pin_count») (now marks) (now bytes) (now books))
+        × (at ≤ 500000)
+        ⌝ }
+    ensures { λ r. ⌜
+        Sound
+        (stateFrom (now (parent .entry)) (now (depth .entry)) (now (len .entry)) (now (run .entry)) (now (words .entry)) (now (node .entry))
+        (now (start .entry)) (now (end .entry)) (now (id .entry)) (now (stamp .entry)) (now (touched .entry)) (now (write .entry))
+        (now («pin_node» .exit)) (now («pin_start» .exit)) (now («pin_end» .exit)) (now («pin_count» .exit)) (now (marks .entry))
+        (now (bytes .entry)) (now (books .exit)))
+        × (r ≤ 1048576)
+        ⌝ }
 {
     let r = known::pin_source(
         parent,
@@ -166,8 +193,20 @@ pub fn unpin(
     s: usize,
     sp: Span,
 ) -> usize
-    requires { ⌜ Sound (stateFrom (now parent) (now depth) (now len) (now run) (now words) (now node) (now start) (now end) (now id) (now stamp) (now touched) (now write) (now «pin_node») (now «pin_start») (now «pin_end») (now «pin_count») (now marks) (now bytes) (now books)) × (at ≤ 500000) ⌝ }
-    ensures { λ r. ⌜ Sound (stateFrom (now (parent .entry)) (now (depth .entry)) (now (len .entry)) (now (run .entry)) (now (words .entry)) (now (node .entry)) (now (start .entry)) (now (end .entry)) (now (id .entry)) (now (stamp .entry)) (now (touched .entry)) (now (write .entry)) (now («pin_node» .exit)) (now («pin_start» .exit)) (now («pin_end» .exit)) (now («pin_count» .exit)) (now (marks .entry)) (now (bytes .entry)) (now (books .exit))) × (r ≤ 1048576) ⌝ }
+    requires { ⌜
+        Sound
+        (stateFrom (now parent) (now depth) (now len) (now run) (now words) (now node) (now start) (now end) (now id) (now stamp) (now touched) (now write)
+        (now «pin_node») (now «pin_start») (now «pin_end») (now «pin_count») (now marks) (now bytes) (now books))
+        × (at ≤ 500000)
+        ⌝ }
+    ensures { λ r. ⌜
+        Sound
+        (stateFrom (now (parent .entry)) (now (depth .entry)) (now (len .entry)) (now (run .entry)) (now (words .entry)) (now (node .entry))
+        (now (start .entry)) (now (end .entry)) (now (id .entry)) (now (stamp .entry)) (now (touched .entry)) (now (write .entry))
+        (now («pin_node» .exit)) (now («pin_start» .exit)) (now («pin_end» .exit)) (now («pin_count» .exit)) (now (marks .entry))
+        (now (bytes .entry)) (now (books .exit)))
+        × (r ≤ 1048576)
+        ⌝ }
 {
     let r = known::unpin_source(
         parent,
@@ -221,7 +260,13 @@ pub fn resolve(
     list: &[u64],
     n: usize,
 ) -> usize
-    requires { ⌜ Sound (stateFrom (now parent) (now depth) (now len) (now run) (now words) (now node) (now start) (now end) (now id) (now stamp) (now touched) (now write) (now «pin_node») (now «pin_start») (now «pin_end») (now «pin_count») (now marks) (now bytes) (now books)) × (at ≤ 500000) × (n ≤ length (now list)) ⌝ }
+    requires { ⌜
+        Sound
+        (stateFrom (now parent) (now depth) (now len) (now run) (now words) (now node) (now start) (now end) (now id) (now stamp) (now touched) (now write)
+        (now «pin_node») (now «pin_start») (now «pin_end») (now «pin_count») (now marks) (now bytes) (now books))
+        × (at ≤ 500000)
+        × (n ≤ length (now list))
+        ⌝ }
     ensures { λ r. ⌜ r ≤ 1048576 ⌝ }
 {
     let mut path_node = [0usize; 255];
@@ -279,8 +324,20 @@ pub fn insert(
     list: &[u64],
     n: usize,
 ) -> usize
-    requires { ⌜ Sound (stateFrom (now parent) (now depth) (now len) (now run) (now words) (now node) (now start) (now end) (now id) (now stamp) (now touched) (now write) (now «pin_node») (now «pin_start») (now «pin_end») (now «pin_count») (now marks) (now bytes) (now books)) × (at ≤ 500000) × (n ≤ length (now list)) ⌝ }
-    ensures { λ r. ⌜ Sound (stateFrom (now (parent .exit)) (now (depth .exit)) (now (len .exit)) (now (run .exit)) (now (words .exit)) (now (node .exit)) (now (start .exit)) (now (end .exit)) (now (id .exit)) (now (stamp .exit)) (now (touched .exit)) (now (write .exit)) (now («pin_node» .exit)) (now («pin_start» .exit)) (now («pin_end» .exit)) (now («pin_count» .exit)) (now (marks .exit)) (now (bytes .entry)) (now (books .exit))) × (r ≤ 1048576) ⌝ }
+    requires { ⌜
+        Sound
+        (stateFrom (now parent) (now depth) (now len) (now run) (now words) (now node) (now start) (now end) (now id) (now stamp) (now touched) (now write)
+        (now «pin_node») (now «pin_start») (now «pin_end») (now «pin_count») (now marks) (now bytes) (now books))
+        × (at ≤ 500000)
+        × (n ≤ length (now list))
+        ⌝ }
+    ensures { λ r. ⌜
+        Sound
+        (stateFrom (now (parent .exit)) (now (depth .exit)) (now (len .exit)) (now (run .exit)) (now (words .exit)) (now (node .exit)) (now (start .exit))
+        (now (end .exit)) (now (id .exit)) (now (stamp .exit)) (now (touched .exit)) (now (write .exit)) (now («pin_node» .exit))
+        (now («pin_start» .exit)) (now («pin_end» .exit)) (now («pin_count» .exit)) (now (marks .exit)) (now (bytes .entry)) (now (books .exit)))
+        × (r ≤ 1048576)
+        ⌝ }
 {
     let mut path_node = [0usize; 255];
     let mut path_len = [0usize; 255];
@@ -339,8 +396,20 @@ pub fn bring(
     time: f64,
     w: u32,
 ) -> usize
-    requires { ⌜ Sound (stateFrom (now parent) (now depth) (now len) (now run) (now words) (now node) (now start) (now end) (now id) (now stamp) (now touched) (now write) (now «pin_node») (now «pin_start») (now «pin_end») (now «pin_count») (now marks) (now bytes) (now books)) × (at ≤ 500000) ⌝ }
-    ensures { λ r. ⌜ Sound (stateFrom (now (parent .entry)) (now (depth .entry)) (now (len .entry)) (now (run .entry)) (now (words .entry)) (now (node .exit)) (now (start .exit)) (now (end .exit)) (now (id .exit)) (now (stamp .exit)) (now (touched .exit)) (now (write .exit)) (now («pin_node» .entry)) (now («pin_start» .entry)) (now («pin_end» .entry)) (now («pin_count» .entry)) (now (marks .exit)) (now (bytes .entry)) (now (books .exit))) × (r ≤ 1048576) ⌝ }
+    requires { ⌜
+        Sound
+        (stateFrom (now parent) (now depth) (now len) (now run) (now words) (now node) (now start) (now end) (now id) (now stamp) (now touched) (now write)
+        (now «pin_node») (now «pin_start») (now «pin_end») (now «pin_count») (now marks) (now bytes) (now books))
+        × (at ≤ 500000)
+        ⌝ }
+    ensures { λ r. ⌜
+        Sound
+        (stateFrom (now (parent .entry)) (now (depth .entry)) (now (len .entry)) (now (run .entry)) (now (words .entry)) (now (node .exit))
+        (now (start .exit)) (now (end .exit)) (now (id .exit)) (now (stamp .exit)) (now (touched .exit)) (now (write .exit)) (now («pin_node» .entry))
+        (now («pin_start» .entry)) (now («pin_end» .entry)) (now («pin_count» .entry)) (now (marks .exit)) (now (bytes .entry))
+        (now (books .exit)))
+        × (r ≤ 1048576)
+        ⌝ }
 {
     let mut out_node = [0usize; 128];
     let mut out_start = [0usize; 128];
@@ -419,8 +488,20 @@ pub fn expire(
     time: f64,
     seconds: f64,
 ) -> usize
-    requires { ⌜ Sound (stateFrom (now parent) (now depth) (now len) (now run) (now words) (now node) (now start) (now end) (now id) (now stamp) (now touched) (now write) (now «pin_node») (now «pin_start») (now «pin_end») (now «pin_count») (now marks) (now bytes) (now books)) × (at ≤ 500000) ⌝ }
-    ensures { λ r. ⌜ Sound (stateFrom (now (parent .entry)) (now (depth .entry)) (now (len .entry)) (now (run .entry)) (now (words .entry)) (now (node .exit)) (now (start .exit)) (now (end .exit)) (now (id .exit)) (now (stamp .exit)) (now (touched .exit)) (now (write .exit)) (now («pin_node» .entry)) (now («pin_start» .entry)) (now («pin_end» .entry)) (now («pin_count» .entry)) (now (marks .exit)) (now (bytes .entry)) (now (books .exit))) × (r ≤ 1048576) ⌝ }
+    requires { ⌜
+        Sound
+        (stateFrom (now parent) (now depth) (now len) (now run) (now words) (now node) (now start) (now end) (now id) (now stamp) (now touched) (now write)
+        (now «pin_node») (now «pin_start») (now «pin_end») (now «pin_count») (now marks) (now bytes) (now books))
+        × (at ≤ 500000)
+        ⌝ }
+    ensures { λ r. ⌜
+        Sound
+        (stateFrom (now (parent .entry)) (now (depth .entry)) (now (len .entry)) (now (run .entry)) (now (words .entry)) (now (node .exit))
+        (now (start .exit)) (now (end .exit)) (now (id .exit)) (now (stamp .exit)) (now (touched .exit)) (now (write .exit)) (now («pin_node» .entry))
+        (now («pin_start» .entry)) (now («pin_end» .entry)) (now («pin_count» .entry)) (now (marks .exit)) (now (bytes .entry))
+        (now (books .exit)))
+        × (r ≤ 1048576)
+        ⌝ }
 {
     let mut out_node = [0usize; 128];
     let mut out_start = [0usize; 128];
@@ -497,8 +578,20 @@ pub fn remove(
     s: usize,
     sp: Span,
 ) -> usize
-    requires { ⌜ Sound (stateFrom (now parent) (now depth) (now len) (now run) (now words) (now node) (now start) (now end) (now id) (now stamp) (now touched) (now write) (now «pin_node») (now «pin_start») (now «pin_end») (now «pin_count») (now marks) (now bytes) (now books)) × (at ≤ 500000) ⌝ }
-    ensures { λ r. ⌜ Sound (stateFrom (now (parent .entry)) (now (depth .entry)) (now (len .entry)) (now (run .entry)) (now (words .entry)) (now (node .exit)) (now (start .exit)) (now (end .exit)) (now (id .exit)) (now (stamp .exit)) (now (touched .exit)) (now (write .exit)) (now («pin_node» .entry)) (now («pin_start» .entry)) (now («pin_end» .entry)) (now («pin_count» .entry)) (now (marks .exit)) (now (bytes .entry)) (now (books .exit))) × (r ≤ 1048576) ⌝ }
+    requires { ⌜
+        Sound
+        (stateFrom (now parent) (now depth) (now len) (now run) (now words) (now node) (now start) (now end) (now id) (now stamp) (now touched) (now write)
+        (now «pin_node») (now «pin_start») (now «pin_end») (now «pin_count») (now marks) (now bytes) (now books))
+        × (at ≤ 500000)
+        ⌝ }
+    ensures { λ r. ⌜
+        Sound
+        (stateFrom (now (parent .entry)) (now (depth .entry)) (now (len .entry)) (now (run .entry)) (now (words .entry)) (now (node .exit))
+        (now (start .exit)) (now (end .exit)) (now (id .exit)) (now (stamp .exit)) (now (touched .exit)) (now (write .exit)) (now («pin_node» .entry))
+        (now («pin_start» .entry)) (now («pin_end» .entry)) (now («pin_count» .entry)) (now (marks .exit)) (now (bytes .entry))
+        (now (books .exit)))
+        × (r ≤ 1048576)
+        ⌝ }
 {
     let mut writes = [0u32; 128];
     let r = known::store_remove(
@@ -584,8 +677,21 @@ pub fn touch(
     counted: bool,
     n: usize,
 ) -> usize
-    requires { ⌜ Sound (stateFrom (now parent) (now depth) (now len) (now run) (now words) (now node) (now start) (now end) (now id) (now stamp) (now touched) (now write) (now «pin_node») (now «pin_start») (now «pin_end») (now «pin_count») (now marks) (now bytes) (now books)) × (at ≤ 500000) × (n ≤ 65) ⌝ }
-    ensures { λ r. ⌜ Sound (stateFrom (now (parent .entry)) (now (depth .entry)) (now (len .entry)) (now (run .entry)) (now (words .entry)) (now (node .exit)) (now (start .exit)) (now (end .exit)) (now (id .exit)) (now (stamp .exit)) (now (touched .exit)) (now (write .exit)) (now («pin_node» .entry)) (now («pin_start» .entry)) (now («pin_end» .entry)) (now («pin_count» .entry)) (now (marks .exit)) (now (bytes .entry)) (now (books .exit))) × (r ≤ 1048576) ⌝ }
+    requires { ⌜
+        Sound
+        (stateFrom (now parent) (now depth) (now len) (now run) (now words) (now node) (now start) (now end) (now id) (now stamp) (now touched) (now write)
+        (now «pin_node») (now «pin_start») (now «pin_end») (now «pin_count») (now marks) (now bytes) (now books))
+        × (at ≤ 500000)
+        × (n ≤ 65)
+        ⌝ }
+    ensures { λ r. ⌜
+        Sound
+        (stateFrom (now (parent .entry)) (now (depth .entry)) (now (len .entry)) (now (run .entry)) (now (words .entry)) (now (node .exit))
+        (now (start .exit)) (now (end .exit)) (now (id .exit)) (now (stamp .exit)) (now (touched .exit)) (now (write .exit)) (now («pin_node» .entry))
+        (now («pin_start» .entry)) (now («pin_end» .entry)) (now («pin_count» .entry)) (now (marks .exit)) (now (bytes .entry))
+        (now (books .exit)))
+        × (r ≤ 1048576)
+        ⌝ }
 {
     if 64 < n {
         let stores = books[2] as usize;
@@ -649,7 +755,14 @@ pub fn lookup(
     k: usize,
     n: usize,
 ) -> usize
-    requires { ⌜ Sound (stateFrom (now parent) (now depth) (now len) (now run) (now words) (now node) (now start) (now end) (now id) (now stamp) (now touched) (now write) (now «pin_node») (now «pin_start») (now «pin_end») (now «pin_count») (now marks) (now bytes) (now books)) × (at ≤ 500000) × (k ≤ length (now tiers)) × (n ≤ length (now list)) ⌝ }
+    requires { ⌜
+        Sound
+        (stateFrom (now parent) (now depth) (now len) (now run) (now words) (now node) (now start) (now end) (now id) (now stamp) (now touched) (now write)
+        (now «pin_node») (now «pin_start») (now «pin_end») (now «pin_count») (now marks) (now bytes) (now books))
+        × (at ≤ 500000)
+        × (k ≤ length (now tiers))
+        × (n ≤ length (now list))
+        ⌝ }
     ensures { λ r. ⌜ r ≤ 1048576 ⌝ }
 {
     let mut path_node = [0usize; 255];

@@ -33,8 +33,26 @@ pub fn resolve(
     path_len: &mut [usize],
     hashes: &[u64],
 ) -> Resolved
-    requires { ⌜ Sound (stateFrom (now parent) (now depth) (now len) (now run) (now words) (now node) (now start) (now end) (now id) (now stamp) (now touched) (now write) (now «pin_node») (now «pin_start») (now «pin_end») (now «pin_count») (now marks) (now bytes) (now books)) × PathFits (pathListOf (now «path_node») (now «path_len»)) ⌝ }
-    ensures { λ r. ⌜ outcome (stateFrom (now (parent .entry)) (now (depth .entry)) (now (len .entry)) (now (run .entry)) (now (words .entry)) (now (node .entry)) (now (start .entry)) (now (end .entry)) (now (id .entry)) (now (stamp .entry)) (now (touched .entry)) (now (write .entry)) (now («pin_node» .entry)) (now («pin_start» .entry)) (now («pin_end» .entry)) (now («pin_count» .entry)) (now (marks .entry)) (now (bytes .entry)) (now (books .entry))) (pathListOf (now («path_node» .exit)) (now («path_len» .exit))) (resolvedOf r) ≡ resolveCall (stateFrom (now (parent .entry)) (now (depth .entry)) (now (len .entry)) (now (run .entry)) (now (words .entry)) (now (node .entry)) (now (start .entry)) (now (end .entry)) (now (id .entry)) (now (stamp .entry)) (now (touched .entry)) (now (write .entry)) (now («pin_node» .entry)) (now («pin_start» .entry)) (now («pin_end» .entry)) (now («pin_count» .entry)) (now (marks .entry)) (now (bytes .entry)) (now (books .entry))) (pathListOf (now («path_node» .entry)) (now («path_len» .entry))) (now (hashes .entry)) ⌝ }
+    requires { ⌜
+        Sound
+        (stateFrom (now parent) (now depth) (now len) (now run) (now words) (now node) (now start) (now end) (now id) (now stamp) (now touched) (now write)
+        (now «pin_node») (now «pin_start») (now «pin_end») (now «pin_count») (now marks) (now bytes) (now books))
+        × PathFits (pathListOf (now «path_node») (now «path_len»))
+        ⌝ }
+    ensures { λ r. ⌜
+        outcome
+        (stateFrom (now (parent .entry)) (now (depth .entry)) (now (len .entry)) (now (run .entry)) (now (words .entry)) (now (node .entry))
+        (now (start .entry)) (now (end .entry)) (now (id .entry)) (now (stamp .entry)) (now (touched .entry)) (now (write .entry))
+        (now («pin_node» .entry)) (now («pin_start» .entry)) (now («pin_end» .entry)) (now («pin_count» .entry)) (now (marks .entry))
+        (now (bytes .entry)) (now (books .entry)))
+        (pathListOf (now («path_node» .exit)) (now («path_len» .exit))) (resolvedOf r)
+        ≡ resolveCall
+        (stateFrom (now (parent .entry)) (now (depth .entry)) (now (len .entry)) (now (run .entry)) (now (words .entry)) (now (node .entry))
+        (now (start .entry)) (now (end .entry)) (now (id .entry)) (now (stamp .entry)) (now (touched .entry)) (now (write .entry))
+        (now («pin_node» .entry)) (now («pin_start» .entry)) (now («pin_end» .entry)) (now («pin_count» .entry)) (now (marks .entry))
+        (now (bytes .entry)) (now (books .entry)))
+        (pathListOf (now («path_node» .entry)) (now («path_len» .entry))) (now (hashes .entry))
+        ⌝ }
 {
     if 1024 < hashes.len() {
         return Resolved::Refused(3);

@@ -107,9 +107,9 @@ module _ (asks : ℕ → ℕ) (t : Tree) (table : List ℕ) (ps : List Pin) wher
         let g = L .enough d in (
           omega (arith, u),
           ⊎-elim
-          (λ (h : lengthOf r ≤ asks d). inl (omega (arith, u)))
-          (λ (h : asks d < lengthOf r). inr (omega (arith, g)))
-          (le-or-lt (lengthOf r) (asks d)),
+              (λ (h : lengthOf r ≤ asks d). inl (omega (arith, u)))
+              (λ (h : asks d < lengthOf r). inr (omega (arith, g)))
+              (le-or-lt (lengthOf r) (asks d)),
         )
 
     run-more : (n d e : ℕ) (rs : List Range) (xs ys : List ℕ) → d ≤ e → Sub (run n e rs xs) (run n d rs ys)

@@ -17,7 +17,10 @@ ghost use Rattle.answers.specs.Answers.{stateFrom, outcome, plainOf};
 // ---- the test for 12
 
 fn tree_lent(parent: &[usize], depth: &[usize], len: &[usize], run: &[usize], words: &[u64]) -> bool
-    ensures { λ r. ⌜ ((nodes used : ℕ) → Says r (TreeLent (treeOf (now (parent .entry)) (now (depth .entry)) (now (len .entry)) (now (run .entry)) (now (words .entry)) nodes used))) ⌝ }
+    ensures { λ r. ⌜
+        ((nodes used : ℕ)
+        → Says r (TreeLent (treeOf (now (parent .entry)) (now (depth .entry)) (now (len .entry)) (now (run .entry)) (now (words .entry)) nodes used)))
+        ⌝ }
 {
     if parent.len() < 256 {
         return false;
@@ -46,7 +49,12 @@ fn ranges_lent(
     touched: &[f64],
     write: &[u32],
 ) -> bool
-    ensures { λ r. ⌜ Says r (RangesLent (rangesOf (now (node .entry)) (now (start .entry)) (now (end .entry)) (now (id .entry)) (now (stamp .entry)) (now (touched .entry)) (now (write .entry)))) ⌝ }
+    ensures { λ r. ⌜
+        Says r
+        (RangesLent
+        (rangesOf (now (node .entry)) (now (start .entry)) (now (end .entry)) (now (id .entry)) (now (stamp .entry)) (now (touched .entry))
+        (now (write .entry))))
+        ⌝ }
 {
     if node.len() < 1024 {
         return false;
@@ -128,7 +136,15 @@ fn fits(
     capacity: &[u64],
     refreshes: &[bool],
 ) -> bool
-    ensures { λ r. ⌜ Says r (SetUpFits (stateFrom (now (parent .entry)) (now (depth .entry)) (now (len .entry)) (now (run .entry)) (now (words .entry)) (now (node .entry)) (now (start .entry)) (now (end .entry)) (now (id .entry)) (now (stamp .entry)) (now (touched .entry)) (now (write .entry)) (now («pin_node» .entry)) (now («pin_start» .entry)) (now («pin_end» .entry)) (now («pin_count» .entry)) (now (marks .entry)) (now (bytes .entry)) (now (books .entry))) (now (table .entry)) (now (capacity .entry)) (now (refreshes .entry))) ⌝ }
+    ensures { λ r. ⌜
+        Says r
+        (SetUpFits
+        (stateFrom (now (parent .entry)) (now (depth .entry)) (now (len .entry)) (now (run .entry)) (now (words .entry)) (now (node .entry))
+        (now (start .entry)) (now (end .entry)) (now (id .entry)) (now (stamp .entry)) (now (touched .entry)) (now (write .entry))
+        (now («pin_node» .entry)) (now («pin_start» .entry)) (now («pin_end» .entry)) (now («pin_count» .entry)) (now (marks .entry))
+        (now (bytes .entry)) (now (books .entry)))
+        (now (table .entry)) (now (capacity .entry)) (now (refreshes .entry)))
+        ⌝ }
 {
     if capacity.len() < 1 {
         return false;
@@ -242,7 +258,12 @@ fn fresh_books(books: &mut [u64], capacity: &[u64], refreshes: &[bool])
 // Node 0 with length and depth 0.
 fn root_only(parent: &mut [usize], depth: &mut [usize], len: &mut [usize], run: &mut [usize])
     requires { ⌜ (1 ≤ length (now parent)) × (1 ≤ length (now depth)) × (1 ≤ length (now len)) × (1 ≤ length (now run)) ⌝ }
-    ensures { λ _. ⌜ ((now (parent .exit) ≡ set (now (parent .entry)) 0 0) × (now (depth .exit) ≡ set (now (depth .entry)) 0 0) × (now (len .exit) ≡ set (now (len .entry)) 0 0) × (now (run .exit) ≡ set (now (run .entry)) 0 0)) ⌝ }
+    ensures { λ _. ⌜
+        ((now (parent .exit) ≡ set (now (parent .entry)) 0 0)
+        × (now (depth .exit) ≡ set (now (depth .entry)) 0 0)
+        × (now (len .exit) ≡ set (now (len .entry)) 0 0)
+        × (now (run .exit) ≡ set (now (run .entry)) 0 0))
+        ⌝ }
 {
     parent[0] = 0;
     depth[0] = 0;
@@ -275,7 +296,20 @@ pub fn set_up(
     capacity: &[u64],
     refreshes: &[bool],
 ) -> Plain
-    ensures { λ r. ⌜ outcome (stateFrom (now (parent .exit)) (now (depth .exit)) (now (len .exit)) (now (run .exit)) (now (words .entry)) (now (node .entry)) (now (start .entry)) (now (end .entry)) (now (id .entry)) (now (stamp .entry)) (now (touched .entry)) (now (write .entry)) (now («pin_node» .entry)) (now («pin_start» .entry)) (now («pin_end» .entry)) (now («pin_count» .entry)) (now (marks .exit)) (now (bytes .exit)) (now (books .exit))) tt (plainOf r) ≡ setUp (stateFrom (now (parent .entry)) (now (depth .entry)) (now (len .entry)) (now (run .entry)) (now (words .entry)) (now (node .entry)) (now (start .entry)) (now (end .entry)) (now (id .entry)) (now (stamp .entry)) (now (touched .entry)) (now (write .entry)) (now («pin_node» .entry)) (now («pin_start» .entry)) (now («pin_end» .entry)) (now («pin_count» .entry)) (now (marks .entry)) (now (bytes .entry)) (now (books .entry))) (now (table .entry)) (now (capacity .entry)) (now (refreshes .entry)) ⌝ }
+    ensures { λ r. ⌜
+        outcome
+        (stateFrom (now (parent .exit)) (now (depth .exit)) (now (len .exit)) (now (run .exit)) (now (words .entry)) (now (node .entry))
+        (now (start .entry)) (now (end .entry)) (now (id .entry)) (now (stamp .entry)) (now (touched .entry)) (now (write .entry))
+        (now («pin_node» .entry)) (now («pin_start» .entry)) (now («pin_end» .entry)) (now («pin_count» .entry)) (now (marks .exit))
+        (now (bytes .exit)) (now (books .exit)))
+        tt (plainOf r)
+        ≡ setUp
+        (stateFrom (now (parent .entry)) (now (depth .entry)) (now (len .entry)) (now (run .entry)) (now (words .entry)) (now (node .entry))
+        (now (start .entry)) (now (end .entry)) (now (id .entry)) (now (stamp .entry)) (now (touched .entry)) (now (write .entry))
+        (now («pin_node» .entry)) (now («pin_start» .entry)) (now («pin_end» .entry)) (now («pin_count» .entry)) (now (marks .entry))
+        (now (bytes .entry)) (now (books .entry)))
+        (now (table .entry)) (now (capacity .entry)) (now (refreshes .entry))
+        ⌝ }
 {
     if !fits(
         parent,

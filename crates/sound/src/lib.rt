@@ -20,7 +20,12 @@ fn ranges_lent(
     touched: &[f64],
     write: &[u32],
 ) -> bool
-    ensures { λ r. ⌜ Says r (RangesLent (rangesOf (now (node .entry)) (now (start .entry)) (now (end .entry)) (now (id .entry)) (now (stamp .entry)) (now (touched .entry)) (now (write .entry)))) ⌝ }
+    ensures { λ r. ⌜
+        Says r
+        (RangesLent
+        (rangesOf (now (node .entry)) (now (start .entry)) (now (end .entry)) (now (id .entry)) (now (stamp .entry)) (now (touched .entry))
+        (now (write .entry))))
+        ⌝ }
 {
     if node.len() < 1024 {
         return false;
@@ -139,8 +144,25 @@ fn all_records_fit(
     touched: &[f64],
     books: &[u64],
 ) -> bool
-    requires { ⌜ (maxNumbers ≤ length (now books)) × (storesIn (now books) ≤ 8) × (nodesIn (now books) ≤ length (now len)) × (1024 ≤ length (now node)) × (1024 ≤ length (now start)) × (1024 ≤ length (now end)) × (1024 ≤ length (now id)) × (1024 ≤ length (now stamp)) × (1024 ≤ length (now touched)) × ((k : ℕ) → k < nodesIn (now books) → at (now len) k ≤ 1024) × Each 0 (storesIn (now books)) (CountsFit (now books)) ⌝ }
-    ensures { λ r. ⌜ Says r (Each 0 (storesIn (now (books .entry))) (StoreRecords (now (len .entry)) (now (node .entry)) (now (start .entry)) (now (end .entry)) (now (id .entry)) (now (stamp .entry)) (now (touched .entry)) (nodesIn (now (books .entry))) (now (books .entry)))) ⌝ }
+    requires { ⌜
+        (maxNumbers ≤ length (now books))
+        × (storesIn (now books) ≤ 8)
+        × (nodesIn (now books) ≤ length (now len))
+        × (1024 ≤ length (now node))
+        × (1024 ≤ length (now start))
+        × (1024 ≤ length (now end))
+        × (1024 ≤ length (now id))
+        × (1024 ≤ length (now stamp))
+        × (1024 ≤ length (now touched))
+        × ((k : ℕ) → k < nodesIn (now books) → at (now len) k ≤ 1024)
+        × Each 0 (storesIn (now books)) (CountsFit (now books))
+        ⌝ }
+    ensures { λ r. ⌜
+        Says r
+        (Each 0 (storesIn (now (books .entry)))
+        (StoreRecords (now (len .entry)) (now (node .entry)) (now (start .entry)) (now (end .entry)) (now (id .entry)) (now (stamp .entry))
+        (now (touched .entry)) (nodesIn (now (books .entry))) (now (books .entry))))
+        ⌝ }
 {
     let nodes = books[0] as usize;
     let stores = books[2] as usize;
@@ -180,8 +202,23 @@ fn all_pins_fit(
     count: &[u64],
     books: &[u64],
 ) -> bool
-    requires { ⌜ (maxNumbers ≤ length (now books)) × (storesIn (now books) ≤ 8) × (nodesIn (now books) ≤ length (now len)) × (256 ≤ length (now node)) × (256 ≤ length (now start)) × (256 ≤ length (now end)) × (256 ≤ length (now count)) × ((k : ℕ) → k < nodesIn (now books) → at (now len) k ≤ 1024) × Each 0 (storesIn (now books)) (CountsFit (now books)) ⌝ }
-    ensures { λ r. ⌜ Says r (Each 0 (storesIn (now (books .entry))) (StorePins (now (len .entry)) (now (node .entry)) (now (start .entry)) (now (end .entry)) (now (count .entry)) (nodesIn (now (books .entry))) (now (books .entry)))) ⌝ }
+    requires { ⌜
+        (maxNumbers ≤ length (now books))
+        × (storesIn (now books) ≤ 8)
+        × (nodesIn (now books) ≤ length (now len))
+        × (256 ≤ length (now node))
+        × (256 ≤ length (now start))
+        × (256 ≤ length (now end))
+        × (256 ≤ length (now count))
+        × ((k : ℕ) → k < nodesIn (now books) → at (now len) k ≤ 1024)
+        × Each 0 (storesIn (now books)) (CountsFit (now books))
+        ⌝ }
+    ensures { λ r. ⌜
+        Says r
+        (Each 0 (storesIn (now (books .entry)))
+        (StorePins (now (len .entry)) (now (node .entry)) (now (start .entry)) (now (end .entry)) (now (count .entry)) (nodesIn (now (books .entry)))
+        (now (books .entry))))
+        ⌝ }
 {
     let nodes = books[0] as usize;
     let stores = books[2] as usize;
@@ -199,8 +236,22 @@ fn all_pins_fit(
 
 // Each store's marks: its 256 places of the pool of marks.
 fn all_marks_fit(len: &[usize], node: &[usize], marks: &[usize], books: &[u64]) -> bool
-    requires { ⌜ (maxNumbers ≤ length (now books)) × (storesIn (now books) ≤ 8) × (nodesIn (now books) ≤ 256) × (256 ≤ length (now len)) × (1024 ≤ length (now node)) × (2048 ≤ length (now marks)) × Each 0 (storesIn (now books)) (CountsFit (now books)) × Each 0 (storesIn (now books)) (λ (s : ℕ). Each (128 * s) (128 * s + bookIn (now books) s .records) (λ (i : ℕ). at (now node) i < nodesIn (now books))) ⌝ }
-    ensures { λ r. ⌜ Says r (Each 0 (storesIn (now (books .entry))) (StoreMarks (now (len .entry)) (now (node .entry)) (now (marks .entry)) (nodesIn (now (books .entry))) (now (books .entry)))) ⌝ }
+    requires { ⌜
+        (maxNumbers ≤ length (now books))
+        × (storesIn (now books) ≤ 8)
+        × (nodesIn (now books) ≤ 256)
+        × (256 ≤ length (now len))
+        × (1024 ≤ length (now node))
+        × (2048 ≤ length (now marks))
+        × Each 0 (storesIn (now books)) (CountsFit (now books))
+        × Each 0 (storesIn (now books))
+        (λ (s : ℕ). Each (128 * s) (128 * s + bookIn (now books) s .records) (λ (i : ℕ). at (now node) i < nodesIn (now books)))
+        ⌝ }
+    ensures { λ r. ⌜
+        Says r
+        (Each 0 (storesIn (now (books .entry)))
+        (StoreMarks (now (len .entry)) (now (node .entry)) (now (marks .entry)) (nodesIn (now (books .entry))) (now (books .entry))))
+        ⌝ }
 {
     let nodes = books[0] as usize;
     let stores = books[2] as usize;
@@ -218,7 +269,12 @@ fn all_marks_fit(len: &[usize], node: &[usize], marks: &[usize], books: &[u64]) 
 
 // No record of the chain that begins at the link `from` has the id `y`.
 fn fresh(id: &[u64], books: &[u64], prev: &[usize], from: usize, y: u64) -> bool
-    requires { ⌜ (from ≤ length (now id)) × (from ≤ length (now prev)) × Chain (idBucket (now id)) (Live (now books)) (now prev) from × ((j : ℕ) → from ≡ j + 1 → Live (now books) j × (idBucket (now id) j ≡ y % 1024)) ⌝ }
+    requires { ⌜
+        (from ≤ length (now id))
+        × (from ≤ length (now prev))
+        × Chain (idBucket (now id)) (Live (now books)) (now prev) from
+        × ((j : ℕ) → from ≡ j + 1 → Live (now books) j × (idBucket (now id) j ≡ y % 1024))
+        ⌝ }
     ensures { λ r. ⌜ Says r (Fresh (now (id .entry)) (now (books .entry)) from y) ⌝ }
 {
     let mut link = from;
@@ -282,7 +338,17 @@ pub fn sound_state(
     bytes: &[u64],
     books: &[u64],
 ) -> bool
-    ensures { λ r. ⌜ Says r (Sound (stateOf (treeOf (now (parent .entry)) (now (depth .entry)) (now (len .entry)) (now (run .entry)) (now (words .entry)) (nodesIn (now (books .entry))) (usedIn (now (books .entry)))) (rangesOf (now (node .entry)) (now (start .entry)) (now (end .entry)) (now (id .entry)) (now (stamp .entry)) (now (touched .entry)) (now (write .entry))) (pinsOf (now («pin_node» .entry)) (now («pin_start» .entry)) (now («pin_end» .entry)) (now («pin_count» .entry))) (now (marks .entry)) (now (bytes .entry)) (now (books .entry)))) ⌝ }
+    ensures { λ r. ⌜
+        Says r
+        (Sound
+        (stateOf
+        (treeOf (now (parent .entry)) (now (depth .entry)) (now (len .entry)) (now (run .entry)) (now (words .entry)) (nodesIn (now (books .entry)))
+        (usedIn (now (books .entry))))
+        (rangesOf (now (node .entry)) (now (start .entry)) (now (end .entry)) (now (id .entry)) (now (stamp .entry)) (now (touched .entry))
+        (now (write .entry)))
+        (pinsOf (now («pin_node» .entry)) (now («pin_start» .entry)) (now («pin_end» .entry)) (now («pin_count» .entry)))
+        (now (marks .entry)) (now (bytes .entry)) (now (books .entry))))
+        ⌝ }
 {
     if !books::long_enough(books) {
         return false;

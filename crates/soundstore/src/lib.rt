@@ -124,7 +124,14 @@ fn stands(node: &[usize], start: &[usize], end: &[usize], j: usize, k: usize) ->
 
 // Neighbours in order, and every range nonempty: all in order.
 fn all_stand(node: &[usize], start: &[usize], end: &[usize], a: usize, b: usize) -> bool
-    requires { ⌜ (a ≤ b) × (b ≤ 1024) × (b ≤ length (now node)) × (b ≤ length (now start)) × (b ≤ length (now end)) × Each a b (λ (i : ℕ). at (now start) i < at (now end) i) ⌝ }
+    requires { ⌜
+        (a ≤ b)
+        × (b ≤ 1024)
+        × (b ≤ length (now node))
+        × (b ≤ length (now start))
+        × (b ≤ length (now end))
+        × Each a b (λ (i : ℕ). at (now start) i < at (now end) i)
+        ⌝ }
     ensures { λ r. ⌜ Says r (PairsFrom a b (BeforeAt (now (node .entry)) (now (start .entry)) (now (end .entry)))) ⌝ }
 {
     let mut i = a + 1;
@@ -138,7 +145,13 @@ fn all_stand(node: &[usize], start: &[usize], end: &[usize], a: usize, b: usize)
 }
 
 fn held_is(start: &[usize], end: &[usize], a: usize, n: usize, held: u64) -> bool
-    requires { ⌜ (n ≤ 128) × (a + n ≤ 1024) × (a + n ≤ length (now start)) × (a + n ≤ length (now end)) × Each a (a + n) (λ (i : ℕ). (at (now start) i < at (now end) i) × (at (now end) i ≤ 1024)) ⌝ }
+    requires { ⌜
+        (n ≤ 128)
+        × (a + n ≤ 1024)
+        × (a + n ≤ length (now start))
+        × (a + n ≤ length (now end))
+        × Each a (a + n) (λ (i : ℕ). (at (now start) i < at (now end) i) × (at (now end) i ≤ 1024))
+        ⌝ }
     ensures { λ r. ⌜ Says r (held ≡ heldFrom (now (start .entry)) (now (end .entry)) a n) ⌝ }
 {
     let mut sum: usize = 0;
@@ -222,7 +235,15 @@ fn all_counted(count: &[u64], a: usize, b: usize) -> bool
 
 // A count above 1,000,000 cannot be in a sum of at most that, and is not multiplied.
 fn pinned_is(start: &[usize], end: &[usize], count: &[u64], a: usize, n: usize, pinned: u64) -> bool
-    requires { ⌜ (n ≤ 32) × (a + n ≤ 1024) × (a + n ≤ length (now start)) × (a + n ≤ length (now end)) × (a + n ≤ length (now count)) × (pinned ≤ 1000000) × Each a (a + n) (λ (i : ℕ). (at (now start) i < at (now end) i) × (at (now end) i ≤ 1024)) ⌝ }
+    requires { ⌜
+        (n ≤ 32)
+        × (a + n ≤ 1024)
+        × (a + n ≤ length (now start))
+        × (a + n ≤ length (now end))
+        × (a + n ≤ length (now count))
+        × (pinned ≤ 1000000)
+        × Each a (a + n) (λ (i : ℕ). (at (now start) i < at (now end) i) × (at (now end) i ≤ 1024))
+        ⌝ }
     ensures { λ r. ⌜ Says r (pinned ≡ pinnedFrom (now (start .entry)) (now (end .entry)) (now (count .entry)) a n) ⌝ }
 {
     let mut sum: u64 = 0;
@@ -244,7 +265,9 @@ fn pinned_is(start: &[usize], end: &[usize], count: &[u64], a: usize, n: usize, 
 }
 
 fn flag_nodes(node: &[usize], flags: &mut [usize; 256], a: usize, b: usize)
-    requires { ⌜ (a ≤ b) × (b ≤ 1024) × (b ≤ length (now node)) × Each a b (λ (i : ℕ). at (now node) i < 256) × Flags (now node) (now flags) a a ⌝ }
+    requires { ⌜
+        (a ≤ b) × (b ≤ 1024) × (b ≤ length (now node)) × Each a b (λ (i : ℕ). at (now node) i < 256) × Flags (now node) (now flags) a a
+        ⌝ }
     ensures { λ r. ⌜ Flags (now (node .entry)) (now (flags .exit)) a b ⌝ }
 {
     let mut i = a;
@@ -266,7 +289,14 @@ fn mark_fits(
     m: usize,
     v: usize,
 ) -> bool
-    requires { ⌜ (v < 256) × (m ≤ 2048) × (v < length (now len)) × (m + v < length (now marks)) × Each a b (λ (i : ℕ). at (now node) i < nodes) × Flags (now node) (now flags) a b ⌝ }
+    requires { ⌜
+        (v < 256)
+        × (m ≤ 2048)
+        × (v < length (now len))
+        × (m + v < length (now marks))
+        × Each a b (λ (i : ℕ). at (now node) i < nodes)
+        × Flags (now node) (now flags) a b
+        ⌝ }
     ensures { λ r. ⌜ Says r (MarkFits (now (len .entry)) (now (node .entry)) (now (marks .entry)) nodes a b m v) ⌝ }
 {
     let mark = marks[m + v];
@@ -292,7 +322,16 @@ pub fn marks_fit(
     b: usize,
     m: usize,
 ) -> bool
-    requires { ⌜ (a ≤ b) × (b ≤ 1024) × (m ≤ 2048) × (nodes ≤ 256) × (256 ≤ length (now len)) × (b ≤ length (now node)) × (m + 256 ≤ length (now marks)) × Each a b (λ (i : ℕ). at (now node) i < nodes) ⌝ }
+    requires { ⌜
+        (a ≤ b)
+        × (b ≤ 1024)
+        × (m ≤ 2048)
+        × (nodes ≤ 256)
+        × (256 ≤ length (now len))
+        × (b ≤ length (now node))
+        × (m + 256 ≤ length (now marks))
+        × Each a b (λ (i : ℕ). at (now node) i < nodes)
+        ⌝ }
     ensures { λ r. ⌜ Says r (Each 0 256 (MarkFits (now (len .entry)) (now (node .entry)) (now (marks .entry)) nodes a b m)) ⌝ }
 {
     let mut flags = [0usize; 256];
@@ -324,8 +363,23 @@ pub fn records_fit(
     held: u64,
     capacity: u64,
 ) -> bool
-    requires { ⌜ (n ≤ 128) × (a + n ≤ 1024) × (nodes ≤ length (now len)) × (1024 ≤ length (now node)) × (1024 ≤ length (now start)) × (1024 ≤ length (now end)) × (1024 ≤ length (now id)) × (1024 ≤ length (now stamp)) × (1024 ≤ length (now touched)) × ((k : ℕ) → k < nodes → at (now len) k ≤ 1024) ⌝ }
-    ensures { λ r. ⌜ Says r (RecordsFit (now (len .entry)) (now (node .entry)) (now (start .entry)) (now (end .entry)) (now (id .entry)) (now (stamp .entry)) (now (touched .entry)) nodes next a n top held capacity) ⌝ }
+    requires { ⌜
+        (n ≤ 128)
+        × (a + n ≤ 1024)
+        × (nodes ≤ length (now len))
+        × (1024 ≤ length (now node))
+        × (1024 ≤ length (now start))
+        × (1024 ≤ length (now end))
+        × (1024 ≤ length (now id))
+        × (1024 ≤ length (now stamp))
+        × (1024 ≤ length (now touched))
+        × ((k : ℕ) → k < nodes → at (now len) k ≤ 1024)
+        ⌝ }
+    ensures { λ r. ⌜
+        Says r
+        (RecordsFit (now (len .entry)) (now (node .entry)) (now (start .entry)) (now (end .entry)) (now (id .entry)) (now (stamp .entry))
+        (now (touched .entry)) nodes next a n top held capacity)
+        ⌝ }
 {
     let b = a + n;
     if !all_inside(len, node, start, end, nodes, a, b) {
@@ -361,8 +415,20 @@ pub fn pins_fit(
     n: usize,
     pinned: u64,
 ) -> bool
-    requires { ⌜ (n ≤ 32) × (a + n ≤ 256) × (nodes ≤ length (now len)) × (256 ≤ length (now node)) × (256 ≤ length (now start)) × (256 ≤ length (now end)) × (256 ≤ length (now count)) × (pinned ≤ 1000000) × ((k : ℕ) → k < nodes → at (now len) k ≤ 1024) ⌝ }
-    ensures { λ r. ⌜ Says r (PinsFit (now (len .entry)) (now (node .entry)) (now (start .entry)) (now (end .entry)) (now (count .entry)) nodes a n pinned) ⌝ }
+    requires { ⌜
+        (n ≤ 32)
+        × (a + n ≤ 256)
+        × (nodes ≤ length (now len))
+        × (256 ≤ length (now node))
+        × (256 ≤ length (now start))
+        × (256 ≤ length (now end))
+        × (256 ≤ length (now count))
+        × (pinned ≤ 1000000)
+        × ((k : ℕ) → k < nodes → at (now len) k ≤ 1024)
+        ⌝ }
+    ensures { λ r. ⌜
+        Says r (PinsFit (now (len .entry)) (now (node .entry)) (now (start .entry)) (now (end .entry)) (now (count .entry)) nodes a n pinned)
+        ⌝ }
 {
     let b = a + n;
     if !all_inside(len, node, start, end, nodes, a, b) {

@@ -46,7 +46,9 @@ fn tree_sized(
     nodes: usize,
     used: usize,
 ) -> bool
-    ensures { λ r. ⌜ Says r (TreeSized (treeOf (now (parent .entry)) (now (depth .entry)) (now (len .entry)) (now (run .entry)) (now (words .entry)) nodes used)) ⌝ }
+    ensures { λ r. ⌜
+        Says r (TreeSized (treeOf (now (parent .entry)) (now (depth .entry)) (now (len .entry)) (now (run .entry)) (now (words .entry)) nodes used))
+        ⌝ }
 {
     if parent.len() < 256 {
         return false;
@@ -90,7 +92,9 @@ fn node_fits(
     used: usize,
     k: usize,
 ) -> bool
-    requires { ⌜ (k < nodes) × (nodes ≤ length (now parent)) × (nodes ≤ length (now depth)) × (nodes ≤ length (now len)) × (nodes ≤ length (now run)) ⌝ }
+    requires { ⌜
+        (k < nodes) × (nodes ≤ length (now parent)) × (nodes ≤ length (now depth)) × (nodes ≤ length (now len)) × (nodes ≤ length (now run))
+        ⌝ }
     ensures { λ r. ⌜ Says r (NodeFits (now (parent .entry)) (now (depth .entry)) (now (len .entry)) (now (run .entry)) nodes used k) ⌝ }
 {
     let p = parent[k];
@@ -163,7 +167,12 @@ fn claim(own: &mut [u16], who: u16, from: usize, to: usize) -> bool
 }
 
 fn runs_apart(run: &[usize], len: &[usize], nodes: usize) -> bool
-    requires { ⌜ (nodes ≤ 256) × (nodes ≤ length (now run)) × (nodes ≤ length (now len)) × Each 1 nodes (λ (k : ℕ). at (now run) k + at (now len) k ≤ 4096) ⌝ }
+    requires { ⌜
+        (nodes ≤ 256)
+        × (nodes ≤ length (now run))
+        × (nodes ≤ length (now len))
+        × Each 1 nodes (λ (k : ℕ). at (now run) k + at (now len) k ≤ 4096)
+        ⌝ }
     ensures { λ r. ⌜ Says r (OneOwner (now (run .entry)) (now (len .entry)) nodes) ⌝ }
 {
     let mut own = [0u16; 4096];
@@ -188,7 +197,14 @@ fn bucket(h: u64, p: usize) -> usize
 }
 
 fn twins(parent: &[usize], run: &[usize], words: &[u64], j: usize, k: usize) -> bool
-    requires { ⌜ (j < length (now parent)) × (k < length (now parent)) × (j < length (now run)) × (k < length (now run)) × (at (now run) j < length (now words)) × (at (now run) k < length (now words)) ⌝ }
+    requires { ⌜
+        (j < length (now parent))
+        × (k < length (now parent))
+        × (j < length (now run))
+        × (k < length (now run))
+        × (at (now run) j < length (now words))
+        × (at (now run) k < length (now words))
+        ⌝ }
     ensures { λ r. ⌜ Says r (Twins (now (parent .entry)) (now (run .entry)) (now (words .entry)) j k) ⌝ }
 {
     if parent[j] != parent[k] {
@@ -211,7 +227,16 @@ fn alone(
     from: usize,
     i: usize,
 ) -> bool
-    requires { ⌜ (from ≤ i) × (i < length (now parent)) × (i < length (now run)) × (i < length (now prev)) × ((k : ℕ) → k ≤ i → NotRoot k → at (now run) k < length (now words)) × NotRoot i × Chain (hashBucket (now parent) (now run) (now words)) NotRoot (now prev) from × ((j : ℕ) → from ≡ j + 1 → NotRoot j × (hashBucket (now parent) (now run) (now words) j ≡ hashBucket (now parent) (now run) (now words) i)) ⌝ }
+    requires { ⌜
+        (from ≤ i)
+        × (i < length (now parent))
+        × (i < length (now run))
+        × (i < length (now prev))
+        × ((k : ℕ) → k ≤ i → NotRoot k → at (now run) k < length (now words))
+        × NotRoot i
+        × Chain (hashBucket (now parent) (now run) (now words)) NotRoot (now prev) from
+        × ((j : ℕ) → from ≡ j + 1 → NotRoot j × (hashBucket (now parent) (now run) (now words) j ≡ hashBucket (now parent) (now run) (now words) i))
+        ⌝ }
     ensures { λ r. ⌜ Says r (Alone (now (parent .entry)) (now (run .entry)) (now (words .entry)) from i) ⌝ }
 {
     let mut link = from;
@@ -226,7 +251,12 @@ fn alone(
 }
 
 fn siblings_differ(parent: &[usize], run: &[usize], words: &[u64], nodes: usize) -> bool
-    requires { ⌜ (nodes ≤ 256) × (nodes ≤ length (now parent)) × (nodes ≤ length (now run)) × ((k : ℕ) → k < nodes → NotRoot k → at (now run) k < length (now words)) ⌝ }
+    requires { ⌜
+        (nodes ≤ 256)
+        × (nodes ≤ length (now parent))
+        × (nodes ≤ length (now run))
+        × ((k : ℕ) → k < nodes → NotRoot k → at (now run) k < length (now words))
+        ⌝ }
     ensures { λ r. ⌜ Says r (Unlike (now (parent .entry)) (now (run .entry)) (now (words .entry)) nodes) ⌝ }
 {
     let mut last = [0usize; 256];
@@ -256,7 +286,9 @@ pub fn tree_sound(
     nodes: usize,
     used: usize,
 ) -> bool
-    ensures { λ r. ⌜ Says r (TreeSound (treeOf (now (parent .entry)) (now (depth .entry)) (now (len .entry)) (now (run .entry)) (now (words .entry)) nodes used)) ⌝ }
+    ensures { λ r. ⌜
+        Says r (TreeSound (treeOf (now (parent .entry)) (now (depth .entry)) (now (len .entry)) (now (run .entry)) (now (words .entry)) nodes used))
+        ⌝ }
 {
     if !tree_sized(parent, depth, len, run, words, nodes, used) {
         return false;

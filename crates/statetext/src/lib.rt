@@ -178,7 +178,16 @@ fn put_outs(
     dead: &[u64],
     n: usize,
 ) -> usize
-    requires { ⌜ (n ≤ 128) × (n ≤ length (now node)) × (n ≤ length (now start)) × (n ≤ length (now end)) × (n ≤ length (now write)) × (n ≤ length (now bytes)) × (n ≤ length (now dead)) × (at + 32768 ≤ length (now out)) ⌝ }
+    requires { ⌜
+        (n ≤ 128)
+        × (n ≤ length (now node))
+        × (n ≤ length (now start))
+        × (n ≤ length (now end))
+        × (n ≤ length (now write))
+        × (n ≤ length (now bytes))
+        × (n ≤ length (now dead))
+        × (at + 32768 ≤ length (now out))
+        ⌝ }
     ensures { λ r. ⌜ Wrote at 32768 r ⌝ }
 {
     let mut next = print::put_bytes(out, at, b"ok out");
@@ -229,7 +238,14 @@ fn put_tier_spans(
     end: &[usize],
     n: usize,
 ) -> usize
-    requires { ⌜ (n ≤ 1024) × (n ≤ length (now tier)) × (n ≤ length (now node)) × (n ≤ length (now start)) × (n ≤ length (now end)) × (at + 86144 ≤ length (now out)) ⌝ }
+    requires { ⌜
+        (n ≤ 1024)
+        × (n ≤ length (now tier))
+        × (n ≤ length (now node))
+        × (n ≤ length (now start))
+        × (n ≤ length (now end))
+        × (at + 86144 ≤ length (now out))
+        ⌝ }
     ensures { λ r. ⌜ Wrote at 86016 r ⌝ }
 {
     let mut next = at;
@@ -294,7 +310,18 @@ fn put_looked(
     d: LookupAnswer,
     n: usize,
 ) -> usize
-    requires { ⌜ (d .path .segs ≤ 255) × (d .path .segs ≤ length (now node)) × (d .path .segs ≤ length (now len)) × (d .spans ≤ 1024) × (d .spans ≤ length (now tier)) × (d .spans ≤ length (now «span_node»)) × (d .spans ≤ length (now start)) × (d .spans ≤ length (now end)) × (n ≤ 8) × (at + 131072 ≤ length (now out)) ⌝ }
+    requires { ⌜
+        (d .path .segs ≤ 255)
+        × (d .path .segs ≤ length (now node))
+        × (d .path .segs ≤ length (now len))
+        × (d .spans ≤ 1024)
+        × (d .spans ≤ length (now tier))
+        × (d .spans ≤ length (now «span_node»))
+        × (d .spans ≤ length (now start))
+        × (d .spans ≤ length (now end))
+        × (n ≤ 8)
+        × (at + 131072 ≤ length (now out))
+        ⌝ }
     ensures { λ r. ⌜ Wrote at 131072 r ⌝ }
 {
     let a = print::put_bytes(out, at, b"ok path");
@@ -346,7 +373,16 @@ pub fn put_brought(
     dead: &[u64],
     a: StoreInserted,
 ) -> usize
-    requires { ⌜ BringIn a × (128 ≤ length (now node)) × (128 ≤ length (now start)) × (128 ≤ length (now end)) × (128 ≤ length (now write)) × (128 ≤ length (now bytes)) × (128 ≤ length (now dead)) × (at + 32768 ≤ length (now out)) ⌝ }
+    requires { ⌜
+        BringIn a
+        × (128 ≤ length (now node))
+        × (128 ≤ length (now start))
+        × (128 ≤ length (now end))
+        × (128 ≤ length (now write))
+        × (128 ≤ length (now bytes))
+        × (128 ≤ length (now dead))
+        × (at + 32768 ≤ length (now out))
+        ⌝ }
     ensures { λ r. ⌜ Wrote at 32768 r ⌝ }
 {
     match a {
@@ -377,7 +413,16 @@ pub fn put_expired(
     dead: &[u64],
     a: StoreExpired,
 ) -> usize
-    requires { ⌜ ExpireIn a × (128 ≤ length (now node)) × (128 ≤ length (now start)) × (128 ≤ length (now end)) × (128 ≤ length (now write)) × (128 ≤ length (now bytes)) × (128 ≤ length (now dead)) × (at + 32768 ≤ length (now out)) ⌝ }
+    requires { ⌜
+        ExpireIn a
+        × (128 ≤ length (now node))
+        × (128 ≤ length (now start))
+        × (128 ≤ length (now end))
+        × (128 ≤ length (now write))
+        × (128 ≤ length (now bytes))
+        × (128 ≤ length (now dead))
+        × (at + 32768 ≤ length (now out))
+        ⌝ }
     ensures { λ r. ⌜ Wrote at 32768 r ⌝ }
 {
     match a {
@@ -420,7 +465,16 @@ pub fn put_looked_up(
     a: Looked,
     n: usize,
 ) -> usize
-    requires { ⌜ LookupIn n a × (255 ≤ length (now node)) × (255 ≤ length (now len)) × (1024 ≤ length (now tier)) × (1024 ≤ length (now «span_node»)) × (1024 ≤ length (now start)) × (1024 ≤ length (now end)) × (at + 131072 ≤ length (now out)) ⌝ }
+    requires { ⌜
+        LookupIn n a
+        × (255 ≤ length (now node))
+        × (255 ≤ length (now len))
+        × (1024 ≤ length (now tier))
+        × (1024 ≤ length (now «span_node»))
+        × (1024 ≤ length (now start))
+        × (1024 ≤ length (now end))
+        × (at + 131072 ≤ length (now out))
+        ⌝ }
     ensures { λ r. ⌜ Wrote at 131072 r ⌝ }
 {
     match a {
@@ -624,7 +678,14 @@ fn put_record(
     s: usize,
     i: usize,
 ) -> usize
-    requires { ⌜ SpotAt i (now node) (now start) (now end) (now depth) (now run) (now words) × (i < length (now id)) × (i < length (now stamp)) × (i < length (now touched)) × (i < length (now write)) × (at + 320 ≤ length (now out)) ⌝ }
+    requires { ⌜
+        SpotAt i (now node) (now start) (now end) (now depth) (now run) (now words)
+        × (i < length (now id))
+        × (i < length (now stamp))
+        × (i < length (now touched))
+        × (i < length (now write))
+        × (at + 320 ≤ length (now out))
+        ⌝ }
     ensures { λ r. ⌜ Wrote at 278 r ⌝ }
 {
     let a = put_place(
@@ -659,7 +720,16 @@ fn put_records(
     s: usize,
     n: usize,
 ) -> usize
-    requires { ⌜ Spots 128 s n (now node) (now start) (now end) (now depth) (now run) (now words) × (s < 8) × (n ≤ 128) × (1024 ≤ length (now id)) × (1024 ≤ length (now stamp)) × (1024 ≤ length (now touched)) × (1024 ≤ length (now write)) × (at + 36864 ≤ length (now out)) ⌝ }
+    requires { ⌜
+        Spots 128 s n (now node) (now start) (now end) (now depth) (now run) (now words)
+        × (s < 8)
+        × (n ≤ 128)
+        × (1024 ≤ length (now id))
+        × (1024 ≤ length (now stamp))
+        × (1024 ≤ length (now touched))
+        × (1024 ≤ length (now write))
+        × (at + 36864 ≤ length (now out))
+        ⌝ }
     ensures { λ r. ⌜ Wrote at 35584 r ⌝ }
 {
     let mut next = at;
@@ -700,7 +770,9 @@ fn put_pin(
     s: usize,
     i: usize,
 ) -> usize
-    requires { ⌜ SpotAt i (now node) (now start) (now end) (now depth) (now run) (now words) × (i < length (now count)) × (at + 256 ≤ length (now out)) ⌝ }
+    requires { ⌜
+        SpotAt i (now node) (now start) (now end) (now depth) (now run) (now words) × (i < length (now count)) × (at + 256 ≤ length (now out))
+        ⌝ }
     ensures { λ r. ⌜ Wrote at 208 r ⌝ }
 {
     let a = put_place(
@@ -732,7 +804,13 @@ fn put_pins(
     s: usize,
     n: usize,
 ) -> usize
-    requires { ⌜ Spots 32 s n (now node) (now start) (now end) (now depth) (now run) (now words) × (s < 8) × (n ≤ 32) × (256 ≤ length (now count)) × (at + 8192 ≤ length (now out)) ⌝ }
+    requires { ⌜
+        Spots 32 s n (now node) (now start) (now end) (now depth) (now run) (now words)
+        × (s < 8)
+        × (n ≤ 32)
+        × (256 ≤ length (now count))
+        × (at + 8192 ≤ length (now out))
+        ⌝ }
     ensures { λ r. ⌜ Wrote at 6656 r ⌝ }
 {
     let mut next = at;
@@ -807,7 +885,13 @@ fn put_whole_store(
     books: &[u64],
     s: usize,
 ) -> usize
-    requires { ⌜ Sound (stateFrom (now parent) (now depth) (now len) (now run) (now words) (now node) (now start) (now end) (now id) (now stamp) (now touched) (now write) (now «pin_node») (now «pin_start») (now «pin_end») (now «pin_count») (now marks) (now bytes) (now books)) × (s < storesIn (now books)) × (at + 61440 ≤ length (now out)) ⌝ }
+    requires { ⌜
+        Sound
+        (stateFrom (now parent) (now depth) (now len) (now run) (now words) (now node) (now start) (now end) (now id) (now stamp) (now touched) (now write)
+        (now «pin_node») (now «pin_start») (now «pin_end») (now «pin_count») (now marks) (now bytes) (now books))
+        × (s < storesIn (now books))
+        × (at + 61440 ≤ length (now out))
+        ⌝ }
     ensures { λ r. ⌜ Wrote at 60928 r ⌝ }
 {
     let own = books::book_of(books, s);
@@ -880,7 +964,12 @@ pub fn put_state(
     bytes: &[u64],
     books: &[u64],
 ) -> usize
-    requires { ⌜ Sound (stateFrom (now parent) (now depth) (now len) (now run) (now words) (now node) (now start) (now end) (now id) (now stamp) (now touched) (now write) (now «pin_node») (now «pin_start») (now «pin_end») (now «pin_count») (now marks) (now bytes) (now books)) × (at + 540672 ≤ length (now out)) ⌝ }
+    requires { ⌜
+        Sound
+        (stateFrom (now parent) (now depth) (now len) (now run) (now words) (now node) (now start) (now end) (now id) (now stamp) (now touched) (now write)
+        (now «pin_node») (now «pin_start») (now «pin_end») (now «pin_count») (now marks) (now bytes) (now books))
+        × (at + 540672 ≤ length (now out))
+        ⌝ }
     ensures { λ r. ⌜ Wrote at 540672 r ⌝ }
 {
     let nodes = books[0] as usize;

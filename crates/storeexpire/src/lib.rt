@@ -20,7 +20,9 @@ ghost use Rattle.storeexpire.specs.Pool.{PoolReady};
 
 // What an expiry in a sound state is refused for, the lists long enough: 2, 5 or nothing, 0.
 fn refusal(stores: usize, s: usize, time: f64, seconds: f64) -> u8
-    ensures { λ r. ⌜ ((st : State) (l : OutList) → Sound st → OutFits l → storesOf st ≡ stores → r ≡ firstOf (storeExpireRefusals st l s time seconds)) ⌝ }
+    ensures { λ r. ⌜
+        ((st : State) (l : OutList) → Sound st → OutFits l → storesOf st ≡ stores → r ≡ firstOf (storeExpireRefusals st l s time seconds))
+        ⌝ }
 {
     if stores <= s {
         return 2;
@@ -59,7 +61,10 @@ fn expire_pools(
     time: f64,
     seconds: f64,
 ) -> Expiring
-    requires { ⌜ PoolReady (now depth) (now bytes) s n held (rangesOf (now node) (now start) (now end) (now id) (now stamp) (now touched) (now write)) (now marks) (outList (now «out_node») (now «out_start») (now «out_end») (now «out_write») (now «out_bytes») (now «out_dead»)) ⌝ }
+    requires { ⌜
+        PoolReady (now depth) (now bytes) s n held (rangesOf (now node) (now start) (now end) (now id) (now stamp) (now touched) (now write)) (now marks)
+        (outList (now «out_node») (now «out_start») (now «out_end») (now «out_write») (now «out_bytes») (now «out_dead»))
+        ⌝ }
     ensures { λ r. ⌜
         GivenOutAt s
         (expired (onlyDepth (now (depth .entry))) (now (bytes .entry)) time seconds
@@ -140,8 +145,30 @@ pub fn store_expire(
     time: f64,
     seconds: f64,
 ) -> StoreExpired
-    requires { ⌜ Sound (stateFrom (now parent) (now depth) (now len) (now run) (now words) (now node) (now start) (now end) (now id) (now stamp) (now touched) (now write) (now «pin_node») (now «pin_start») (now «pin_end») (now «pin_count») (now marks) (now bytes) (now books)) × OutFits (outList (now «out_node») (now «out_start») (now «out_end») (now «out_write») (now «out_bytes») (now «out_dead»)) ⌝ }
-    ensures { λ r. ⌜ outcome (stateFrom (now (parent .entry)) (now (depth .entry)) (now (len .entry)) (now (run .entry)) (now (words .entry)) (now (node .exit)) (now (start .exit)) (now (end .exit)) (now (id .exit)) (now (stamp .exit)) (now (touched .exit)) (now (write .exit)) (now («pin_node» .entry)) (now («pin_start» .entry)) (now («pin_end» .entry)) (now («pin_count» .entry)) (now (marks .exit)) (now (bytes .entry)) (now (books .exit))) (outList (now («out_node» .exit)) (now («out_start» .exit)) (now («out_end» .exit)) (now («out_write» .exit)) (now («out_bytes» .exit)) (now («out_dead» .exit))) (storeExpiredOf r) ≡ storeExpire (stateFrom (now (parent .entry)) (now (depth .entry)) (now (len .entry)) (now (run .entry)) (now (words .entry)) (now (node .entry)) (now (start .entry)) (now (end .entry)) (now (id .entry)) (now (stamp .entry)) (now (touched .entry)) (now (write .entry)) (now («pin_node» .entry)) (now («pin_start» .entry)) (now («pin_end» .entry)) (now («pin_count» .entry)) (now (marks .entry)) (now (bytes .entry)) (now (books .entry))) (outList (now («out_node» .entry)) (now («out_start» .entry)) (now («out_end» .entry)) (now («out_write» .entry)) (now («out_bytes» .entry)) (now («out_dead» .entry))) s time seconds ⌝ }
+    requires { ⌜
+        Sound
+        (stateFrom (now parent) (now depth) (now len) (now run) (now words) (now node) (now start) (now end) (now id) (now stamp) (now touched) (now write)
+        (now «pin_node») (now «pin_start») (now «pin_end») (now «pin_count») (now marks) (now bytes) (now books))
+        × OutFits (outList (now «out_node») (now «out_start») (now «out_end») (now «out_write») (now «out_bytes») (now «out_dead»))
+        ⌝ }
+    ensures { λ r. ⌜
+        outcome
+        (stateFrom (now (parent .entry)) (now (depth .entry)) (now (len .entry)) (now (run .entry)) (now (words .entry)) (now (node .exit))
+        (now (start .exit)) (now (end .exit)) (now (id .exit)) (now (stamp .exit)) (now (touched .exit)) (now (write .exit)) (now («pin_node» .entry))
+        (now («pin_start» .entry)) (now («pin_end» .entry)) (now («pin_count» .entry)) (now (marks .exit)) (now (bytes .entry))
+        (now (books .exit)))
+        (outList (now («out_node» .exit)) (now («out_start» .exit)) (now («out_end» .exit)) (now («out_write» .exit)) (now («out_bytes» .exit))
+        (now («out_dead» .exit)))
+        (storeExpiredOf r)
+        ≡ storeExpire
+        (stateFrom (now (parent .entry)) (now (depth .entry)) (now (len .entry)) (now (run .entry)) (now (words .entry)) (now (node .entry))
+        (now (start .entry)) (now (end .entry)) (now (id .entry)) (now (stamp .entry)) (now (touched .entry)) (now (write .entry))
+        (now («pin_node» .entry)) (now («pin_start» .entry)) (now («pin_end» .entry)) (now («pin_count» .entry)) (now (marks .entry))
+        (now (bytes .entry)) (now (books .entry)))
+        (outList (now («out_node» .entry)) (now («out_start» .entry)) (now («out_end» .entry)) (now («out_write» .entry))
+        (now («out_bytes» .entry)) (now («out_dead» .entry)))
+        s time seconds
+        ⌝ }
 {
     let stores = books[2] as usize;
     let number = refusal(stores, s, time, seconds);

@@ -20,7 +20,13 @@ ghost use Rattle.storeinsert.specs.Keep.{argumentRefusals, needRefusals,
 // What the arguments are refused for: 2, 4, 5 or nothing, 0.
 fn argument_refusal(len: &[usize], nodes: usize, stores: usize, s: usize, sp: Span, time: f64) -> u8
     requires { ⌜ nodes ≤ length (now len) ⌝ }
-    ensures { λ r. ⌜ ((st : State) → st .tree .len ≡ now (len .entry) → st .tree .nodes ≡ nodes → storesOf st ≡ stores → r ≡ firstOf (argumentRefusals st s sp time)) ⌝ }
+    ensures { λ r. ⌜
+        ((st : State)
+        → st .tree .len ≡ now (len .entry)
+        → st .tree .nodes ≡ nodes
+        → storesOf st ≡ stores
+        → r ≡ firstOf (argumentRefusals st s sp time))
+        ⌝ }
 {
     if stores <= s {
         return 2;
@@ -37,7 +43,15 @@ fn argument_refusal(len: &[usize], nodes: usize, stores: usize, s: usize, sp: Sp
 // The gaps of a span in store s, which has n records: its part of each column is lent on.
 fn gaps_of(node: &[usize], start: &[usize], end: &[usize], s: usize, n: usize, sp: Span) -> Gaps
     requires { ⌜ (s < 8) × (n ≤ 128) × (1024 ≤ length (now node)) × (1024 ≤ length (now start)) × (1024 ≤ length (now end)) ⌝ }
-    ensures { λ r. ⌜ (r .n ≤ 129) × ((st : State) → st .ranges .node ≡ now (node .entry) → st .ranges .start ≡ now (start .entry) → st .ranges .end ≡ now (end .entry) → recordsOf st s ≡ n → gapsOf r ≡ gapsBetween (sp .node) (storeOf st s .ranges) (sp .start) (sp .end)) ⌝ }
+    ensures { λ r. ⌜
+        (r .n ≤ 129)
+        × ((st : State)
+        → st .ranges .node ≡ now (node .entry)
+        → st .ranges .start ≡ now (start .entry)
+        → st .ranges .end ≡ now (end .entry)
+        → recordsOf st s ≡ n
+        → gapsOf r ≡ gapsBetween (sp .node) (storeOf st s .ranges) (sp .start) (sp .end))
+        ⌝ }
 {
     let a = 128 * s;
     let e = a + 128;
@@ -105,8 +119,30 @@ fn keep_span(
     time: f64,
     w: u32,
 ) -> StoreInserted
-    requires { ⌜ KeepReady (stateFrom (now parent) (now depth) (now len) (now run) (now words) (now node) (now start) (now end) (now id) (now stamp) (now touched) (now write) (now «pin_node») (now «pin_start») (now «pin_end») (now «pin_count») (now marks) (now bytes) (now books)) (outList (now «out_node») (now «out_start») (now «out_end») (now «out_write») (now «out_bytes») (now «out_dead»)) s sp time ⌝ }
-    ensures { λ r. ⌜ outcome (stateFrom (now (parent .entry)) (now (depth .entry)) (now (len .entry)) (now (run .entry)) (now (words .entry)) (now (node .exit)) (now (start .exit)) (now (end .exit)) (now (id .exit)) (now (stamp .exit)) (now (touched .exit)) (now (write .exit)) (now («pin_node» .entry)) (now («pin_start» .entry)) (now («pin_end» .entry)) (now («pin_count» .entry)) (now (marks .exit)) (now (bytes .entry)) (now (books .exit))) (outList (now («out_node» .exit)) (now («out_start» .exit)) (now («out_end» .exit)) (now («out_write» .exit)) (now («out_bytes» .exit)) (now («out_dead» .exit))) (storeInsertedOf r) ≡ storeInsert (stateFrom (now (parent .entry)) (now (depth .entry)) (now (len .entry)) (now (run .entry)) (now (words .entry)) (now (node .entry)) (now (start .entry)) (now (end .entry)) (now (id .entry)) (now (stamp .entry)) (now (touched .entry)) (now (write .entry)) (now («pin_node» .entry)) (now («pin_start» .entry)) (now («pin_end» .entry)) (now («pin_count» .entry)) (now (marks .entry)) (now (bytes .entry)) (now (books .entry))) (outList (now («out_node» .entry)) (now («out_start» .entry)) (now («out_end» .entry)) (now («out_write» .entry)) (now («out_bytes» .entry)) (now («out_dead» .entry))) s sp time w ⌝ }
+    requires { ⌜
+        KeepReady
+        (stateFrom (now parent) (now depth) (now len) (now run) (now words) (now node) (now start) (now end) (now id) (now stamp) (now touched) (now write)
+        (now «pin_node») (now «pin_start») (now «pin_end») (now «pin_count») (now marks) (now bytes) (now books))
+        (outList (now «out_node») (now «out_start») (now «out_end») (now «out_write») (now «out_bytes») (now «out_dead»)) s sp time
+        ⌝ }
+    ensures { λ r. ⌜
+        outcome
+        (stateFrom (now (parent .entry)) (now (depth .entry)) (now (len .entry)) (now (run .entry)) (now (words .entry)) (now (node .exit))
+        (now (start .exit)) (now (end .exit)) (now (id .exit)) (now (stamp .exit)) (now (touched .exit)) (now (write .exit)) (now («pin_node» .entry))
+        (now («pin_start» .entry)) (now («pin_end» .entry)) (now («pin_count» .entry)) (now (marks .exit)) (now (bytes .entry))
+        (now (books .exit)))
+        (outList (now («out_node» .exit)) (now («out_start» .exit)) (now («out_end» .exit)) (now («out_write» .exit)) (now («out_bytes» .exit))
+        (now («out_dead» .exit)))
+        (storeInsertedOf r)
+        ≡ storeInsert
+        (stateFrom (now (parent .entry)) (now (depth .entry)) (now (len .entry)) (now (run .entry)) (now (words .entry)) (now (node .entry))
+        (now (start .entry)) (now (end .entry)) (now (id .entry)) (now (stamp .entry)) (now (touched .entry)) (now (write .entry))
+        (now («pin_node» .entry)) (now («pin_start» .entry)) (now («pin_end» .entry)) (now («pin_count» .entry)) (now (marks .entry))
+        (now (bytes .entry)) (now (books .entry)))
+        (outList (now («out_node» .entry)) (now («out_start» .entry)) (now («out_end» .entry)) (now («out_write» .entry))
+        (now («out_bytes» .entry)) (now («out_dead» .entry)))
+        s sp time w
+        ⌝ }
 {
     let own = books::book_of(books, s);
     let g = gaps_of(node, start, end, s, own.records, sp);
@@ -181,8 +217,30 @@ pub fn store_insert(
     time: f64,
     w: u32,
 ) -> StoreInserted
-    requires { ⌜ Sound (stateFrom (now parent) (now depth) (now len) (now run) (now words) (now node) (now start) (now end) (now id) (now stamp) (now touched) (now write) (now «pin_node») (now «pin_start») (now «pin_end») (now «pin_count») (now marks) (now bytes) (now books)) × OutFits (outList (now «out_node») (now «out_start») (now «out_end») (now «out_write») (now «out_bytes») (now «out_dead»)) ⌝ }
-    ensures { λ r. ⌜ outcome (stateFrom (now (parent .entry)) (now (depth .entry)) (now (len .entry)) (now (run .entry)) (now (words .entry)) (now (node .exit)) (now (start .exit)) (now (end .exit)) (now (id .exit)) (now (stamp .exit)) (now (touched .exit)) (now (write .exit)) (now («pin_node» .entry)) (now («pin_start» .entry)) (now («pin_end» .entry)) (now («pin_count» .entry)) (now (marks .exit)) (now (bytes .entry)) (now (books .exit))) (outList (now («out_node» .exit)) (now («out_start» .exit)) (now («out_end» .exit)) (now («out_write» .exit)) (now («out_bytes» .exit)) (now («out_dead» .exit))) (storeInsertedOf r) ≡ storeInsert (stateFrom (now (parent .entry)) (now (depth .entry)) (now (len .entry)) (now (run .entry)) (now (words .entry)) (now (node .entry)) (now (start .entry)) (now (end .entry)) (now (id .entry)) (now (stamp .entry)) (now (touched .entry)) (now (write .entry)) (now («pin_node» .entry)) (now («pin_start» .entry)) (now («pin_end» .entry)) (now («pin_count» .entry)) (now (marks .entry)) (now (bytes .entry)) (now (books .entry))) (outList (now («out_node» .entry)) (now («out_start» .entry)) (now («out_end» .entry)) (now («out_write» .entry)) (now («out_bytes» .entry)) (now («out_dead» .entry))) s sp time w ⌝ }
+    requires { ⌜
+        Sound
+        (stateFrom (now parent) (now depth) (now len) (now run) (now words) (now node) (now start) (now end) (now id) (now stamp) (now touched) (now write)
+        (now «pin_node») (now «pin_start») (now «pin_end») (now «pin_count») (now marks) (now bytes) (now books))
+        × OutFits (outList (now «out_node») (now «out_start») (now «out_end») (now «out_write») (now «out_bytes») (now «out_dead»))
+        ⌝ }
+    ensures { λ r. ⌜
+        outcome
+        (stateFrom (now (parent .entry)) (now (depth .entry)) (now (len .entry)) (now (run .entry)) (now (words .entry)) (now (node .exit))
+        (now (start .exit)) (now (end .exit)) (now (id .exit)) (now (stamp .exit)) (now (touched .exit)) (now (write .exit)) (now («pin_node» .entry))
+        (now («pin_start» .entry)) (now («pin_end» .entry)) (now («pin_count» .entry)) (now (marks .exit)) (now (bytes .entry))
+        (now (books .exit)))
+        (outList (now («out_node» .exit)) (now («out_start» .exit)) (now («out_end» .exit)) (now («out_write» .exit)) (now («out_bytes» .exit))
+        (now («out_dead» .exit)))
+        (storeInsertedOf r)
+        ≡ storeInsert
+        (stateFrom (now (parent .entry)) (now (depth .entry)) (now (len .entry)) (now (run .entry)) (now (words .entry)) (now (node .entry))
+        (now (start .entry)) (now (end .entry)) (now (id .entry)) (now (stamp .entry)) (now (touched .entry)) (now (write .entry))
+        (now («pin_node» .entry)) (now («pin_start» .entry)) (now («pin_end» .entry)) (now («pin_count» .entry)) (now (marks .entry))
+        (now (bytes .entry)) (now (books .entry)))
+        (outList (now («out_node» .entry)) (now («out_start» .entry)) (now («out_end» .entry)) (now («out_write» .entry))
+        (now («out_bytes» .entry)) (now («out_dead» .entry)))
+        s sp time w
+        ⌝ }
 {
     let nodes = books[0] as usize;
     let stores = books[2] as usize;

@@ -42,7 +42,12 @@ fn refusal(
     sp: Span,
 ) -> u8
     requires { ⌜ ((st : State) × Seen (now len) (now node) (now start) (now end) nodes next s n st) ⌝ }
-    ensures { λ r. ⌜ ((st : State) (l : List ℕ) → Seen (now (len .entry)) (now (node .entry)) (now (start .entry)) (now (end .entry)) nodes next s n st → outPlaces ≤ length l → r ≡ firstOf (storeRemoveRefusals st l s sp)) ⌝ }
+    ensures { λ r. ⌜
+        ((st : State) (l : List ℕ)
+        → Seen (now (len .entry)) (now (node .entry)) (now (start .entry)) (now (end .entry)) nodes next s n st
+        → outPlaces ≤ length l
+        → r ≡ firstOf (storeRemoveRefusals st l s sp))
+        ⌝ }
     ensures { λ r. ⌜ (r ≡ 0 → FitsAt s n (now (node .entry)) (now (start .entry)) (now (end .entry)) sp) ⌝ }
 {
     if !refuse::span_in(len, nodes, sp) {
@@ -75,7 +80,21 @@ fn remove_pools(
     next: u64,
 ) -> Removing
     requires { ⌜ PoolReady s n sp (rangesOf (now node) (now start) (now end) (now id) (now stamp) (now touched) (now write)) (now marks) (now list) ⌝ }
-    ensures { λ r. ⌜ ((x : Store) → x .ranges ≡ ranges (rangesOf (now (node .entry)) (now (start .entry)) (now (end .entry)) (now (id .entry)) (now (stamp .entry)) (now (touched .entry)) (now (write .entry))) (128 * s) n → x .marks ≡ mid (256 * s) 256 (now (marks .entry)) → FreedAt s n x (removeOf x next sp) (rangesOf (now (node .entry)) (now (start .entry)) (now (end .entry)) (now (id .entry)) (now (stamp .entry)) (now (touched .entry)) (now (write .entry))) (now (marks .entry)) (now (list .entry)) (rangesOf (now (node .exit)) (now (start .exit)) (now (end .exit)) (now (id .exit)) (now (stamp .exit)) (now (touched .exit)) (now (write .exit))) (now (marks .exit)) (now (list .exit)) r) ⌝ }
+    ensures { λ r. ⌜
+        ((x : Store)
+        → x .ranges
+        ≡ ranges
+        (rangesOf (now (node .entry)) (now (start .entry)) (now (end .entry)) (now (id .entry)) (now (stamp .entry)) (now (touched .entry))
+        (now (write .entry)))
+        (128 * s) n
+        → x .marks ≡ mid (256 * s) 256 (now (marks .entry))
+        → FreedAt s n x (removeOf x next sp)
+        (rangesOf (now (node .entry)) (now (start .entry)) (now (end .entry)) (now (id .entry)) (now (stamp .entry)) (now (touched .entry))
+        (now (write .entry)))
+        (now (marks .entry)) (now (list .entry))
+        (rangesOf (now (node .exit)) (now (start .exit)) (now (end .exit)) (now (id .exit)) (now (stamp .exit)) (now (touched .exit)) (now (write .exit)))
+        (now (marks .exit)) (now (list .exit)) r)
+        ⌝ }
 {
     let a = 128 * s;
     let e = a + 128;
@@ -132,8 +151,26 @@ pub fn store_remove(
     s: usize,
     sp: Span,
 ) -> StoreRemoved
-    requires { ⌜ Sound (stateFrom (now parent) (now depth) (now len) (now run) (now words) (now node) (now start) (now end) (now id) (now stamp) (now touched) (now write) (now «pin_node») (now «pin_start») (now «pin_end») (now «pin_count») (now marks) (now bytes) (now books)) × (outPlaces ≤ length (now list)) ⌝ }
-    ensures { λ r. ⌜ outcome (stateFrom (now (parent .entry)) (now (depth .entry)) (now (len .entry)) (now (run .entry)) (now (words .entry)) (now (node .exit)) (now (start .exit)) (now (end .exit)) (now (id .exit)) (now (stamp .exit)) (now (touched .exit)) (now (write .exit)) (now («pin_node» .entry)) (now («pin_start» .entry)) (now («pin_end» .entry)) (now («pin_count» .entry)) (now (marks .exit)) (now (bytes .entry)) (now (books .exit))) (now (list .exit)) (storeRemovedOf r) ≡ storeRemove (stateFrom (now (parent .entry)) (now (depth .entry)) (now (len .entry)) (now (run .entry)) (now (words .entry)) (now (node .entry)) (now (start .entry)) (now (end .entry)) (now (id .entry)) (now (stamp .entry)) (now (touched .entry)) (now (write .entry)) (now («pin_node» .entry)) (now («pin_start» .entry)) (now («pin_end» .entry)) (now («pin_count» .entry)) (now (marks .entry)) (now (bytes .entry)) (now (books .entry))) (now (list .entry)) s sp ⌝ }
+    requires { ⌜
+        Sound
+        (stateFrom (now parent) (now depth) (now len) (now run) (now words) (now node) (now start) (now end) (now id) (now stamp) (now touched) (now write)
+        (now «pin_node») (now «pin_start») (now «pin_end») (now «pin_count») (now marks) (now bytes) (now books))
+        × (outPlaces ≤ length (now list))
+        ⌝ }
+    ensures { λ r. ⌜
+        outcome
+        (stateFrom (now (parent .entry)) (now (depth .entry)) (now (len .entry)) (now (run .entry)) (now (words .entry)) (now (node .exit))
+        (now (start .exit)) (now (end .exit)) (now (id .exit)) (now (stamp .exit)) (now (touched .exit)) (now (write .exit)) (now («pin_node» .entry))
+        (now («pin_start» .entry)) (now («pin_end» .entry)) (now («pin_count» .entry)) (now (marks .exit)) (now (bytes .entry))
+        (now (books .exit)))
+        (now (list .exit)) (storeRemovedOf r)
+        ≡ storeRemove
+        (stateFrom (now (parent .entry)) (now (depth .entry)) (now (len .entry)) (now (run .entry)) (now (words .entry)) (now (node .entry))
+        (now (start .entry)) (now (end .entry)) (now (id .entry)) (now (stamp .entry)) (now (touched .entry)) (now (write .entry))
+        (now («pin_node» .entry)) (now («pin_start» .entry)) (now («pin_end» .entry)) (now («pin_count» .entry)) (now (marks .entry))
+        (now (bytes .entry)) (now (books .entry)))
+        (now (list .entry)) s sp
+        ⌝ }
 {
     let stores = books[2] as usize;
     if stores <= s {

@@ -48,8 +48,17 @@ pub fn touch_spans(
     bytes: &[u64],
     x: Turn,
 ) -> Turn
-    requires { ⌜ AtFirst (now spans) (now depth) (now bytes) (rangesOf (now node) (now start) (now end) (now id) (now stamp) (now touched) (now write)) (now marks) x ⌝ }
-    ensures { λ r. ⌜ Turns (now (spans .entry)) (now (depth .entry)) (now (bytes .entry)) (rangesOf (now (node .entry)) (now (start .entry)) (now (end .entry)) (now (id .entry)) (now (stamp .entry)) (now (touched .entry)) (now (write .entry))) (now (marks .entry)) x (length (now (spans .entry))) (rangesOf (now (node .exit)) (now (start .exit)) (now (end .exit)) (now (id .exit)) (now (stamp .exit)) (now (touched .exit)) (now (write .exit))) (now (marks .exit)) r ⌝ }
+    requires { ⌜
+        AtFirst (now spans) (now depth) (now bytes) (rangesOf (now node) (now start) (now end) (now id) (now stamp) (now touched) (now write)) (now marks) x
+        ⌝ }
+    ensures { λ r. ⌜
+        Turns (now (spans .entry)) (now (depth .entry)) (now (bytes .entry))
+        (rangesOf (now (node .entry)) (now (start .entry)) (now (end .entry)) (now (id .entry)) (now (stamp .entry)) (now (touched .entry))
+        (now (write .entry)))
+        (now (marks .entry)) x (length (now (spans .entry)))
+        (rangesOf (now (node .exit)) (now (start .exit)) (now (end .exit)) (now (id .exit)) (now (stamp .exit)) (now (touched .exit)) (now (write .exit)))
+        (now (marks .exit)) r
+        ⌝ }
 {
     let mut y = x;
     let mut i: usize = 0;
@@ -84,7 +93,12 @@ fn first_refusal(
     time: f64,
 ) -> u8
     requires { ⌜ (nodes ≤ length (now len)) × (count ≤ 64) ⌝ }
-    ensures { λ r. ⌜ ((t : Tree) → t .len ≡ now (len .entry) → t .nodes ≡ nodes → r ≡ refusedBy (any (length (take count spans)) (bad t (take count spans))) (firstNumber stores s (length (take count spans)) time)) ⌝ }
+    ensures { λ r. ⌜
+        ((t : Tree)
+        → t .len ≡ now (len .entry)
+        → t .nodes ≡ nodes
+        → r ≡ refusedBy (any (length (take count spans)) (bad t (take count spans))) (firstNumber stores s (length (take count spans)) time))
+        ⌝ }
 {
     let first = usedspan::first_number(stores, s, count, time);
     let mut i = 0;
@@ -118,8 +132,29 @@ fn take_turns(
     counted: bool,
     y: Run,
 ) -> Run
-    requires { ⌜ CanStart (take count spans) (now depth) (now bytes) (rangesOf (now node) (now start) (now end) (now id) (now stamp) (now touched) (now write)) (now marks) s refreshes time counted y × (count ≤ 64) ⌝ }
-    ensures { λ r. ⌜ ((o : Others) (x : List ℕ) → Starts o x (take count spans) (now (depth .entry)) (now (bytes .entry)) (rangesOf (now (node .entry)) (now (start .entry)) (now (end .entry)) (now (id .entry)) (now (stamp .entry)) (now (touched .entry)) (now (write .entry))) (now (marks .entry)) s refreshes time counted y → Went (whole o (now (depth .entry)) (now (bytes .entry)) (rangesOf (now (node .entry)) (now (start .entry)) (now (end .entry)) (now (id .entry)) (now (stamp .entry)) (now (touched .entry)) (now (write .entry))) (now (marks .entry)) x) s (take count spans) time counted (whole o (now (depth .entry)) (now (bytes .entry)) (rangesOf (now (node .exit)) (now (start .exit)) (now (end .exit)) (now (id .exit)) (now (stamp .exit)) (now (touched .exit)) (now (write .exit))) (now (marks .exit)) (booksWith s r x)) r) ⌝ }
+    requires { ⌜
+        CanStart (take count spans) (now depth) (now bytes) (rangesOf (now node) (now start) (now end) (now id) (now stamp) (now touched) (now write))
+        (now marks) s refreshes time counted y
+        × (count ≤ 64)
+        ⌝ }
+    ensures { λ r. ⌜
+        ((o : Others) (x : List ℕ)
+        → Starts o x (take count spans) (now (depth .entry)) (now (bytes .entry))
+        (rangesOf (now (node .entry)) (now (start .entry)) (now (end .entry)) (now (id .entry)) (now (stamp .entry)) (now (touched .entry))
+        (now (write .entry)))
+        (now (marks .entry)) s refreshes time counted y
+        → Went
+        (whole o (now (depth .entry)) (now (bytes .entry))
+        (rangesOf (now (node .entry)) (now (start .entry)) (now (end .entry)) (now (id .entry)) (now (stamp .entry)) (now (touched .entry))
+        (now (write .entry)))
+        (now (marks .entry)) x)
+        s (take count spans) time counted
+        (whole o (now (depth .entry)) (now (bytes .entry))
+        (rangesOf (now (node .exit)) (now (start .exit)) (now (end .exit)) (now (id .exit)) (now (stamp .exit)) (now (touched .exit))
+        (now (write .exit)))
+        (now (marks .exit)) (booksWith s r x))
+        r)
+        ⌝ }
 {
     let mut z = y;
     let mut j = 0;
@@ -189,8 +224,30 @@ fn touch_kept(
     counted: bool,
     y: Run,
 ) -> StoreUsed
-    requires { ⌜ CanStart (take count spans) (now depth) (now bytes) (rangesOf (now node) (now start) (now end) (now id) (now stamp) (now touched) (now write)) (now marks) s refreshes time counted y × (count ≤ 64) × (maxNumbers ≤ length (now books)) ⌝ }
-    ensures { λ r. ⌜ ((o : Others) → Starts o (now (books .entry)) (take count spans) (now (depth .entry)) (now (bytes .entry)) (rangesOf (now (node .entry)) (now (start .entry)) (now (end .entry)) (now (id .entry)) (now (stamp .entry)) (now (touched .entry)) (now (write .entry))) (now (marks .entry)) s refreshes time counted y → Outcomes (whole o (now (depth .entry)) (now (bytes .entry)) (rangesOf (now (node .entry)) (now (start .entry)) (now (end .entry)) (now (id .entry)) (now (stamp .entry)) (now (touched .entry)) (now (write .entry))) (now (marks .entry)) (now (books .entry))) s (take count spans) time counted (whole o (now (depth .entry)) (now (bytes .entry)) (rangesOf (now (node .exit)) (now (start .exit)) (now (end .exit)) (now (id .exit)) (now (stamp .exit)) (now (touched .exit)) (now (write .exit))) (now (marks .exit)) (now (books .exit))) r) ⌝ }
+    requires { ⌜
+        CanStart (take count spans) (now depth) (now bytes) (rangesOf (now node) (now start) (now end) (now id) (now stamp) (now touched) (now write))
+        (now marks) s refreshes time counted y
+        × (count ≤ 64)
+        × (maxNumbers ≤ length (now books))
+        ⌝ }
+    ensures { λ r. ⌜
+        ((o : Others)
+        → Starts o (now (books .entry)) (take count spans) (now (depth .entry)) (now (bytes .entry))
+        (rangesOf (now (node .entry)) (now (start .entry)) (now (end .entry)) (now (id .entry)) (now (stamp .entry)) (now (touched .entry))
+        (now (write .entry)))
+        (now (marks .entry)) s refreshes time counted y
+        → Outcomes
+        (whole o (now (depth .entry)) (now (bytes .entry))
+        (rangesOf (now (node .entry)) (now (start .entry)) (now (end .entry)) (now (id .entry)) (now (stamp .entry)) (now (touched .entry))
+        (now (write .entry)))
+        (now (marks .entry)) (now (books .entry)))
+        s (take count spans) time counted
+        (whole o (now (depth .entry)) (now (bytes .entry))
+        (rangesOf (now (node .exit)) (now (start .exit)) (now (end .exit)) (now (id .exit)) (now (stamp .exit)) (now (touched .exit))
+        (now (write .exit)))
+        (now (marks .exit)) (now (books .exit)))
+        r)
+        ⌝ }
 {
     let old = undo::keep(node, start, end, id, stamp, touched, write, marks, s);
     let z = take_turns(
@@ -247,8 +304,26 @@ pub fn store_used_array(
     time: f64,
     counted: bool,
 ) -> StoreUsed
-    requires { ⌜ Sound (stateFrom (now parent) (now depth) (now len) (now run) (now words) (now node) (now start) (now end) (now id) (now stamp) (now touched) (now write) (now «pin_node») (now «pin_start») (now «pin_end») (now «pin_count») (now marks) (now bytes) (now books)) × (count ≤ 64) ⌝ }
-    ensures { λ r. ⌜ outcome (stateFrom (now (parent .entry)) (now (depth .entry)) (now (len .entry)) (now (run .entry)) (now (words .entry)) (now (node .exit)) (now (start .exit)) (now (end .exit)) (now (id .exit)) (now (stamp .exit)) (now (touched .exit)) (now (write .exit)) (now («pin_node» .entry)) (now («pin_start» .entry)) (now («pin_end» .entry)) (now («pin_count» .entry)) (now (marks .exit)) (now (bytes .entry)) (now (books .exit))) tt (storeUsedOf r) ≡ storeUsed (stateFrom (now (parent .entry)) (now (depth .entry)) (now (len .entry)) (now (run .entry)) (now (words .entry)) (now (node .entry)) (now (start .entry)) (now (end .entry)) (now (id .entry)) (now (stamp .entry)) (now (touched .entry)) (now (write .entry)) (now («pin_node» .entry)) (now («pin_start» .entry)) (now («pin_end» .entry)) (now («pin_count» .entry)) (now (marks .entry)) (now (bytes .entry)) (now (books .entry))) s (take count spans) time counted ⌝ }
+    requires { ⌜
+        Sound
+        (stateFrom (now parent) (now depth) (now len) (now run) (now words) (now node) (now start) (now end) (now id) (now stamp) (now touched) (now write)
+        (now «pin_node») (now «pin_start») (now «pin_end») (now «pin_count») (now marks) (now bytes) (now books))
+        × (count ≤ 64)
+        ⌝ }
+    ensures { λ r. ⌜
+        outcome
+        (stateFrom (now (parent .entry)) (now (depth .entry)) (now (len .entry)) (now (run .entry)) (now (words .entry)) (now (node .exit))
+        (now (start .exit)) (now (end .exit)) (now (id .exit)) (now (stamp .exit)) (now (touched .exit)) (now (write .exit)) (now («pin_node» .entry))
+        (now («pin_start» .entry)) (now («pin_end» .entry)) (now («pin_count» .entry)) (now (marks .exit)) (now (bytes .entry))
+        (now (books .exit)))
+        tt (storeUsedOf r)
+        ≡ storeUsed
+        (stateFrom (now (parent .entry)) (now (depth .entry)) (now (len .entry)) (now (run .entry)) (now (words .entry)) (now (node .entry))
+        (now (start .entry)) (now (end .entry)) (now (id .entry)) (now (stamp .entry)) (now (touched .entry)) (now (write .entry))
+        (now («pin_node» .entry)) (now («pin_start» .entry)) (now («pin_end» .entry)) (now («pin_count» .entry)) (now (marks .entry))
+        (now (bytes .entry)) (now (books .entry)))
+        s (take count spans) time counted
+        ⌝ }
 {
     let nodes = books[0] as usize;
     let stores = books[2] as usize;

@@ -40,7 +40,13 @@ fn range_end(
     o: usize,
 ) -> RangeEnd
     requires { ⌜ (n ≤ length (now node)) × (n ≤ length (now start)) × (n ≤ length (now end)) ⌝ }
-    ensures { λ r. ⌜ ((c : Ranges) → c .node ≡ now (node .entry) → c .start ≡ now (start .entry) → c .end ≡ now (end .entry) → endOf r ≡ rangeEnd v o (ranges c 0 n)) ⌝ }
+    ensures { λ r. ⌜
+        ((c : Ranges)
+        → c .node ≡ now (node .entry)
+        → c .start ≡ now (start .entry)
+        → c .end ≡ now (end .entry)
+        → endOf r ≡ rangeEnd v o (ranges c 0 n))
+        ⌝ }
 {
     let mut i = 0;
     while i < n {
@@ -63,7 +69,13 @@ fn store_end(
     o: usize,
 ) -> RangeEnd
     requires { ⌜ (s < 8) × (n ≤ 128) × (1024 ≤ length (now node)) × (1024 ≤ length (now start)) × (1024 ≤ length (now end)) ⌝ }
-    ensures { λ r. ⌜ ((c : Ranges) → c .node ≡ now (node .entry) → c .start ≡ now (start .entry) → c .end ≡ now (end .entry) → endOf r ≡ rangeEnd v o (ranges c (128 * s) n)) ⌝ }
+    ensures { λ r. ⌜
+        ((c : Ranges)
+        → c .node ≡ now (node .entry)
+        → c .start ≡ now (start .entry)
+        → c .end ≡ now (end .entry)
+        → endOf r ≡ rangeEnd v o (ranges c (128 * s) n))
+        ⌝ }
 {
     let a = 128 * s;
     let e = a + n;
@@ -104,9 +116,20 @@ pub fn lookup_resolved(
     segs: usize,
     tiers: &[usize],
 ) -> LookupParts
-    requires { ⌜ ((st : State) × (hs : List ℕ) × Seen (now depth) (now node) (now start) (now end) (now bytes) records (pathListOf (now «path_node») (now «path_len»)) segs (now tiers) st hs) ⌝ }
+    requires { ⌜
+        ((st : State)
+        × (hs : List ℕ)
+        × Seen (now depth) (now node) (now start) (now end) (now bytes) records (pathListOf (now «path_node») (now «path_len»)) segs (now tiers) st hs)
+        ⌝ }
     requires { ⌜ TierFits (tierListOf (now «span_tier») (now «span_node») (now «span_start») (now «span_end»)) ⌝ }
-    ensures { λ r. ⌜ ((st : State) (hs : List ℕ) → Seen (now (depth .entry)) (now (node .entry)) (now (start .entry)) (now (end .entry)) (now (bytes .entry)) records (pathListOf (now («path_node» .entry)) (now («path_len» .entry))) segs (now (tiers .entry)) st hs → Told st (now (tiers .entry)) hs (tierListOf (now («span_tier» .entry)) (now («span_node» .entry)) (now («span_start» .entry)) (now («span_end» .entry))) (tierListOf (now («span_tier» .exit)) (now («span_node» .exit)) (now («span_start» .exit)) (now («span_end» .exit))) r) ⌝ }
+    ensures { λ r. ⌜
+        ((st : State) (hs : List ℕ)
+        → Seen (now (depth .entry)) (now (node .entry)) (now (start .entry)) (now (end .entry)) (now (bytes .entry)) records
+        (pathListOf (now («path_node» .entry)) (now («path_len» .entry))) segs (now (tiers .entry)) st hs
+        → Told st (now (tiers .entry)) hs
+        (tierListOf (now («span_tier» .entry)) (now («span_node» .entry)) (now («span_start» .entry)) (now («span_end» .entry)))
+        (tierListOf (now («span_tier» .exit)) (now («span_node» .exit)) (now («span_start» .exit)) (now («span_end» .exit))) r)
+        ⌝ }
 {
     let mut spans = 0;
     let mut blocks = [0u64; 8];

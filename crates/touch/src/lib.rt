@@ -63,8 +63,21 @@ fn split_if(
     m: usize,
     new: u64,
 ) -> usize
-    requires { ⌜ (i < n) × (n + plus on 0 ≤ 128) × Sized 128 (rangesOf (now node) (now start) (now end) (now id) (now stamp) (now touched) (now write)) ⌝ }
-    ensures { λ r. ⌜ ((rangesOf (now (node .exit)) (now (start .exit)) (now (end .exit)) (now (id .exit)) (now (stamp .exit)) (now (touched .exit)) (now (write .exit))) ≡ layRanges 0 (n + r) (atPlace i (halvesIf on m new) (ranges (rangesOf (now (node .entry)) (now (start .entry)) (now (end .entry)) (now (id .entry)) (now (stamp .entry)) (now (touched .entry)) (now (write .entry))) 0 n)) (rangesOf (now (node .entry)) (now (start .entry)) (now (end .entry)) (now (id .entry)) (now (stamp .entry)) (now (touched .entry)) (now (write .entry)))) × (r ≡ plus on 0) ⌝ }
+    requires { ⌜
+        (i < n) × (n + plus on 0 ≤ 128) × Sized 128 (rangesOf (now node) (now start) (now end) (now id) (now stamp) (now touched) (now write))
+        ⌝ }
+    ensures { λ r. ⌜
+        ((rangesOf (now (node .exit)) (now (start .exit)) (now (end .exit)) (now (id .exit)) (now (stamp .exit)) (now (touched .exit)) (now (write .exit)))
+        ≡ layRanges 0 (n + r)
+        (atPlace i (halvesIf on m new)
+        (ranges
+        (rangesOf (now (node .entry)) (now (start .entry)) (now (end .entry)) (now (id .entry)) (now (stamp .entry)) (now (touched .entry))
+        (now (write .entry)))
+        0 n))
+        (rangesOf (now (node .entry)) (now (start .entry)) (now (end .entry)) (now (id .entry)) (now (stamp .entry)) (now (touched .entry))
+        (now (write .entry))))
+        × (r ≡ plus on 0)
+        ⌝ }
 {
     if on {
         overlap::split_rec(node, start, end, id, stamp, touched, write, n, i, m, new);
@@ -89,9 +102,29 @@ fn recut_one(
     time: f64,
     next: u64,
 ) -> usize
-    requires { ⌜ (i < n) × (n + plus (ltb (sp .end) (at (now end) i)) (plus (ltb (at (now start) i) (sp .start)) 0) ≤ 128) × (next ≤ 281474976710655) × Sized 128 (rangesOf (now node) (now start) (now end) (now id) (now stamp) (now touched) (now write)) ⌝ }
-    requires { ⌜ (sp .start < sp .end) × (meets (sp .node) (sp .start) (sp .end) (rangeAt (rangesOf (now node) (now start) (now end) (now id) (now stamp) (now touched) (now write)) i) ≡ true) ⌝ }
-    ensures { λ r. ⌜ ((rangesOf (now (node .exit)) (now (start .exit)) (now (end .exit)) (now (id .exit)) (now (stamp .exit)) (now (touched .exit)) (now (write .exit))) ≡ layRanges 0 (n + r) (atPlace i (pieces (sp .node) (sp .start) (sp .end) top time next) (ranges (rangesOf (now (node .entry)) (now (start .entry)) (now (end .entry)) (now (id .entry)) (now (stamp .entry)) (now (touched .entry)) (now (write .entry))) 0 n)) (rangesOf (now (node .entry)) (now (start .entry)) (now (end .entry)) (now (id .entry)) (now (stamp .entry)) (now (touched .entry)) (now (write .entry)))) × (r ≡ plus (ltb (sp .end) (at (now (end .entry)) i)) (plus (ltb (at (now (start .entry)) i) (sp .start)) 0)) ⌝ }
+    requires { ⌜
+        (i < n)
+        × (n + plus (ltb (sp .end) (at (now end) i)) (plus (ltb (at (now start) i) (sp .start)) 0) ≤ 128)
+        × (next ≤ 281474976710655)
+        × Sized 128 (rangesOf (now node) (now start) (now end) (now id) (now stamp) (now touched) (now write))
+        ⌝ }
+    requires { ⌜
+        (sp .start < sp .end)
+        × (meets (sp .node) (sp .start) (sp .end) (rangeAt (rangesOf (now node) (now start) (now end) (now id) (now stamp) (now touched) (now write)) i)
+        ≡ true)
+        ⌝ }
+    ensures { λ r. ⌜
+        ((rangesOf (now (node .exit)) (now (start .exit)) (now (end .exit)) (now (id .exit)) (now (stamp .exit)) (now (touched .exit)) (now (write .exit)))
+        ≡ layRanges 0 (n + r)
+        (atPlace i (pieces (sp .node) (sp .start) (sp .end) top time next)
+        (ranges
+        (rangesOf (now (node .entry)) (now (start .entry)) (now (end .entry)) (now (id .entry)) (now (stamp .entry)) (now (touched .entry))
+        (now (write .entry)))
+        0 n))
+        (rangesOf (now (node .entry)) (now (start .entry)) (now (end .entry)) (now (id .entry)) (now (stamp .entry)) (now (touched .entry))
+        (now (write .entry))))
+        × (r ≡ plus (ltb (sp .end) (at (now (end .entry)) i)) (plus (ltb (at (now (start .entry)) i) (sp .start)) 0))
+        ⌝ }
 {
     let head = start[i] < sp.start;
     let tail = sp.end < end[i];
@@ -146,8 +179,33 @@ fn recut(
     time: f64,
     next: u64,
 ) -> usize
-    requires { ⌜ (sp .start < sp .end) × (next + newPieces (sp .node) (sp .start) (sp .end) (ranges (rangesOf (now node) (now start) (now end) (now id) (now stamp) (now touched) (now write)) 0 n) ≤ 281474976710655) × (n + newPieces (sp .node) (sp .start) (sp .end) (ranges (rangesOf (now node) (now start) (now end) (now id) (now stamp) (now touched) (now write)) 0 n) ≤ 128) × Cuttable (rangesOf (now node) (now start) (now end) (now id) (now stamp) (now touched) (now write)) n lo hi sp ⌝ }
-    ensures { λ r. ⌜ ((rangesOf (now (node .exit)) (now (start .exit)) (now (end .exit)) (now (id .exit)) (now (stamp .exit)) (now (touched .exit)) (now (write .exit))) ≡ layRanges 0 (n + r) (recut (sp .node) (sp .start) (sp .end) top time next (ranges (rangesOf (now (node .entry)) (now (start .entry)) (now (end .entry)) (now (id .entry)) (now (stamp .entry)) (now (touched .entry)) (now (write .entry))) 0 n)) (rangesOf (now (node .entry)) (now (start .entry)) (now (end .entry)) (now (id .entry)) (now (stamp .entry)) (now (touched .entry)) (now (write .entry)))) × (r ≡ newPieces (sp .node) (sp .start) (sp .end) (ranges (rangesOf (now (node .entry)) (now (start .entry)) (now (end .entry)) (now (id .entry)) (now (stamp .entry)) (now (touched .entry)) (now (write .entry))) 0 n)) ⌝ }
+    requires { ⌜
+        (sp .start < sp .end)
+        × (next
+        + newPieces (sp .node) (sp .start) (sp .end) (ranges (rangesOf (now node) (now start) (now end) (now id) (now stamp) (now touched) (now write)) 0 n)
+        ≤ 281474976710655)
+        × (n
+        + newPieces (sp .node) (sp .start) (sp .end) (ranges (rangesOf (now node) (now start) (now end) (now id) (now stamp) (now touched) (now write)) 0 n)
+        ≤ 128)
+        × Cuttable (rangesOf (now node) (now start) (now end) (now id) (now stamp) (now touched) (now write)) n lo hi sp
+        ⌝ }
+    ensures { λ r. ⌜
+        ((rangesOf (now (node .exit)) (now (start .exit)) (now (end .exit)) (now (id .exit)) (now (stamp .exit)) (now (touched .exit)) (now (write .exit)))
+        ≡ layRanges 0 (n + r)
+        (recut (sp .node) (sp .start) (sp .end) top time next
+        (ranges
+        (rangesOf (now (node .entry)) (now (start .entry)) (now (end .entry)) (now (id .entry)) (now (stamp .entry)) (now (touched .entry))
+        (now (write .entry)))
+        0 n))
+        (rangesOf (now (node .entry)) (now (start .entry)) (now (end .entry)) (now (id .entry)) (now (stamp .entry)) (now (touched .entry))
+        (now (write .entry))))
+        × (r
+        ≡ newPieces (sp .node) (sp .start) (sp .end)
+        (ranges
+        (rangesOf (now (node .entry)) (now (start .entry)) (now (end .entry)) (now (id .entry)) (now (stamp .entry)) (now (touched .entry))
+        (now (write .entry)))
+        0 n))
+        ⌝ }
 {
     let mut p: usize = 0;
     let mut j = lo;
@@ -183,8 +241,19 @@ fn joins_at(
     i: usize,
     v: usize,
 ) -> bool
-    requires { ⌜ (i + 1 < 128) × (length (now node) ≡ 128) × (length (now start) ≡ 128) × (length (now end) ≡ 128) × (length (now stamp) ≡ 128) × (length (now write) ≡ 128) ⌝ }
-    ensures { λ r. ⌜ r ≡ joins v (rangeAt (onlyJoins (now (node .entry)) (now (start .entry)) (now (end .entry)) (now (stamp .entry)) (now (write .entry))) i) (rangeAt (onlyJoins (now (node .entry)) (now (start .entry)) (now (end .entry)) (now (stamp .entry)) (now (write .entry))) (i + 1)) ⌝ }
+    requires { ⌜
+        (i + 1 < 128)
+        × (length (now node) ≡ 128)
+        × (length (now start) ≡ 128)
+        × (length (now end) ≡ 128)
+        × (length (now stamp) ≡ 128)
+        × (length (now write) ≡ 128)
+        ⌝ }
+    ensures { λ r. ⌜
+        r
+        ≡ joins v (rangeAt (onlyJoins (now (node .entry)) (now (start .entry)) (now (end .entry)) (now (stamp .entry)) (now (write .entry))) i)
+        (rangeAt (onlyJoins (now (node .entry)) (now (start .entry)) (now (end .entry)) (now (stamp .entry)) (now (write .entry))) (i + 1))
+        ⌝ }
 {
     let k = i + 1;
     if node[i] != v {
@@ -215,7 +284,17 @@ fn merge(
     i: usize,
 )
     requires { ⌜ (i + 1 < n) × (n ≤ 128) × Sized 128 (rangesOf (now node) (now start) (now end) (now id) (now stamp) (now touched) (now write)) ⌝ }
-    ensures { λ _. ⌜ (rangesOf (now (node .exit)) (now (start .exit)) (now (end .exit)) (now (id .exit)) (now (stamp .exit)) (now (touched .exit)) (now (write .exit))) ≡ layRanges 0 n (atPlace i merged (ranges (rangesOf (now (node .entry)) (now (start .entry)) (now (end .entry)) (now (id .entry)) (now (stamp .entry)) (now (touched .entry)) (now (write .entry))) 0 n)) (rangesOf (now (node .entry)) (now (start .entry)) (now (end .entry)) (now (id .entry)) (now (stamp .entry)) (now (touched .entry)) (now (write .entry))) ⌝ }
+    ensures { λ _. ⌜
+        (rangesOf (now (node .exit)) (now (start .exit)) (now (end .exit)) (now (id .exit)) (now (stamp .exit)) (now (touched .exit)) (now (write .exit)))
+        ≡ layRanges 0 n
+        (atPlace i merged
+        (ranges
+        (rangesOf (now (node .entry)) (now (start .entry)) (now (end .entry)) (now (id .entry)) (now (stamp .entry)) (now (touched .entry))
+        (now (write .entry)))
+        0 n))
+        (rangesOf (now (node .entry)) (now (start .entry)) (now (end .entry)) (now (id .entry)) (now (stamp .entry)) (now (touched .entry))
+        (now (write .entry)))
+        ⌝ }
 {
     end[i] = end[i + 1];
     recs::cut_rec(node, start, end, id, stamp, touched, write, n, i + 1);
@@ -234,7 +313,25 @@ fn join_ranges(
     v: usize,
 ) -> usize
     requires { ⌜ (1 ≤ n) × (n ≤ 128) × Sized 128 (rangesOf (now node) (now start) (now end) (now id) (now stamp) (now touched) (now write)) ⌝ }
-    ensures { λ r. ⌜ ((rangesOf (now (node .exit)) (now (start .exit)) (now (end .exit)) (now (id .exit)) (now (stamp .exit)) (now (touched .exit)) (now (write .exit))) ≡ layRanges 0 n (join v (ranges (rangesOf (now (node .entry)) (now (start .entry)) (now (end .entry)) (now (id .entry)) (now (stamp .entry)) (now (touched .entry)) (now (write .entry))) 0 n)) (rangesOf (now (node .entry)) (now (start .entry)) (now (end .entry)) (now (id .entry)) (now (stamp .entry)) (now (touched .entry)) (now (write .entry)))) × (r ≡ length (join v (ranges (rangesOf (now (node .entry)) (now (start .entry)) (now (end .entry)) (now (id .entry)) (now (stamp .entry)) (now (touched .entry)) (now (write .entry))) 0 n))) × (r ≤ n) ⌝ }
+    ensures { λ r. ⌜
+        ((rangesOf (now (node .exit)) (now (start .exit)) (now (end .exit)) (now (id .exit)) (now (stamp .exit)) (now (touched .exit)) (now (write .exit)))
+        ≡ layRanges 0 n
+        (join v
+        (ranges
+        (rangesOf (now (node .entry)) (now (start .entry)) (now (end .entry)) (now (id .entry)) (now (stamp .entry)) (now (touched .entry))
+        (now (write .entry)))
+        0 n))
+        (rangesOf (now (node .entry)) (now (start .entry)) (now (end .entry)) (now (id .entry)) (now (stamp .entry)) (now (touched .entry))
+        (now (write .entry))))
+        × (r
+        ≡ length
+        (join v
+        (ranges
+        (rangesOf (now (node .entry)) (now (start .entry)) (now (end .entry)) (now (id .entry)) (now (stamp .entry)) (now (touched .entry))
+        (now (write .entry)))
+        0 n)))
+        × (r ≤ n)
+        ⌝ }
 {
     let mut m = n;
     let mut i = 0;
@@ -272,9 +369,25 @@ fn refresh(
     top: u64,
     next: u64,
 ) -> Renewed
-    requires { ⌜ (lo < hi) × (top < 281474976710655) × Cuttable (rangesOf (now node) (now start) (now end) (now id) (now stamp) (now touched) (now write)) n lo hi sp ⌝ }
-    requires { ⌜ (sp .start < sp .end) × (next + newPieces (sp .node) (sp .start) (sp .end) (ranges (rangesOf (now node) (now start) (now end) (now id) (now stamp) (now touched) (now write)) 0 n) ≤ 281474976710655) × (n + newPieces (sp .node) (sp .start) (sp .end) (ranges (rangesOf (now node) (now start) (now end) (now id) (now stamp) (now touched) (now write)) 0 n) ≤ 128) ⌝ }
-    ensures { λ r. ⌜ Refreshed sp (suc top) time next (rangesOf (now (node .entry)) (now (start .entry)) (now (end .entry)) (now (id .entry)) (now (stamp .entry)) (now (touched .entry)) (now (write .entry))) (rangesOf (now (node .exit)) (now (start .exit)) (now (end .exit)) (now (id .exit)) (now (stamp .exit)) (now (touched .exit)) (now (write .exit))) n lo (hi - lo) (r .n) (r .need) ⌝ }
+    requires { ⌜
+        (lo < hi) × (top < 281474976710655) × Cuttable (rangesOf (now node) (now start) (now end) (now id) (now stamp) (now touched) (now write)) n lo hi sp
+        ⌝ }
+    requires { ⌜
+        (sp .start < sp .end)
+        × (next
+        + newPieces (sp .node) (sp .start) (sp .end) (ranges (rangesOf (now node) (now start) (now end) (now id) (now stamp) (now touched) (now write)) 0 n)
+        ≤ 281474976710655)
+        × (n
+        + newPieces (sp .node) (sp .start) (sp .end) (ranges (rangesOf (now node) (now start) (now end) (now id) (now stamp) (now touched) (now write)) 0 n)
+        ≤ 128)
+        ⌝ }
+    ensures { λ r. ⌜
+        Refreshed sp (suc top) time next
+        (rangesOf (now (node .entry)) (now (start .entry)) (now (end .entry)) (now (id .entry)) (now (stamp .entry)) (now (touched .entry))
+        (now (write .entry)))
+        (rangesOf (now (node .exit)) (now (start .exit)) (now (end .exit)) (now (id .exit)) (now (stamp .exit)) (now (touched .exit)) (now (write .exit))) n
+        lo (hi - lo) (r .n) (r .need)
+        ⌝ }
 {
     if one_inside(start, end, sp, lo, hi) {
         stamp[lo] = top + 1;
@@ -314,7 +427,10 @@ fn read_bytes(
 ) -> u64
     requires { ⌜ (lo ≤ hi) × (hi ≤ 128) × (hi ≤ length (now start)) × (hi ≤ length (now end)) × Priced (now depth) (now bytes) sp ⌝ }
     requires { ⌜ Each lo hi (λ (i : ℕ). max (sp .start) (at (now start) i) ≤ min (sp .end) (at (now end) i)) ⌝ }
-    ensures { λ r. ⌜ r ≡ bytesRead counted (onlyDepth (now (depth .entry))) (now (bytes .entry)) sp (ranges (onlySpans (now (start .entry)) (now (end .entry))) lo (hi - lo)) ⌝ }
+    ensures { λ r. ⌜
+        r
+        ≡ bytesRead counted (onlyDepth (now (depth .entry))) (now (bytes .entry)) sp (ranges (onlySpans (now (start .entry)) (now (end .entry))) lo (hi - lo))
+        ⌝ }
 {
     if !counted {
         return 0;
@@ -342,10 +458,30 @@ pub fn store_used(
     top: u64,
     next: u64,
 ) -> Used
-    requires { ⌜ (n ≤ 128) × Sized 128 (rangesOf (now node) (now start) (now end) (now id) (now stamp) (now touched) (now write)) × Ordered (now node) (now start) (now end) n ⌝ }
+    requires { ⌜
+        (n ≤ 128)
+        × Sized 128 (rangesOf (now node) (now start) (now end) (now id) (now stamp) (now touched) (now write))
+        × Ordered (now node) (now start) (now end) n
+        ⌝ }
     requires { ⌜ (sp .start < sp .end) × (sp .node < length (now marks)) × Priced (now depth) (now bytes) sp ⌝ }
     requires { ⌜ TouchFits (now node) (now start) (now end) n sp refreshes top next ⌝ }
-    ensures { λ r. ⌜ ((t : Tree) (x : Store) → t .depth ≡ now (depth .entry) → x .ranges ≡ ranges (rangesOf (now (node .entry)) (now (start .entry)) (now (end .entry)) (now (id .entry)) (now (stamp .entry)) (now (touched .entry)) (now (write .entry))) 0 n → x .book .stamp ≡ top → eqb (x .book .policy) 1 ≡ refreshes → x .marks ≡ now (marks .entry) → Touching (touch t (now (bytes .entry)) x next sp time counted) (rangesOf (now (node .entry)) (now (start .entry)) (now (end .entry)) (now (id .entry)) (now (stamp .entry)) (now (touched .entry)) (now (write .entry))) (rangesOf (now (node .exit)) (now (start .exit)) (now (end .exit)) (now (id .exit)) (now (stamp .exit)) (now (touched .exit)) (now (write .exit))) (now (marks .exit)) n r) ⌝ }
+    ensures { λ r. ⌜
+        ((t : Tree) (x : Store)
+        → t .depth ≡ now (depth .entry)
+        → x .ranges
+        ≡ ranges
+        (rangesOf (now (node .entry)) (now (start .entry)) (now (end .entry)) (now (id .entry)) (now (stamp .entry)) (now (touched .entry))
+        (now (write .entry)))
+        0 n
+        → x .book .stamp ≡ top
+        → eqb (x .book .policy) 1 ≡ refreshes
+        → x .marks ≡ now (marks .entry)
+        → Touching (touch t (now (bytes .entry)) x next sp time counted)
+        (rangesOf (now (node .entry)) (now (start .entry)) (now (end .entry)) (now (id .entry)) (now (stamp .entry)) (now (touched .entry))
+        (now (write .entry)))
+        (rangesOf (now (node .exit)) (now (start .exit)) (now (end .exit)) (now (id .exit)) (now (stamp .exit)) (now (touched .exit)) (now (write .exit)))
+        (now (marks .exit)) n r)
+        ⌝ }
 {
     let lo = overlap::first_overlap(node, start, end, n, sp);
     let hi = overlap::end_overlap(node, start, end, n, sp, lo);

@@ -102,7 +102,10 @@ pub fn child(
     h: u64,
 ) -> Found
     requires { ⌜ Scanned (now parent) (now run) (now words) nodes ⌝ }
-    ensures { λ r. ⌜ ((depth len : List ℕ) (used : ℕ) → foundOf r ≡ child (treeOf (now (parent .entry)) depth len (now (run .entry)) (now (words .entry)) nodes used) p h) ⌝ }
+    ensures { λ r. ⌜
+        ((depth len : List ℕ) (used : ℕ)
+        → foundOf r ≡ child (treeOf (now (parent .entry)) depth len (now (run .entry)) (now (words .entry)) nodes used) p h)
+        ⌝ }
 {
     let mut k = 1;
     while k < nodes {
@@ -138,7 +141,10 @@ pub fn matched(
     k: usize,
 ) -> usize
     requires { ⌜ Stored (now len) (now run) (now words) k × (pos < length (now hashes)) ⌝ }
-    ensures { λ r. ⌜ ((parent depth : List ℕ) (nodes used : ℕ) → r ≡ matched (treeOf parent depth (now (len .entry)) (now (run .entry)) (now (words .entry)) nodes used) (now (hashes .entry)) pos k) ⌝ }
+    ensures { λ r. ⌜
+        ((parent depth : List ℕ) (nodes used : ℕ)
+        → r ≡ matched (treeOf parent depth (now (len .entry)) (now (run .entry)) (now (words .entry)) nodes used) (now (hashes .entry)) pos k)
+        ⌝ }
     ensures within { λ r. ⌜ (1 ≤ r) × (r ≤ at (now (len .entry)) k) × (pos + r ≤ length (now (hashes .entry))) ⌝ }
 {
     let from = run[k];
@@ -182,7 +188,11 @@ pub fn resolve(
 ) -> Match
     requires { ⌜ ((depth : List ℕ) × (used : ℕ) × Walkable (treeOf (now parent) depth (now len) (now run) (now words) nodes used)) ⌝ }
     requires { ⌜ PathFits (pathListOf (now «path_node») (now «path_len»)) ⌝ }
-    ensures { λ r. ⌜ ((depth : List ℕ) (used : ℕ) → Resolved (treeOf (now (parent .entry)) depth (now (len .entry)) (now (run .entry)) (now (words .entry)) nodes used) (now (hashes .entry)) (pathListOf (now («path_node» .entry)) (now («path_len» .entry))) (pathListOf (now («path_node» .exit)) (now («path_len» .exit))) r) ⌝ }
+    ensures { λ r. ⌜
+        ((depth : List ℕ) (used : ℕ)
+        → Resolved (treeOf (now (parent .entry)) depth (now (len .entry)) (now (run .entry)) (now (words .entry)) nodes used) (now (hashes .entry))
+        (pathListOf (now («path_node» .entry)) (now («path_len» .entry))) (pathListOf (now («path_node» .exit)) (now («path_len» .exit))) r)
+        ⌝ }
 {
     let mut cur = 0;
     let mut pos = 0;

@@ -29,8 +29,19 @@ pub fn evict_at(
     i: usize,
     k: usize,
 ) -> usize
-    requires { ⌜ (i < n) × (n ≤ 128) × (at (now start) i ≤ at (now end) i) × Sized 128 (rangesOf (now node) (now start) (now end) (now id) (now stamp) (now touched) (now write)) ⌝ }
-    ensures { λ r. ⌜ left (rangesOf (now (node .exit)) (now (start .exit)) (now (end .exit)) (now (id .exit)) (now (stamp .exit)) (now (touched .exit)) (now (write .exit))) r ≡ evictCols n i k (rangesOf (now (node .entry)) (now (start .entry)) (now (end .entry)) (now (id .entry)) (now (stamp .entry)) (now (touched .entry)) (now (write .entry))) ⌝ }
+    requires { ⌜
+        (i < n)
+        × (n ≤ 128)
+        × (at (now start) i ≤ at (now end) i)
+        × Sized 128 (rangesOf (now node) (now start) (now end) (now id) (now stamp) (now touched) (now write))
+        ⌝ }
+    ensures { λ r. ⌜
+        left (rangesOf (now (node .exit)) (now (start .exit)) (now (end .exit)) (now (id .exit)) (now (stamp .exit)) (now (touched .exit)) (now (write .exit)))
+        r
+        ≡ evictCols n i k
+        (rangesOf (now (node .entry)) (now (start .entry)) (now (end .entry)) (now (id .entry)) (now (stamp .entry)) (now (touched .entry))
+        (now (write .entry)))
+        ⌝ }
 {
     let e = end[i];
     if e - start[i] <= k {
@@ -60,7 +71,10 @@ pub fn told(depth: &[usize], bytes: &[u64], mark: usize, write: u32, sp: Span) -
 // Is a record on node v?
 pub fn on_node(node: &[usize], n: usize, v: usize) -> bool
     requires { ⌜ n ≤ length (now node) ⌝ }
-    ensures { λ r. ⌜ ((start end id stamp write : List ℕ) (touched : List Float) → r ≡ onNode v (ranges (rangesOf (now (node .entry)) start end id stamp touched write) 0 n)) ⌝ }
+    ensures { λ r. ⌜
+        ((start end id stamp write : List ℕ) (touched : List Float)
+        → r ≡ onNode v (ranges (rangesOf (now (node .entry)) start end id stamp touched write) 0 n))
+        ⌝ }
 {
     let mut i: usize = 0;
     while i < n {
@@ -75,7 +89,10 @@ pub fn on_node(node: &[usize], n: usize, v: usize) -> bool
 // Where no record is left on node v, its mark becomes 0.
 pub fn unmark(marks: &mut [usize], node: &[usize], n: usize, v: usize)
     requires { ⌜ (n ≤ length (now node)) × (v < length (now marks)) ⌝ }
-    ensures { λ _. ⌜ ((start end id stamp write : List ℕ) (touched : List Float) → now (marks .exit) ≡ unmarked v (ranges (rangesOf (now (node .entry)) start end id stamp touched write) 0 n) (now (marks .entry))) ⌝ }
+    ensures { λ _. ⌜
+        ((start end id stamp write : List ℕ) (touched : List Float)
+        → now (marks .exit) ≡ unmarked v (ranges (rangesOf (now (node .entry)) start end id stamp touched write) 0 n) (now (marks .entry)))
+        ⌝ }
 {
     if on_node(node, n, v) {
         return;
@@ -132,7 +149,10 @@ pub fn store_evict_entry(
     version: u64,
 ) -> Gone
     requires { ⌜ (i < n) × (n ≤ 128) × Sized 128 (rangesOf (now node) (now start) (now end) (now id) (now stamp) (now touched) (now write)) ⌝ }
-    requires { ⌜ Reach (now depth) (rangeAt (rangesOf (now node) (now start) (now end) (now id) (now stamp) (now touched) (now write)) i) × Tabled (now depth) (now bytes) (now marks) ⌝ }
+    requires { ⌜
+        Reach (now depth) (rangeAt (rangesOf (now node) (now start) (now end) (now id) (now stamp) (now touched) (now write)) i)
+        × Tabled (now depth) (now bytes) (now marks)
+        ⌝ }
     ensures { λ g. ⌜
         EntryGone (now (depth .entry)) (now (bytes .entry)) n i excess version
         (rangesOf (now (node .entry)) (now (start .entry)) (now (end .entry)) (now (id .entry)) (now (stamp .entry))
@@ -195,7 +215,10 @@ pub fn store_trim_capacity(
     capacity: u64,
     version: u64,
 ) -> Trimming
-    requires { ⌜ Ready (now depth) (now bytes) n held (rangesOf (now node) (now start) (now end) (now id) (now stamp) (now touched) (now write)) (now marks) (outList (now «out_node») (now «out_start») (now «out_end») (now «out_write») (now «out_bytes») (now «out_dead»)) ⌝ }
+    requires { ⌜
+        Ready (now depth) (now bytes) n held (rangesOf (now node) (now start) (now end) (now id) (now stamp) (now touched) (now write)) (now marks)
+        (outList (now «out_node») (now «out_start») (now «out_end») (now «out_write») (now «out_bytes») (now «out_dead»))
+        ⌝ }
     requires { ⌜ (m ≤ length (now «pin_node»)) × (m ≤ length (now «pin_start»)) × (m ≤ length (now «pin_end»)) ⌝ }
     ensures { λ r. ⌜
         ((count : List ℕ) → GivenOut

@@ -290,7 +290,9 @@ pub fn keep_pins(
     s: usize,
 ) -> OldPins
     requires { ⌜ (s < 8) × PinsLent (pinsOf (now «pin_node») (now «pin_start») (now «pin_end») (now «pin_count»)) ⌝ }
-    ensures { λ r. ⌜ r ≡ oldPinsFrom s (pinsOf (now («pin_node» .entry)) (now («pin_start» .entry)) (now («pin_end» .entry)) (now («pin_count» .entry))) ⌝ }
+    ensures { λ r. ⌜
+        r ≡ oldPinsFrom s (pinsOf (now («pin_node» .entry)) (now («pin_start» .entry)) (now («pin_end» .entry)) (now («pin_count» .entry)))
+        ⌝ }
 {
     let a = 32 * s;
     OldPins {
@@ -313,7 +315,8 @@ pub fn undo_pins(
     requires { ⌜ (s < 8) × PinsLent (pinsOf (now «pin_node») (now «pin_start») (now «pin_end») (now «pin_count»)) ⌝ }
     ensures { λ _. ⌜
         pinsOf (now («pin_node» .exit)) (now («pin_start» .exit)) (now («pin_end» .exit)) (now («pin_count» .exit))
-        ≡ backPins (32 * s) 32 (oldPins old) (pinsOf (now («pin_node» .entry)) (now («pin_start» .entry)) (now («pin_end» .entry)) (now («pin_count» .entry)))
+        ≡ backPins (32 * s) 32 (oldPins old)
+        (pinsOf (now («pin_node» .entry)) (now («pin_start» .entry)) (now («pin_end» .entry)) (now («pin_count» .entry)))
         ⌝ }
 {
     let a = 32 * s;

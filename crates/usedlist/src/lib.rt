@@ -45,7 +45,23 @@ pub fn start_touch(
     time: f64,
     counted: bool,
 ) -> Turn
-    ensures { λ y. ⌜ Started (stateFrom (now (parent .entry)) (now (depth .entry)) (now (len .entry)) (now (run .entry)) (now (words .entry)) (now (node .entry)) (now (start .entry)) (now (end .entry)) (now (id .entry)) (now (stamp .entry)) (now (touched .entry)) (now (write .entry)) (now («pin_node» .entry)) (now («pin_start» .entry)) (now («pin_end» .entry)) (now («pin_count» .entry)) (now (marks .entry)) (now (bytes .entry)) (now (books .entry))) (now (books .entry)) s n time counted y × (now (node .exit) ≡ now (node .entry)) × (now (start .exit) ≡ now (start .entry)) × (now (end .exit) ≡ now (end .entry)) × (now (id .exit) ≡ now (id .entry)) × (now (stamp .exit) ≡ now (stamp .entry)) × (now (touched .exit) ≡ now (touched .entry)) × (now (write .exit) ≡ now (write .entry)) × (now (marks .exit) ≡ now (marks .entry)) × (now (books .exit) ≡ now (books .entry)) ⌝ }
+    ensures { λ y. ⌜
+        Started
+        (stateFrom (now (parent .entry)) (now (depth .entry)) (now (len .entry)) (now (run .entry)) (now (words .entry)) (now (node .entry))
+        (now (start .entry)) (now (end .entry)) (now (id .entry)) (now (stamp .entry)) (now (touched .entry)) (now (write .entry))
+        (now («pin_node» .entry)) (now («pin_start» .entry)) (now («pin_end» .entry)) (now («pin_count» .entry)) (now (marks .entry))
+        (now (bytes .entry)) (now (books .entry)))
+        (now (books .entry)) s n time counted y
+        × (now (node .exit) ≡ now (node .entry))
+        × (now (start .exit) ≡ now (start .entry))
+        × (now (end .exit) ≡ now (end .entry))
+        × (now (id .exit) ≡ now (id .entry))
+        × (now (stamp .exit) ≡ now (stamp .entry))
+        × (now (touched .exit) ≡ now (touched .entry))
+        × (now (write .exit) ≡ now (write .entry))
+        × (now (marks .exit) ≡ now (marks .entry))
+        × (now (books .exit) ≡ now (books .entry))
+        ⌝ }
 {
     if sound::sound_state(
         parent,

@@ -16,7 +16,8 @@ ghost use Rattle.model.specs.Touch.{touch as touchOf};
 ghost use Rattle.model.specs.Refusals.{spanIn};
 ghost use Rattle.lent.specs.Lent.{rangesOf};
 ghost use Rattle.parts.specs.Parts.{mid};
-ghost use Rattle.usedspan.specs.Turn.{Others, whole, firstNumber, Fresh, Begun, four, looked, Placed, Judged, PoolReady, TouchedAt, keptOld, booksWith, runOn, RunAt, RunReady, Ran, TurnAt, Ready, Turned, Writes, Finished};
+ghost use Rattle.usedspan.specs.Turn.{Others, whole, firstNumber, Fresh, Begun, four, looked, Placed, Judged, PoolReady, TouchedAt, keptOld};
+ghost use Rattle.usedspan.specs.Turn.{booksWith, runOn, RunAt, RunReady, Ran, TurnAt, Ready, Turned, Writes, Finished};
 
 // What a touch changes of the small numbers, between two of its spans: the store's records and stamp and the next id; the bytes read;
 // and the refusal's number, 0 for none.
@@ -156,8 +157,16 @@ fn keep_first(
     marks: &[usize],
     y: Turn,
 ) -> Old
-    requires { ⌜ (y .s < 8) × RangesLent (rangesOf (now node) (now start) (now end) (now id) (now stamp) (now touched) (now write)) × (2048 ≤ length (now marks)) ⌝ }
-    ensures { λ r. ⌜ r ≡ keptOld (y .turns) (y .old) (y .s) (rangesOf (now (node .entry)) (now (start .entry)) (now (end .entry)) (now (id .entry)) (now (stamp .entry)) (now (touched .entry)) (now (write .entry))) (now (marks .entry)) ⌝ }
+    requires { ⌜
+        (y .s < 8) × RangesLent (rangesOf (now node) (now start) (now end) (now id) (now stamp) (now touched) (now write)) × (2048 ≤ length (now marks))
+        ⌝ }
+    ensures { λ r. ⌜
+        r
+        ≡ keptOld (y .turns) (y .old) (y .s)
+        (rangesOf (now (node .entry)) (now (start .entry)) (now (end .entry)) (now (id .entry)) (now (stamp .entry)) (now (touched .entry))
+        (now (write .entry)))
+        (now (marks .entry))
+        ⌝ }
 {
     if y.turns == 0 {
         return undo::keep(node, start, end, id, stamp, touched, write, marks, y.s);
@@ -216,8 +225,28 @@ fn touch_pools(
     top: u64,
     next: u64,
 ) -> Used
-    requires { ⌜ PoolReady (now depth) (now bytes) s n (rangesOf (now node) (now start) (now end) (now id) (now stamp) (now touched) (now write)) (now marks) sp refreshes top next ⌝ }
-    ensures { λ r. ⌜ ((t : Tree) (x : Store) → t .depth ≡ now (depth .entry) → x .ranges ≡ ranges (rangesOf (now (node .entry)) (now (start .entry)) (now (end .entry)) (now (id .entry)) (now (stamp .entry)) (now (touched .entry)) (now (write .entry))) (128 * s) n → x .book .stamp ≡ top → eqb (x .book .policy) 1 ≡ refreshes → x .marks ≡ mid (256 * s) 256 (now (marks .entry)) → TouchedAt s (touchOf t (now (bytes .entry)) x next sp time counted) n (rangesOf (now (node .entry)) (now (start .entry)) (now (end .entry)) (now (id .entry)) (now (stamp .entry)) (now (touched .entry)) (now (write .entry))) (now (marks .entry)) (rangesOf (now (node .exit)) (now (start .exit)) (now (end .exit)) (now (id .exit)) (now (stamp .exit)) (now (touched .exit)) (now (write .exit))) (now (marks .exit)) r) ⌝ }
+    requires { ⌜
+        PoolReady (now depth) (now bytes) s n (rangesOf (now node) (now start) (now end) (now id) (now stamp) (now touched) (now write)) (now marks) sp
+        refreshes top next
+        ⌝ }
+    ensures { λ r. ⌜
+        ((t : Tree) (x : Store)
+        → t .depth ≡ now (depth .entry)
+        → x .ranges
+        ≡ ranges
+        (rangesOf (now (node .entry)) (now (start .entry)) (now (end .entry)) (now (id .entry)) (now (stamp .entry)) (now (touched .entry))
+        (now (write .entry)))
+        (128 * s) n
+        → x .book .stamp ≡ top
+        → eqb (x .book .policy) 1 ≡ refreshes
+        → x .marks ≡ mid (256 * s) 256 (now (marks .entry))
+        → TouchedAt s (touchOf t (now (bytes .entry)) x next sp time counted) n
+        (rangesOf (now (node .entry)) (now (start .entry)) (now (end .entry)) (now (id .entry)) (now (stamp .entry)) (now (touched .entry))
+        (now (write .entry)))
+        (now (marks .entry))
+        (rangesOf (now (node .exit)) (now (start .exit)) (now (end .exit)) (now (id .exit)) (now (stamp .exit)) (now (touched .exit)) (now (write .exit)))
+        (now (marks .exit)) r)
+        ⌝ }
 {
     let a = 128 * s;
     let e = a + 128;
@@ -277,8 +306,27 @@ pub fn one_turn(
     counted: bool,
     y: Run,
 ) -> Run
-    requires { ⌜ RunReady sp (now depth) (now bytes) (rangesOf (now node) (now start) (now end) (now id) (now stamp) (now touched) (now write)) (now marks) s refreshes y ⌝ }
-    ensures { λ r. ⌜ ((o : Others) (x : List ℕ) → RunAt o x sp (now (depth .entry)) (now (bytes .entry)) (rangesOf (now (node .entry)) (now (start .entry)) (now (end .entry)) (now (id .entry)) (now (stamp .entry)) (now (touched .entry)) (now (write .entry))) (now (marks .entry)) s refreshes y → Ran sp s time counted (whole o (now (depth .entry)) (now (bytes .entry)) (rangesOf (now (node .entry)) (now (start .entry)) (now (end .entry)) (now (id .entry)) (now (stamp .entry)) (now (touched .entry)) (now (write .entry))) (now (marks .entry)) x) y (whole o (now (depth .entry)) (now (bytes .entry)) (rangesOf (now (node .exit)) (now (start .exit)) (now (end .exit)) (now (id .exit)) (now (stamp .exit)) (now (touched .exit)) (now (write .exit))) (now (marks .exit)) (booksWith s r x)) r) ⌝ }
+    requires { ⌜
+        RunReady sp (now depth) (now bytes) (rangesOf (now node) (now start) (now end) (now id) (now stamp) (now touched) (now write)) (now marks) s refreshes y
+        ⌝ }
+    ensures { λ r. ⌜
+        ((o : Others) (x : List ℕ)
+        → RunAt o x sp (now (depth .entry)) (now (bytes .entry))
+        (rangesOf (now (node .entry)) (now (start .entry)) (now (end .entry)) (now (id .entry)) (now (stamp .entry)) (now (touched .entry))
+        (now (write .entry)))
+        (now (marks .entry)) s refreshes y
+        → Ran sp s time counted
+        (whole o (now (depth .entry)) (now (bytes .entry))
+        (rangesOf (now (node .entry)) (now (start .entry)) (now (end .entry)) (now (id .entry)) (now (stamp .entry)) (now (touched .entry))
+        (now (write .entry)))
+        (now (marks .entry)) x)
+        y
+        (whole o (now (depth .entry)) (now (bytes .entry))
+        (rangesOf (now (node .exit)) (now (start .exit)) (now (end .exit)) (now (id .exit)) (now (stamp .exit)) (now (touched .exit))
+        (now (write .exit)))
+        (now (marks .exit)) (booksWith s r x))
+        r)
+        ⌝ }
 {
     let number = turn_number(node, start, end, s, y.n, sp, refreshes, y.top, y.next);
     if number != 0 {
@@ -326,8 +374,28 @@ pub fn one(
     bytes: &[u64],
     y: Turn,
 ) -> Turn
-    requires { ⌜ Ready sp (now depth) (now bytes) (rangesOf (now node) (now start) (now end) (now id) (now stamp) (now touched) (now write)) (now marks) y ⌝ }
-    ensures { λ r. ⌜ ((o : Others) (x : List ℕ) → (y .run .number ≡ 0 → TurnAt o x sp (now (depth .entry)) (now (bytes .entry)) (rangesOf (now (node .entry)) (now (start .entry)) (now (end .entry)) (now (id .entry)) (now (stamp .entry)) (now (touched .entry)) (now (write .entry))) (now (marks .entry)) y) → Turned sp (whole o (now (depth .entry)) (now (bytes .entry)) (rangesOf (now (node .entry)) (now (start .entry)) (now (end .entry)) (now (id .entry)) (now (stamp .entry)) (now (touched .entry)) (now (write .entry))) (now (marks .entry)) x) y (whole o (now (depth .entry)) (now (bytes .entry)) (rangesOf (now (node .exit)) (now (start .exit)) (now (end .exit)) (now (id .exit)) (now (stamp .exit)) (now (touched .exit)) (now (write .exit))) (now (marks .exit)) (booksWith (y .s) (r .run) x)) r) ⌝ }
+    requires { ⌜
+        Ready sp (now depth) (now bytes) (rangesOf (now node) (now start) (now end) (now id) (now stamp) (now touched) (now write)) (now marks) y
+        ⌝ }
+    ensures { λ r. ⌜
+        ((o : Others) (x : List ℕ)
+        → (y .run .number ≡ 0
+        → TurnAt o x sp (now (depth .entry)) (now (bytes .entry))
+        (rangesOf (now (node .entry)) (now (start .entry)) (now (end .entry)) (now (id .entry)) (now (stamp .entry)) (now (touched .entry))
+        (now (write .entry)))
+        (now (marks .entry)) y)
+        → Turned sp
+        (whole o (now (depth .entry)) (now (bytes .entry))
+        (rangesOf (now (node .entry)) (now (start .entry)) (now (end .entry)) (now (id .entry)) (now (stamp .entry)) (now (touched .entry))
+        (now (write .entry)))
+        (now (marks .entry)) x)
+        y
+        (whole o (now (depth .entry)) (now (bytes .entry))
+        (rangesOf (now (node .exit)) (now (start .exit)) (now (end .exit)) (now (id .exit)) (now (stamp .exit)) (now (touched .exit))
+        (now (write .exit)))
+        (now (marks .exit)) (booksWith (y .s) (r .run) x))
+        r)
+        ⌝ }
 {
     let was = y.run;
     if was.number != 0 {
