@@ -1,0 +1,2 @@
+-- The contract of resolve is what the theorems take it to be.
+pub mod Allowed
