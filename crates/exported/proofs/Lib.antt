@@ -1,2 +1,4 @@
--- The crates that export cite Telling.
+-- The crates that export cite these.
 pub mod Telling
+pub mod Counter
+pub mod Front

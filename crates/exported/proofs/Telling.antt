@@ -23,7 +23,7 @@ use Rattle.model.specs.Calls.{Outcome, Answer, refused, done, unless, NoValue, 
 use Rattle.answers.specs.declared.Looked.{Looked}
 use Rattle.answers.specs.declared.Looked.the-variants as LookedIs
 use Rattle.answers.specs.Answers.{outcome, lookedOf}
-use Rattle.exported.specs.Told.{told, numberOf, laid, toldPlain, countAt, countValues, resolveAt, resolveValues, insertAt, insertValues, bringAt, bringValues, touchAt, touchValues, removeAt, removeValues, expireAt, expireValues, lookupAt, lookupValues}
+use Rattle.exported.specs.Told.{told, numberOf, laid, toldPlain, countAt, countValues, resolveAt, resolveValues, insertAt, insertValues, bringAt, bringValues, touchAt, touchValues, removeAt, removeValues, expireAt, expireValues, lookupAt, lookupValues, Tells}
 
 -- ---- no call refuses with 0
 
@@ -116,17 +116,13 @@ plainly {L} {st} {l} {o} a {r} e n q =
     ap (λ k. outcome st l (toldPlain k)) q ∙ ap (outcome st l) (plain-told a (λ z. n (z ∙ ap (λ w. w .answer) e))) ∙ e
 
 module _ {A : Type 0} (read : List ℕ → A) (values : A → List ℕ) (a : Answer A) (whole : Told read values a) where
-  pub answered : {o : Answer A} {r : ℕ} (k : List ℕ) {k′ : List ℕ}
-      → a ≡ o → Numbered o → length k ≡ 19 → r ≡ numberOf a → k′ ≡ laid values a k → told read r k′ ≡ o
-  answered {o} {r} k {k′} e n long q t =
-      ap (λ s. told read s k′) q ∙ ap (told read (numberOf a)) t ∙ whole k long (λ z. n (z ∙ e)) ∙ e
-
   pub telling : {L : Type 0} {st : State} {l : L} {o : Outcome L A} {r : ℕ} (k : List ℕ) {k′ : List ℕ}
       → outcome st l a ≡ o → Numbered (o .answer) → length k ≡ 19 → r ≡ numberOf a → k′ ≡ laid values a k
-      → outcome st l (told read r k′) ≡ o
+      → Tells read values o st l r k k′
   telling {L} {st} {l} {o} {r} k {k′} e n long q t =
-      let numbers : Numbered a = λ z. n (z ∙ ap (λ w. w .answer) e) in
-      ap (outcome st l) (answered k refl numbers long q t) ∙ e
+      let same : a ≡ o .answer = ap (λ w. w .answer) e in
+      let back = ap (λ s. told read s k′) q ∙ ap (told read (numberOf a)) t ∙ whole k long (λ z. n (z ∙ same)) in
+      record { says = ap (outcome st l) back ∙ e; places = t ∙ ap (λ b. laid values b k) same }
 
 -- ---- each call's refusals have numbers from 1
 

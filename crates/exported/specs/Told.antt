@@ -1,5 +1,6 @@
--- An answer as a number and a lent list: 0 and the values, or the refusal's number. Assumes nothing.
+-- An answer as a number and a lent list: 0 and the values, or the refusal's number and the list as it was. Assumes nothing.
 use Prim.Native.Nat.{ℕ, zero, suc, _+_}
+use mathlib.Core.Path.{_≡_}
 use mathlib.Core.List.{List, [], _∷_, _++_}
 use lib.ListN.{drop}
 use lib.Seq.{sets}
@@ -13,9 +14,10 @@ use Rattle.model.specs.declared.TouchAnswer.{TouchAnswer}
 use Rattle.model.specs.declared.RemoveAnswer.{RemoveAnswer}
 use Rattle.model.specs.declared.ExpireAnswer.{ExpireAnswer}
 use Rattle.model.specs.declared.LookupAnswer.{LookupAnswer}
-use Rattle.model.specs.State.{at}
+use Rattle.model.specs.State.{State, at}
 use Rattle.model.specs.Lookup.{eachTier, sumsIn}
-use Rattle.model.specs.Calls.{Answer, refused, done, NoValue}
+use Rattle.model.specs.Calls.{Outcome, Answer, refused, done, NoValue}
+use Rattle.answers.specs.Answers.{outcome}
 
 -- ---- what a number and a list tell
 
@@ -30,17 +32,11 @@ toldPlain (suc n) = refused (suc n)
 abbrev pub countAt : List ℕ → ℕ
 countAt l = at l 0
 
-abbrev pub toldCount : ℕ → List ℕ → Answer ℕ
-toldCount r l = told countAt r l
-
 abbrev pub pathAt : List ℕ → Path
 pathAt l = record { segs = at l 0; blocks = at l 1 }
 
 abbrev pub resolveAt : List ℕ → ResolveAnswer
 resolveAt l = record { path = pathAt l }
-
-abbrev pub toldPath : ℕ → List ℕ → Answer ResolveAnswer
-toldPath r l = told resolveAt r l
 
 -- no cut, or the cut node, the blocks that it keeps and the new node
 abbrev pub splitAt : ℕ → List ℕ → Split
@@ -50,39 +46,21 @@ splitAt (suc k) l = SplitIs.At (record { node = at l 3; at = at l 4; new = at l 
 abbrev pub insertAt : List ℕ → InsertAnswer
 insertAt l = record { path = pathAt l; split = splitAt (at l 2) l }
 
-abbrev pub toldInserted : ℕ → List ℕ → Answer InsertAnswer
-toldInserted r l = told insertAt r l
-
 abbrev pub bringAt : List ℕ → BringAnswer
 bringAt l = record { outs = at l 0 }
-
-abbrev pub toldStoreInserted : ℕ → List ℕ → Answer BringAnswer
-toldStoreInserted r l = told bringAt r l
 
 abbrev pub touchAt : List ℕ → TouchAnswer
 touchAt l = record { bytes = at l 0 }
 
-abbrev pub toldStoreUsed : ℕ → List ℕ → Answer TouchAnswer
-toldStoreUsed r l = told touchAt r l
-
 abbrev pub removeAt : List ℕ → RemoveAnswer
 removeAt l = record { writes = at l 0 }
-
-abbrev pub toldStoreRemoved : ℕ → List ℕ → Answer RemoveAnswer
-toldStoreRemoved r l = told removeAt r l
 
 abbrev pub expireAt : List ℕ → ExpireAnswer
 expireAt l = record { outs = at l 0 }
 
-abbrev pub toldStoreExpired : ℕ → List ℕ → Answer ExpireAnswer
-toldStoreExpired r l = told expireAt r l
-
 -- a path, the number of tier spans, then eight sums of blocks and eight of bytes
 abbrev pub lookupAt : List ℕ → LookupAnswer
 lookupAt l = record { path = pathAt l; spans = at l 2; blocks = eachTier (drop 3 l); bytes = eachTier (drop 11 l) }
-
-abbrev pub toldLooked : ℕ → List ℕ → Answer LookupAnswer
-toldLooked r l = told lookupAt r l
 
 -- ---- an answer's number, and the list with its values in front
 
@@ -121,3 +99,11 @@ expireValues v = v .outs ∷ []
 
 abbrev pub lookupValues : LookupAnswer → List ℕ
 lookupValues v = v .path .segs ∷ v .path .blocks ∷ v .spans ∷ (sumsIn (v .blocks) ++ sumsIn (v .bytes))
+
+-- ---- what an exported call leaves
+
+-- With state, lists and number there are the call's outcome, and each of the list's places is known: on a refusal all are as they were, else the values
+-- stand in front and the rest is as it was.
+pub record Tells {L A : Type 0} (read : List ℕ → A) (values : A → List ℕ) (o : Outcome L A) (st : State) (l : L) (r : ℕ) (before after : List ℕ) : Type 0 where
+  pub says : outcome st l (told read r after) ≡ o
+  pub places : after ≡ laid values (o .answer) before

@@ -10,12 +10,14 @@ ghost use Rattle.model.specs.Sizes.{maxStores, maxNumbers, outPlaces};
 ghost use Rattle.model.specs.State.{State, storesIn};
 ghost use Rattle.model.specs.Sound.{Sound};
 ghost use Rattle.model.specs.Refusals.{PathFits, OutFits, TierFits};
-ghost use Rattle.model.specs.Calls.{setUp, resolveCall, insert as insertCall, storeInsert, storeUsed, storeRemove, storeExpire, pinSource, unpinSource, lookup};
+ghost use Rattle.model.specs.Calls.{setUp, resolveCall, insert as insertCall, storeInsert, storeUsed, storeRemove, storeExpire};
+ghost use Rattle.model.specs.Calls.{pinSource, unpinSource, lookup};
 ghost use Rattle.known.specs.Known.{pathListOf, outList, tierListOf, listsOf};
-ghost use Rattle.usedcols.specs.Spans.{spansOf};
 ghost use Rattle.answers.specs.Answers.{stateFrom, outcome, countOf};
-ghost use Rattle.exported.specs.Told.{toldPlain, toldCount, toldPath, toldInserted, toldStoreInserted, toldStoreUsed, toldStoreRemoved, toldStoreExpired, toldLooked};
-ghost use Rattle.exports.specs.Counter.{counterCall};
+ghost use Rattle.exported.specs.Told.{Tells, toldPlain, countAt, countValues, resolveAt, resolveValues, insertAt, insertValues};
+ghost use Rattle.exported.specs.Told.{bringAt, bringValues, touchAt, touchValues, removeAt, removeValues, expireAt, expireValues, lookupAt, lookupValues};
+ghost use Rattle.exported.specs.Counter.{counterCall};
+ghost use Rattle.exported.specs.Spans.{spansOf};
 
 // Sets up the tree and the stores, one for each capacity.
 #[no_mangle]
@@ -43,7 +45,15 @@ pub extern "C" fn scorebeetle_set_up(
     capacity: &[u64],
     refreshes: &[bool],
 ) -> u8
-    ensures { λ r. ⌜ outcome (stateFrom (now (parent .exit)) (now (depth .exit)) (now (len .exit)) (now (run .exit)) (now (words .entry)) (now (node .entry)) (now (start .entry)) (now (end .entry)) (now (id .entry)) (now (stamp .entry)) (now (touched .entry)) (now (write .entry)) (now («pin_node» .entry)) (now («pin_start» .entry)) (now («pin_end» .entry)) (now («pin_count» .entry)) (now (marks .exit)) (now (bytes .exit)) (now (books .exit))) tt (toldPlain r) ≡ setUp (stateFrom (now (parent .entry)) (now (depth .entry)) (now (len .entry)) (now (run .entry)) (now (words .entry)) (now (node .entry)) (now (start .entry)) (now (end .entry)) (now (id .entry)) (now (stamp .entry)) (now (touched .entry)) (now (write .entry)) (now («pin_node» .entry)) (now («pin_start» .entry)) (now («pin_end» .entry)) (now («pin_count» .entry)) (now (marks .entry)) (now (bytes .entry)) (now (books .entry))) (now (table .entry)) (now (capacity .entry)) (now (refreshes .entry)) ⌝ }
+    ensures { λ r. ⌜ (
+        let old = stateFrom (now (parent .entry)) (now (depth .entry)) (now (len .entry)) (now (run .entry)) (now (words .entry)) (now (node .entry))
+        (now (start .entry)) (now (end .entry)) (now (id .entry)) (now (stamp .entry)) (now (touched .entry)) (now (write .entry)) (now («pin_node» .entry))
+        (now («pin_start» .entry)) (now («pin_end» .entry)) (now («pin_count» .entry)) (now (marks .entry)) (now (bytes .entry)) (now (books .entry)) in
+        let new = stateFrom (now (parent .exit)) (now (depth .exit)) (now (len .exit)) (now (run .exit)) (now (words .entry)) (now (node .entry))
+        (now (start .entry)) (now (end .entry)) (now (id .entry)) (now (stamp .entry)) (now (touched .entry)) (now (write .entry)) (now («pin_node» .entry))
+        (now («pin_start» .entry)) (now («pin_end» .entry)) (now («pin_count» .entry)) (now (marks .exit)) (now (bytes .exit)) (now (books .exit)) in
+        outcome new tt (toldPlain r) ≡ setUp old (now (table .entry)) (now (capacity .entry)) (now (refreshes .entry))
+        ) ⌝ }
 {
     let r = known::set_up(
         parent,
@@ -99,8 +109,20 @@ pub extern "C" fn scorebeetle_resolve(
     answer: &mut [u64; 19],
     hashes: &[u64],
 ) -> u8
-    requires { ⌜ Sound (stateFrom (now parent) (now depth) (now len) (now run) (now words) (now node) (now start) (now end) (now id) (now stamp) (now touched) (now write) (now «pin_node») (now «pin_start») (now «pin_end») (now «pin_count») (now marks) (now bytes) (now books)) × PathFits (pathListOf (now «path_node») (now «path_len»)) × (length (now answer) ≡ 19) ⌝ }
-    ensures { λ r. ⌜ outcome (stateFrom (now (parent .entry)) (now (depth .entry)) (now (len .entry)) (now (run .entry)) (now (words .entry)) (now (node .entry)) (now (start .entry)) (now (end .entry)) (now (id .entry)) (now (stamp .entry)) (now (touched .entry)) (now (write .entry)) (now («pin_node» .entry)) (now («pin_start» .entry)) (now («pin_end» .entry)) (now («pin_count» .entry)) (now (marks .entry)) (now (bytes .entry)) (now (books .entry))) (pathListOf (now («path_node» .exit)) (now («path_len» .exit))) (toldPath r (now (answer .exit))) ≡ resolveCall (stateFrom (now (parent .entry)) (now (depth .entry)) (now (len .entry)) (now (run .entry)) (now (words .entry)) (now (node .entry)) (now (start .entry)) (now (end .entry)) (now (id .entry)) (now (stamp .entry)) (now (touched .entry)) (now (write .entry)) (now («pin_node» .entry)) (now («pin_start» .entry)) (now («pin_end» .entry)) (now («pin_count» .entry)) (now (marks .entry)) (now (bytes .entry)) (now (books .entry))) (pathListOf (now («path_node» .entry)) (now («path_len» .entry))) (now (hashes .entry)) ⌝ }
+    requires { ⌜
+        Sound (stateFrom (now parent) (now depth) (now len) (now run) (now words) (now node) (now start) (now end) (now id) (now stamp) (now touched)
+        (now write) (now «pin_node») (now «pin_start») (now «pin_end») (now «pin_count») (now marks) (now bytes) (now books))
+        × PathFits (pathListOf (now «path_node») (now «path_len»))
+        × (length (now answer) ≡ 19)
+        ⌝ }
+    ensures { λ r. ⌜ (
+        let st = stateFrom (now (parent .entry)) (now (depth .entry)) (now (len .entry)) (now (run .entry)) (now (words .entry)) (now (node .entry))
+        (now (start .entry)) (now (end .entry)) (now (id .entry)) (now (stamp .entry)) (now (touched .entry)) (now (write .entry)) (now («pin_node» .entry))
+        (now («pin_start» .entry)) (now («pin_end» .entry)) (now («pin_count» .entry)) (now (marks .entry)) (now (bytes .entry)) (now (books .entry)) in
+        let lent = pathListOf (now («path_node» .entry)) (now («path_len» .entry)) in
+        let left = pathListOf (now («path_node» .exit)) (now («path_len» .exit)) in
+        Tells resolveAt resolveValues (resolveCall st lent (now (hashes .entry))) st left r (now (answer .entry)) (now (answer .exit))
+        ) ⌝ }
 {
     let r = known::resolve(
         parent,
@@ -156,8 +178,23 @@ pub extern "C" fn scorebeetle_insert(
     answer: &mut [u64; 19],
     hashes: &[u64],
 ) -> u8
-    requires { ⌜ Sound (stateFrom (now parent) (now depth) (now len) (now run) (now words) (now node) (now start) (now end) (now id) (now stamp) (now touched) (now write) (now «pin_node») (now «pin_start») (now «pin_end») (now «pin_count») (now marks) (now bytes) (now books)) × PathFits (pathListOf (now «path_node») (now «path_len»)) × (length (now answer) ≡ 19) ⌝ }
-    ensures { λ r. ⌜ outcome (stateFrom (now (parent .exit)) (now (depth .exit)) (now (len .exit)) (now (run .exit)) (now (words .exit)) (now (node .exit)) (now (start .exit)) (now (end .exit)) (now (id .exit)) (now (stamp .exit)) (now (touched .exit)) (now (write .exit)) (now («pin_node» .exit)) (now («pin_start» .exit)) (now («pin_end» .exit)) (now («pin_count» .exit)) (now (marks .exit)) (now (bytes .entry)) (now (books .exit))) (pathListOf (now («path_node» .exit)) (now («path_len» .exit))) (toldInserted r (now (answer .exit))) ≡ insertCall (stateFrom (now (parent .entry)) (now (depth .entry)) (now (len .entry)) (now (run .entry)) (now (words .entry)) (now (node .entry)) (now (start .entry)) (now (end .entry)) (now (id .entry)) (now (stamp .entry)) (now (touched .entry)) (now (write .entry)) (now («pin_node» .entry)) (now («pin_start» .entry)) (now («pin_end» .entry)) (now («pin_count» .entry)) (now (marks .entry)) (now (bytes .entry)) (now (books .entry))) (pathListOf (now («path_node» .entry)) (now («path_len» .entry))) (now (hashes .entry)) ⌝ }
+    requires { ⌜
+        Sound (stateFrom (now parent) (now depth) (now len) (now run) (now words) (now node) (now start) (now end) (now id) (now stamp) (now touched)
+        (now write) (now «pin_node») (now «pin_start») (now «pin_end») (now «pin_count») (now marks) (now bytes) (now books))
+        × PathFits (pathListOf (now «path_node») (now «path_len»))
+        × (length (now answer) ≡ 19)
+        ⌝ }
+    ensures { λ r. ⌜ (
+        let old = stateFrom (now (parent .entry)) (now (depth .entry)) (now (len .entry)) (now (run .entry)) (now (words .entry)) (now (node .entry))
+        (now (start .entry)) (now (end .entry)) (now (id .entry)) (now (stamp .entry)) (now (touched .entry)) (now (write .entry)) (now («pin_node» .entry))
+        (now («pin_start» .entry)) (now («pin_end» .entry)) (now («pin_count» .entry)) (now (marks .entry)) (now (bytes .entry)) (now (books .entry)) in
+        let new = stateFrom (now (parent .exit)) (now (depth .exit)) (now (len .exit)) (now (run .exit)) (now (words .exit)) (now (node .exit))
+        (now (start .exit)) (now (end .exit)) (now (id .exit)) (now (stamp .exit)) (now (touched .exit)) (now (write .exit)) (now («pin_node» .exit))
+        (now («pin_start» .exit)) (now («pin_end» .exit)) (now («pin_count» .exit)) (now (marks .exit)) (now (bytes .entry)) (now (books .exit)) in
+        let lent = pathListOf (now («path_node» .entry)) (now («path_len» .entry)) in
+        let left = pathListOf (now («path_node» .exit)) (now («path_len» .exit)) in
+        Tells insertAt insertValues (insertCall old lent (now (hashes .entry))) new left r (now (answer .entry)) (now (answer .exit))
+        ) ⌝ }
 {
     let r = known::insert(
         parent,
@@ -222,8 +259,26 @@ pub extern "C" fn scorebeetle_store_insert(
     time: f64,
     w: u32,
 ) -> u8
-    requires { ⌜ Sound (stateFrom (now parent) (now depth) (now len) (now run) (now words) (now node) (now start) (now end) (now id) (now stamp) (now touched) (now write) (now «pin_node») (now «pin_start») (now «pin_end») (now «pin_count») (now marks) (now bytes) (now books)) × OutFits (outList (now «out_node») (now «out_start») (now «out_end») (now «out_write») (now «out_bytes») (now «out_dead»)) × (length (now answer) ≡ 19) ⌝ }
-    ensures { λ r. ⌜ outcome (stateFrom (now (parent .entry)) (now (depth .entry)) (now (len .entry)) (now (run .entry)) (now (words .entry)) (now (node .exit)) (now (start .exit)) (now (end .exit)) (now (id .exit)) (now (stamp .exit)) (now (touched .exit)) (now (write .exit)) (now («pin_node» .entry)) (now («pin_start» .entry)) (now («pin_end» .entry)) (now («pin_count» .entry)) (now (marks .exit)) (now (bytes .entry)) (now (books .exit))) (outList (now («out_node» .exit)) (now («out_start» .exit)) (now («out_end» .exit)) (now («out_write» .exit)) (now («out_bytes» .exit)) (now («out_dead» .exit))) (toldStoreInserted r (now (answer .exit))) ≡ storeInsert (stateFrom (now (parent .entry)) (now (depth .entry)) (now (len .entry)) (now (run .entry)) (now (words .entry)) (now (node .entry)) (now (start .entry)) (now (end .entry)) (now (id .entry)) (now (stamp .entry)) (now (touched .entry)) (now (write .entry)) (now («pin_node» .entry)) (now («pin_start» .entry)) (now («pin_end» .entry)) (now («pin_count» .entry)) (now (marks .entry)) (now (bytes .entry)) (now (books .entry))) (outList (now («out_node» .entry)) (now («out_start» .entry)) (now («out_end» .entry)) (now («out_write» .entry)) (now («out_bytes» .entry)) (now («out_dead» .entry))) s (record { node = on; start = from; end = upto }) time w ⌝ }
+    requires { ⌜
+        Sound (stateFrom (now parent) (now depth) (now len) (now run) (now words) (now node) (now start) (now end) (now id) (now stamp) (now touched)
+        (now write) (now «pin_node») (now «pin_start») (now «pin_end») (now «pin_count») (now marks) (now bytes) (now books))
+        × OutFits (outList (now «out_node») (now «out_start») (now «out_end») (now «out_write») (now «out_bytes») (now «out_dead»))
+        × (length (now answer) ≡ 19)
+        ⌝ }
+    ensures { λ r. ⌜ (
+        let old = stateFrom (now (parent .entry)) (now (depth .entry)) (now (len .entry)) (now (run .entry)) (now (words .entry)) (now (node .entry))
+        (now (start .entry)) (now (end .entry)) (now (id .entry)) (now (stamp .entry)) (now (touched .entry)) (now (write .entry)) (now («pin_node» .entry))
+        (now («pin_start» .entry)) (now («pin_end» .entry)) (now («pin_count» .entry)) (now (marks .entry)) (now (bytes .entry)) (now (books .entry)) in
+        let new = stateFrom (now (parent .entry)) (now (depth .entry)) (now (len .entry)) (now (run .entry)) (now (words .entry)) (now (node .exit))
+        (now (start .exit)) (now (end .exit)) (now (id .exit)) (now (stamp .exit)) (now (touched .exit)) (now (write .exit)) (now («pin_node» .entry))
+        (now («pin_start» .entry)) (now («pin_end» .entry)) (now («pin_count» .entry)) (now (marks .exit)) (now (bytes .entry)) (now (books .exit)) in
+        let lent = outList (now («out_node» .entry)) (now («out_start» .entry)) (now («out_end» .entry)) (now («out_write» .entry))
+        (now («out_bytes» .entry)) (now («out_dead» .entry)) in
+        let left = outList (now («out_node» .exit)) (now («out_start» .exit)) (now («out_end» .exit)) (now («out_write» .exit)) (now («out_bytes» .exit))
+        (now («out_dead» .exit)) in
+        Tells bringAt bringValues (storeInsert old lent s (record { node = on; start = from; end = upto }) time w) new left r (now (answer .entry))
+        (now (answer .exit))
+        ) ⌝ }
 {
     let sp = Span {
         node: on,
@@ -264,7 +319,7 @@ pub extern "C" fn scorebeetle_store_insert(
     exported::told::store_inserted(answer, r)
 }
 
-// The spans of three lists, in turn, used in store s.
+// The spans of three lists, as many as the shortest has, used in turn in store s.
 #[no_mangle]
 pub extern "C" fn scorebeetle_store_used(
     parent: &[usize],
@@ -294,8 +349,21 @@ pub extern "C" fn scorebeetle_store_used(
     time: f64,
     counted: bool,
 ) -> u8
-    requires { ⌜ Sound (stateFrom (now parent) (now depth) (now len) (now run) (now words) (now node) (now start) (now end) (now id) (now stamp) (now touched) (now write) (now «pin_node») (now «pin_start») (now «pin_end») (now «pin_count») (now marks) (now bytes) (now books)) × (length (now from) ≡ length (now on)) × (length (now upto) ≡ length (now on)) × (length (now answer) ≡ 19) ⌝ }
-    ensures { λ r. ⌜ outcome (stateFrom (now (parent .entry)) (now (depth .entry)) (now (len .entry)) (now (run .entry)) (now (words .entry)) (now (node .exit)) (now (start .exit)) (now (end .exit)) (now (id .exit)) (now (stamp .exit)) (now (touched .exit)) (now (write .exit)) (now («pin_node» .entry)) (now («pin_start» .entry)) (now («pin_end» .entry)) (now («pin_count» .entry)) (now (marks .exit)) (now (bytes .entry)) (now (books .exit))) tt (toldStoreUsed r (now (answer .exit))) ≡ storeUsed (stateFrom (now (parent .entry)) (now (depth .entry)) (now (len .entry)) (now (run .entry)) (now (words .entry)) (now (node .entry)) (now (start .entry)) (now (end .entry)) (now (id .entry)) (now (stamp .entry)) (now (touched .entry)) (now (write .entry)) (now («pin_node» .entry)) (now («pin_start» .entry)) (now («pin_end» .entry)) (now («pin_count» .entry)) (now (marks .entry)) (now (bytes .entry)) (now (books .entry))) s (spansOf (now (on .entry)) (now (from .entry)) (now (upto .entry))) time counted ⌝ }
+    requires { ⌜
+        Sound (stateFrom (now parent) (now depth) (now len) (now run) (now words) (now node) (now start) (now end) (now id) (now stamp) (now touched)
+        (now write) (now «pin_node») (now «pin_start») (now «pin_end») (now «pin_count») (now marks) (now bytes) (now books))
+        × (length (now answer) ≡ 19)
+        ⌝ }
+    ensures { λ r. ⌜ (
+        let old = stateFrom (now (parent .entry)) (now (depth .entry)) (now (len .entry)) (now (run .entry)) (now (words .entry)) (now (node .entry))
+        (now (start .entry)) (now (end .entry)) (now (id .entry)) (now (stamp .entry)) (now (touched .entry)) (now (write .entry)) (now («pin_node» .entry))
+        (now («pin_start» .entry)) (now («pin_end» .entry)) (now («pin_count» .entry)) (now (marks .entry)) (now (bytes .entry)) (now (books .entry)) in
+        let new = stateFrom (now (parent .entry)) (now (depth .entry)) (now (len .entry)) (now (run .entry)) (now (words .entry)) (now (node .exit))
+        (now (start .exit)) (now (end .exit)) (now (id .exit)) (now (stamp .exit)) (now (touched .exit)) (now (write .exit)) (now («pin_node» .entry))
+        (now («pin_start» .entry)) (now («pin_end» .entry)) (now («pin_count» .entry)) (now (marks .exit)) (now (bytes .entry)) (now (books .exit)) in
+        Tells touchAt touchValues (storeUsed old s (spansOf (now (on .entry)) (now (from .entry)) (now (upto .entry))) time counted) new tt r
+        (now (answer .entry)) (now (answer .exit))
+        ) ⌝ }
 {
     let r = usedcols::store_used(
         parent,
@@ -356,8 +424,22 @@ pub extern "C" fn scorebeetle_store_remove(
     from: usize,
     upto: usize,
 ) -> u8
-    requires { ⌜ Sound (stateFrom (now parent) (now depth) (now len) (now run) (now words) (now node) (now start) (now end) (now id) (now stamp) (now touched) (now write) (now «pin_node») (now «pin_start») (now «pin_end») (now «pin_count») (now marks) (now bytes) (now books)) × (outPlaces ≤ length (now list)) × (length (now answer) ≡ 19) ⌝ }
-    ensures { λ r. ⌜ outcome (stateFrom (now (parent .entry)) (now (depth .entry)) (now (len .entry)) (now (run .entry)) (now (words .entry)) (now (node .exit)) (now (start .exit)) (now (end .exit)) (now (id .exit)) (now (stamp .exit)) (now (touched .exit)) (now (write .exit)) (now («pin_node» .entry)) (now («pin_start» .entry)) (now («pin_end» .entry)) (now («pin_count» .entry)) (now (marks .exit)) (now (bytes .entry)) (now (books .exit))) (now (list .exit)) (toldStoreRemoved r (now (answer .exit))) ≡ storeRemove (stateFrom (now (parent .entry)) (now (depth .entry)) (now (len .entry)) (now (run .entry)) (now (words .entry)) (now (node .entry)) (now (start .entry)) (now (end .entry)) (now (id .entry)) (now (stamp .entry)) (now (touched .entry)) (now (write .entry)) (now («pin_node» .entry)) (now («pin_start» .entry)) (now («pin_end» .entry)) (now («pin_count» .entry)) (now (marks .entry)) (now (bytes .entry)) (now (books .entry))) (now (list .entry)) s (record { node = on; start = from; end = upto }) ⌝ }
+    requires { ⌜
+        Sound (stateFrom (now parent) (now depth) (now len) (now run) (now words) (now node) (now start) (now end) (now id) (now stamp) (now touched)
+        (now write) (now «pin_node») (now «pin_start») (now «pin_end») (now «pin_count») (now marks) (now bytes) (now books))
+        × (outPlaces ≤ length (now list))
+        × (length (now answer) ≡ 19)
+        ⌝ }
+    ensures { λ r. ⌜ (
+        let old = stateFrom (now (parent .entry)) (now (depth .entry)) (now (len .entry)) (now (run .entry)) (now (words .entry)) (now (node .entry))
+        (now (start .entry)) (now (end .entry)) (now (id .entry)) (now (stamp .entry)) (now (touched .entry)) (now (write .entry)) (now («pin_node» .entry))
+        (now («pin_start» .entry)) (now («pin_end» .entry)) (now («pin_count» .entry)) (now (marks .entry)) (now (bytes .entry)) (now (books .entry)) in
+        let new = stateFrom (now (parent .entry)) (now (depth .entry)) (now (len .entry)) (now (run .entry)) (now (words .entry)) (now (node .exit))
+        (now (start .exit)) (now (end .exit)) (now (id .exit)) (now (stamp .exit)) (now (touched .exit)) (now (write .exit)) (now («pin_node» .entry))
+        (now («pin_start» .entry)) (now («pin_end» .entry)) (now («pin_count» .entry)) (now (marks .exit)) (now (bytes .entry)) (now (books .exit)) in
+        Tells removeAt removeValues (storeRemove old (now (list .entry)) s (record { node = on; start = from; end = upto })) new (now (list .exit)) r
+        (now (answer .entry)) (now (answer .exit))
+        ) ⌝ }
 {
     let sp = Span {
         node: on,
@@ -424,8 +506,25 @@ pub extern "C" fn scorebeetle_store_expire(
     time: f64,
     seconds: f64,
 ) -> u8
-    requires { ⌜ Sound (stateFrom (now parent) (now depth) (now len) (now run) (now words) (now node) (now start) (now end) (now id) (now stamp) (now touched) (now write) (now «pin_node») (now «pin_start») (now «pin_end») (now «pin_count») (now marks) (now bytes) (now books)) × OutFits (outList (now «out_node») (now «out_start») (now «out_end») (now «out_write») (now «out_bytes») (now «out_dead»)) × (length (now answer) ≡ 19) ⌝ }
-    ensures { λ r. ⌜ outcome (stateFrom (now (parent .entry)) (now (depth .entry)) (now (len .entry)) (now (run .entry)) (now (words .entry)) (now (node .exit)) (now (start .exit)) (now (end .exit)) (now (id .exit)) (now (stamp .exit)) (now (touched .exit)) (now (write .exit)) (now («pin_node» .entry)) (now («pin_start» .entry)) (now («pin_end» .entry)) (now («pin_count» .entry)) (now (marks .exit)) (now (bytes .entry)) (now (books .exit))) (outList (now («out_node» .exit)) (now («out_start» .exit)) (now («out_end» .exit)) (now («out_write» .exit)) (now («out_bytes» .exit)) (now («out_dead» .exit))) (toldStoreExpired r (now (answer .exit))) ≡ storeExpire (stateFrom (now (parent .entry)) (now (depth .entry)) (now (len .entry)) (now (run .entry)) (now (words .entry)) (now (node .entry)) (now (start .entry)) (now (end .entry)) (now (id .entry)) (now (stamp .entry)) (now (touched .entry)) (now (write .entry)) (now («pin_node» .entry)) (now («pin_start» .entry)) (now («pin_end» .entry)) (now («pin_count» .entry)) (now (marks .entry)) (now (bytes .entry)) (now (books .entry))) (outList (now («out_node» .entry)) (now («out_start» .entry)) (now («out_end» .entry)) (now («out_write» .entry)) (now («out_bytes» .entry)) (now («out_dead» .entry))) s time seconds ⌝ }
+    requires { ⌜
+        Sound (stateFrom (now parent) (now depth) (now len) (now run) (now words) (now node) (now start) (now end) (now id) (now stamp) (now touched)
+        (now write) (now «pin_node») (now «pin_start») (now «pin_end») (now «pin_count») (now marks) (now bytes) (now books))
+        × OutFits (outList (now «out_node») (now «out_start») (now «out_end») (now «out_write») (now «out_bytes») (now «out_dead»))
+        × (length (now answer) ≡ 19)
+        ⌝ }
+    ensures { λ r. ⌜ (
+        let old = stateFrom (now (parent .entry)) (now (depth .entry)) (now (len .entry)) (now (run .entry)) (now (words .entry)) (now (node .entry))
+        (now (start .entry)) (now (end .entry)) (now (id .entry)) (now (stamp .entry)) (now (touched .entry)) (now (write .entry)) (now («pin_node» .entry))
+        (now («pin_start» .entry)) (now («pin_end» .entry)) (now («pin_count» .entry)) (now (marks .entry)) (now (bytes .entry)) (now (books .entry)) in
+        let new = stateFrom (now (parent .entry)) (now (depth .entry)) (now (len .entry)) (now (run .entry)) (now (words .entry)) (now (node .exit))
+        (now (start .exit)) (now (end .exit)) (now (id .exit)) (now (stamp .exit)) (now (touched .exit)) (now (write .exit)) (now («pin_node» .entry))
+        (now («pin_start» .entry)) (now («pin_end» .entry)) (now («pin_count» .entry)) (now (marks .exit)) (now (bytes .entry)) (now (books .exit)) in
+        let lent = outList (now («out_node» .entry)) (now («out_start» .entry)) (now («out_end» .entry)) (now («out_write» .entry))
+        (now («out_bytes» .entry)) (now («out_dead» .entry)) in
+        let left = outList (now («out_node» .exit)) (now («out_start» .exit)) (now («out_end» .exit)) (now («out_write» .exit)) (now («out_bytes» .exit))
+        (now («out_dead» .exit)) in
+        Tells expireAt expireValues (storeExpire old lent s time seconds) new left r (now (answer .entry)) (now (answer .exit))
+        ) ⌝ }
 {
     let r = known::store_expire(
         parent,
@@ -487,8 +586,19 @@ pub extern "C" fn scorebeetle_pin_source(
     from: usize,
     upto: usize,
 ) -> u8
-    requires { ⌜ Sound (stateFrom (now parent) (now depth) (now len) (now run) (now words) (now node) (now start) (now end) (now id) (now stamp) (now touched) (now write) (now «pin_node») (now «pin_start») (now «pin_end») (now «pin_count») (now marks) (now bytes) (now books)) ⌝ }
-    ensures { λ r. ⌜ outcome (stateFrom (now (parent .entry)) (now (depth .entry)) (now (len .entry)) (now (run .entry)) (now (words .entry)) (now (node .entry)) (now (start .entry)) (now (end .entry)) (now (id .entry)) (now (stamp .entry)) (now (touched .entry)) (now (write .entry)) (now («pin_node» .exit)) (now («pin_start» .exit)) (now («pin_end» .exit)) (now («pin_count» .exit)) (now (marks .entry)) (now (bytes .entry)) (now (books .exit))) tt (toldPlain r) ≡ pinSource (stateFrom (now (parent .entry)) (now (depth .entry)) (now (len .entry)) (now (run .entry)) (now (words .entry)) (now (node .entry)) (now (start .entry)) (now (end .entry)) (now (id .entry)) (now (stamp .entry)) (now (touched .entry)) (now (write .entry)) (now («pin_node» .entry)) (now («pin_start» .entry)) (now («pin_end» .entry)) (now («pin_count» .entry)) (now (marks .entry)) (now (bytes .entry)) (now (books .entry))) s (record { node = on; start = from; end = upto }) ⌝ }
+    requires { ⌜
+        Sound (stateFrom (now parent) (now depth) (now len) (now run) (now words) (now node) (now start) (now end) (now id) (now stamp) (now touched)
+        (now write) (now «pin_node») (now «pin_start») (now «pin_end») (now «pin_count») (now marks) (now bytes) (now books))
+        ⌝ }
+    ensures { λ r. ⌜ (
+        let old = stateFrom (now (parent .entry)) (now (depth .entry)) (now (len .entry)) (now (run .entry)) (now (words .entry)) (now (node .entry))
+        (now (start .entry)) (now (end .entry)) (now (id .entry)) (now (stamp .entry)) (now (touched .entry)) (now (write .entry)) (now («pin_node» .entry))
+        (now («pin_start» .entry)) (now («pin_end» .entry)) (now («pin_count» .entry)) (now (marks .entry)) (now (bytes .entry)) (now (books .entry)) in
+        let new = stateFrom (now (parent .entry)) (now (depth .entry)) (now (len .entry)) (now (run .entry)) (now (words .entry)) (now (node .entry))
+        (now (start .entry)) (now (end .entry)) (now (id .entry)) (now (stamp .entry)) (now (touched .entry)) (now (write .entry)) (now («pin_node» .exit))
+        (now («pin_start» .exit)) (now («pin_end» .exit)) (now («pin_count» .exit)) (now (marks .entry)) (now (bytes .entry)) (now (books .exit)) in
+        outcome new tt (toldPlain r) ≡ pinSource old s (record { node = on; start = from; end = upto })
+        ) ⌝ }
 {
     let sp = Span {
         node: on,
@@ -548,8 +658,19 @@ pub extern "C" fn scorebeetle_unpin_source(
     from: usize,
     upto: usize,
 ) -> u8
-    requires { ⌜ Sound (stateFrom (now parent) (now depth) (now len) (now run) (now words) (now node) (now start) (now end) (now id) (now stamp) (now touched) (now write) (now «pin_node») (now «pin_start») (now «pin_end») (now «pin_count») (now marks) (now bytes) (now books)) ⌝ }
-    ensures { λ r. ⌜ outcome (stateFrom (now (parent .entry)) (now (depth .entry)) (now (len .entry)) (now (run .entry)) (now (words .entry)) (now (node .entry)) (now (start .entry)) (now (end .entry)) (now (id .entry)) (now (stamp .entry)) (now (touched .entry)) (now (write .entry)) (now («pin_node» .exit)) (now («pin_start» .exit)) (now («pin_end» .exit)) (now («pin_count» .exit)) (now (marks .entry)) (now (bytes .entry)) (now (books .exit))) tt (toldPlain r) ≡ unpinSource (stateFrom (now (parent .entry)) (now (depth .entry)) (now (len .entry)) (now (run .entry)) (now (words .entry)) (now (node .entry)) (now (start .entry)) (now (end .entry)) (now (id .entry)) (now (stamp .entry)) (now (touched .entry)) (now (write .entry)) (now («pin_node» .entry)) (now («pin_start» .entry)) (now («pin_end» .entry)) (now («pin_count» .entry)) (now (marks .entry)) (now (bytes .entry)) (now (books .entry))) s (record { node = on; start = from; end = upto }) ⌝ }
+    requires { ⌜
+        Sound (stateFrom (now parent) (now depth) (now len) (now run) (now words) (now node) (now start) (now end) (now id) (now stamp) (now touched)
+        (now write) (now «pin_node») (now «pin_start») (now «pin_end») (now «pin_count») (now marks) (now bytes) (now books))
+        ⌝ }
+    ensures { λ r. ⌜ (
+        let old = stateFrom (now (parent .entry)) (now (depth .entry)) (now (len .entry)) (now (run .entry)) (now (words .entry)) (now (node .entry))
+        (now (start .entry)) (now (end .entry)) (now (id .entry)) (now (stamp .entry)) (now (touched .entry)) (now (write .entry)) (now («pin_node» .entry))
+        (now («pin_start» .entry)) (now («pin_end» .entry)) (now («pin_count» .entry)) (now (marks .entry)) (now (bytes .entry)) (now (books .entry)) in
+        let new = stateFrom (now (parent .entry)) (now (depth .entry)) (now (len .entry)) (now (run .entry)) (now (words .entry)) (now (node .entry))
+        (now (start .entry)) (now (end .entry)) (now (id .entry)) (now (stamp .entry)) (now (touched .entry)) (now (write .entry)) (now («pin_node» .exit))
+        (now («pin_start» .exit)) (now («pin_end» .exit)) (now («pin_count» .exit)) (now (marks .entry)) (now (bytes .entry)) (now (books .exit)) in
+        outcome new tt (toldPlain r) ≡ unpinSource old s (record { node = on; start = from; end = upto })
+        ) ⌝ }
 {
     let sp = Span {
         node: on,
@@ -614,8 +735,23 @@ pub extern "C" fn scorebeetle_lookup(
     tiers: &[usize],
     hashes: &[u64],
 ) -> u8
-    requires { ⌜ Sound (stateFrom (now parent) (now depth) (now len) (now run) (now words) (now node) (now start) (now end) (now id) (now stamp) (now touched) (now write) (now «pin_node») (now «pin_start») (now «pin_end») (now «pin_count») (now marks) (now bytes) (now books)) × PathFits (pathListOf (now «path_node») (now «path_len»)) × TierFits (tierListOf (now «span_tier») (now «span_node») (now «span_start») (now «span_end»)) × (length (now answer) ≡ 19) ⌝ }
-    ensures { λ r. ⌜ outcome (stateFrom (now (parent .entry)) (now (depth .entry)) (now (len .entry)) (now (run .entry)) (now (words .entry)) (now (node .entry)) (now (start .entry)) (now (end .entry)) (now (id .entry)) (now (stamp .entry)) (now (touched .entry)) (now (write .entry)) (now («pin_node» .entry)) (now («pin_start» .entry)) (now («pin_end» .entry)) (now («pin_count» .entry)) (now (marks .entry)) (now (bytes .entry)) (now (books .entry))) (listsOf (pathListOf (now («path_node» .exit)) (now («path_len» .exit))) (tierListOf (now («span_tier» .exit)) (now («span_node» .exit)) (now («span_start» .exit)) (now («span_end» .exit)))) (toldLooked r (now (answer .exit))) ≡ lookup (stateFrom (now (parent .entry)) (now (depth .entry)) (now (len .entry)) (now (run .entry)) (now (words .entry)) (now (node .entry)) (now (start .entry)) (now (end .entry)) (now (id .entry)) (now (stamp .entry)) (now (touched .entry)) (now (write .entry)) (now («pin_node» .entry)) (now («pin_start» .entry)) (now («pin_end» .entry)) (now («pin_count» .entry)) (now (marks .entry)) (now (bytes .entry)) (now (books .entry))) (listsOf (pathListOf (now («path_node» .entry)) (now («path_len» .entry))) (tierListOf (now («span_tier» .entry)) (now («span_node» .entry)) (now («span_start» .entry)) (now («span_end» .entry)))) (now (tiers .entry)) (now (hashes .entry)) ⌝ }
+    requires { ⌜
+        Sound (stateFrom (now parent) (now depth) (now len) (now run) (now words) (now node) (now start) (now end) (now id) (now stamp) (now touched)
+        (now write) (now «pin_node») (now «pin_start») (now «pin_end») (now «pin_count») (now marks) (now bytes) (now books))
+        × PathFits (pathListOf (now «path_node») (now «path_len»))
+        × TierFits (tierListOf (now «span_tier») (now «span_node») (now «span_start») (now «span_end»))
+        × (length (now answer) ≡ 19)
+        ⌝ }
+    ensures { λ r. ⌜ (
+        let st = stateFrom (now (parent .entry)) (now (depth .entry)) (now (len .entry)) (now (run .entry)) (now (words .entry)) (now (node .entry))
+        (now (start .entry)) (now (end .entry)) (now (id .entry)) (now (stamp .entry)) (now (touched .entry)) (now (write .entry)) (now («pin_node» .entry))
+        (now («pin_start» .entry)) (now («pin_end» .entry)) (now («pin_count» .entry)) (now (marks .entry)) (now (bytes .entry)) (now (books .entry)) in
+        let lent = listsOf (pathListOf (now («path_node» .entry)) (now («path_len» .entry))) (tierListOf (now («span_tier» .entry))
+        (now («span_node» .entry)) (now («span_start» .entry)) (now («span_end» .entry))) in
+        let left = listsOf (pathListOf (now («path_node» .exit)) (now («path_len» .exit))) (tierListOf (now («span_tier» .exit)) (now («span_node» .exit))
+        (now («span_start» .exit)) (now («span_end» .exit))) in
+        Tells lookupAt lookupValues (lookup st lent (now (tiers .entry)) (now (hashes .entry))) st left r (now (answer .entry)) (now (answer .exit))
+        ) ⌝ }
 {
     let r = known::lookup(
         parent,
@@ -673,7 +809,10 @@ pub extern "C" fn scorebeetle_counter(
     s: usize,
 ) -> u8
     requires { ⌜ (storesIn (now books) ≤ maxStores) × (maxNumbers ≤ length (now books)) × (length (now answer) ≡ 19) ⌝ }
-    ensures { λ r. ⌜ ((st : State) → st .books ≡ now (books .entry) → Sound st → toldCount r (now (answer .exit)) ≡ counterCall which st s .answer) ⌝ }
+    ensures { λ r. ⌜ (
+        (st : State) → st .books ≡ now (books .entry) → Sound st
+        → Tells countAt countValues (counterCall which st s) st tt r (now (answer .entry)) (now (answer .exit))
+        ) ⌝ }
 {
     let a = counter_of(books, which, s);
     exported::told::count(answer, a)
@@ -702,7 +841,12 @@ pub extern "C" fn scorebeetle_sound_state(
     bytes: &[u64],
     books: &[u64],
 ) -> bool
-    ensures { λ r. ⌜ Says r (Sound (stateFrom (now (parent .entry)) (now (depth .entry)) (now (len .entry)) (now (run .entry)) (now (words .entry)) (now (node .entry)) (now (start .entry)) (now (end .entry)) (now (id .entry)) (now (stamp .entry)) (now (touched .entry)) (now (write .entry)) (now («pin_node» .entry)) (now («pin_start» .entry)) (now («pin_end» .entry)) (now («pin_count» .entry)) (now (marks .entry)) (now (bytes .entry)) (now (books .entry)))) ⌝ }
+    ensures { λ r. ⌜ (
+        let st = stateFrom (now (parent .entry)) (now (depth .entry)) (now (len .entry)) (now (run .entry)) (now (words .entry)) (now (node .entry))
+        (now (start .entry)) (now (end .entry)) (now (id .entry)) (now (stamp .entry)) (now (touched .entry)) (now (write .entry)) (now («pin_node» .entry))
+        (now («pin_start» .entry)) (now («pin_end» .entry)) (now («pin_count» .entry)) (now (marks .entry)) (now (bytes .entry)) (now (books .entry)) in
+        Says r (Sound st)
+        ) ⌝ }
 {
     known::sound_state(
         parent,

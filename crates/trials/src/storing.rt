@@ -11,7 +11,6 @@ use crate::world::blank_lists;
 use crate::world::list_places;
 use crate::world::pool_lens;
 use radix::Span;
-ghost use Prim.Native.Nat.{_≤_};
 
 pub fn store_insert(
     old: World,
@@ -130,16 +129,6 @@ pub fn store_insert(
     }
 }
 
-// There are 65 spans.
-fn within(count: usize) -> usize
-    ensures { λ r. ⌜ r ≤ 65 ⌝ }
-{
-    if 65 < count {
-        return 65;
-    }
-    count
-}
-
 // Of the spans the first count.
 pub fn store_used(
     old: World,
@@ -151,7 +140,6 @@ pub fn store_used(
     counted: bool,
 ) -> Tried {
     let lens = pool_lens(old, short.pool);
-    let n = within(count);
     let parent = old.parent;
     let depth = old.depth;
     let len = old.len;
@@ -212,7 +200,7 @@ pub fn store_used(
         &mut books[..books_long],
         s,
         spans,
-        n,
+        count,
         time,
         counted,
     );

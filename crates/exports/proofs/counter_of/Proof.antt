@@ -2,8 +2,8 @@
 use Prim.Native.Nat.{_≤_}
 use mathlib.Core.Path.{sym, ap, _∙_}
 use native.Mathlib.Omega.{arith}
-use Rattle.exports.specs.Counter.{counterCall}
-use Rattle.exports.proofs.Counter.{stalls-from}
+use Rattle.exported.specs.Counter.{counterCall}
+use Rattle.exported.proofs.Counter.{stalls-from}
 use Rattle.exports.proofs.counter_of.Statement.{statement}
 use Rattle.exports.proofs.counter_of.Tie as tie
 
@@ -44,7 +44,7 @@ returns-6 : tie.Need-returns-6
 returns-6 c = λ st same sound.
     let rest = c .before .match .rest in
     let from : 5 ≤ c .before .before .before .args .which = omega (arith, rest .1, rest .0 .1, rest .0 .0 .1, rest .0 .0 .0 .1, rest .0 .0 .0 .0 .1) in
-    c .pin-stalls .ensures st (record { books = same; sound = sound }) ∙ stalls-from (c .before .before .before .args .which) st (c .before .before .before .args .s) from
+    c .pin-stalls .ensures st (record { books = same; sound = sound }) ∙ ap (λ o. o .answer) (stalls-from (c .before .before .before .args .which) st (c .before .before .before .args .s) from)
 
 pub counter-of-spec : {M : Type 1} → statement M
 counter-of-spec =

@@ -1,8 +1,8 @@
 -- `exports::scorebeetle_counter` meets its contract: the counter of the books, told as a number and a list. Assumes nothing.
 use Rattle.answers.specs.Answers.{countOf}
 use Rattle.exported.specs.Told.{countAt, countValues}
-use Rattle.exported.proofs.Telling.{answered, count-told}
-use Rattle.exports.proofs.Counter.{counter-numbered}
+use Rattle.exported.proofs.Telling.{telling, count-told}
+use Rattle.exported.proofs.Counter.{counter-numbered, counter-whole}
 use Rattle.exports.proofs.scorebeetle_counter.Statement.{statement}
 use Rattle.exports.proofs.scorebeetle_counter.Tie as tie
 
@@ -16,7 +16,8 @@ returns : tie.Need-returns
 returns c = λ st same sound.
     let z = c .before .before .before .before in
     let k = c .before .before .counter-of in
-    answered countAt countValues (countOf (k .result)) (count-told _) (z .args .answer .now) (k .ensures st same sound) (counter-numbered (z .args .which) st (z .args .s)) (z .pre .2) (c .count .ensures .0) (c .count .ensures .1)
+    let whole = counter-whole (z .args .which) st (z .args .s) (k .ensures st same sound) in
+    telling countAt countValues (countOf (k .result)) (count-told _) (z .args .answer .now) whole (counter-numbered (z .args .which) st (z .args .s)) (z .pre .2) (c .count .ensures .0) (c .count .ensures .1)
 
 pub scorebeetle-counter-spec : {M : Type 1} → statement M
 scorebeetle-counter-spec =

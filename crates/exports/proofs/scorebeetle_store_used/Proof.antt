@@ -6,7 +6,7 @@ use Rattle.exports.proofs.scorebeetle_store_used.Statement.{statement}
 use Rattle.exports.proofs.scorebeetle_store_used.Tie as tie
 
 store-used-requires : tie.Need-store-used-requires
-store-used-requires c κs = let z = c .before .before .before .before .before .before .before .before .before .before .before .before .before .before .before .before .before .before .before .before .before .before .before .before .before .before .before .before .before .before .before in (z .pre .0, z .pre .1, z .pre .2)
+store-used-requires c κs = let z = c .before .before .before .before .before .before .before .before .before .before .before .before .before .before .before .before .before .before .before .before .before .before .before .before .before .before .before .before .before .before .before in z .pre .0
 
 store-used-requires-2 : tie.Need-store-used-requires-2
 store-used-requires-2 c κs = tt
@@ -41,7 +41,7 @@ same-length-9 c = c .before .before .before .before .before .before .before .bef
 returns : tie.Need-returns
 returns c =
     let k = c .before .before .before .before .before .before .before .before .before .before .before .before .before .before .before .before .before .before .before .before .store-used in
-    telling touchAt touchValues (storeUsedOf (k .result)) (touch-told _) (c .before .before .before .before .before .before .before .before .before .before .before .before .before .before .before .before .before .before .before .before .before .before .before .before .before .before .before .before .before .before .before .before .before .before .before .before .before .before .before .before .before .before .before .before .before .before .before .before .before .before .before .before .args .answer .now) (k .ensures) (storeUsed-numbered _ _ _ _ _) (c .before .before .before .before .before .before .before .before .before .before .before .before .before .before .before .before .before .before .before .before .before .before .before .before .before .before .before .before .before .before .before .before .before .before .before .before .before .before .before .before .before .before .before .before .before .before .before .before .before .before .before .before .pre .3) (c .store-used2 .ensures .0) (c .store-used2 .ensures .1)
+    telling touchAt touchValues (storeUsedOf (k .result)) (touch-told _) (c .before .before .before .before .before .before .before .before .before .before .before .before .before .before .before .before .before .before .before .before .before .before .before .before .before .before .before .before .before .before .before .before .before .before .before .before .before .before .before .before .before .before .before .before .before .before .before .before .before .before .before .before .args .answer .now) (k .ensures) (storeUsed-numbered _ _ _ _ _) (c .before .before .before .before .before .before .before .before .before .before .before .before .before .before .before .before .before .before .before .before .before .before .before .before .before .before .before .before .before .before .before .before .before .before .before .before .before .before .before .before .before .before .before .before .before .before .before .before .before .before .before .before .pre .1) (c .store-used2 .ensures .0) (c .store-used2 .ensures .1)
 
 pub scorebeetle-store-used-spec : {M : Type 1} → statement M
 scorebeetle-store-used-spec =

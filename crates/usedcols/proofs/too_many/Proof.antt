@@ -1,7 +1,7 @@
 -- `usedcols::too_many` meets its contract: the test as it is. Assumes nothing.
 use mathlib.Core.Path.{sym, ap}
 use borrow.Author.Tests.{le-leb, lt-leb}
-use Rattle.usedcols.specs.Spans.{tooMany}
+use Rattle.usedcols.specs.Many.{tooMany}
 use Rattle.usedcols.proofs.too_many.Statement.{statement}
 use Rattle.usedcols.proofs.too_many.Tie as tie
 

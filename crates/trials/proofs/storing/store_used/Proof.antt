@@ -7,125 +7,122 @@ use Rattle.trials.proofs.storing.store_used.Tie as tie
 pool-lens-requires : tie.Need-pool-lens-requires
 pool-lens-requires c κs = tt
 
-within-requires : tie.Need-within-requires
-within-requires c κs = tt
-
 array-share-prefix-parent : tie.Need-array-share-prefix-parent
-array-share-prefix-parent c = c .before .before .before .before .before .before .before .before .before .before .before .before .before .before .before .before .before .before .before .before .pool-lens .ensures .parent
+array-share-prefix-parent c = c .before .before .before .before .before .before .before .before .before .before .before .before .before .before .before .before .before .before .before .pool-lens .ensures .parent
 
 slice-aggregate-store-used : tie.Need-slice-aggregate-store-used
-slice-aggregate-store-used c = taken (c .before .before .before .before .before .before .before .before .before .before .before .before .before .before .before .before .before .before .before .before .before .before .args .old .parent) _ (c .before .before .before .before .before .before .before .before .before .before .before .before .before .before .before .before .before .before .before .before .before .pool-lens .ensures .parent)
+slice-aggregate-store-used c = taken (c .before .before .before .before .before .before .before .before .before .before .before .before .before .before .before .before .before .before .before .before .before .args .old .parent) _ (c .before .before .before .before .before .before .before .before .before .before .before .before .before .before .before .before .before .before .before .before .pool-lens .ensures .parent)
 
 array-share-prefix-depth : tie.Need-array-share-prefix-depth
-array-share-prefix-depth c = c .before .before .before .before .before .before .before .before .before .before .before .before .before .before .before .before .before .before .before .before .before .pool-lens .ensures .depth
+array-share-prefix-depth c = c .before .before .before .before .before .before .before .before .before .before .before .before .before .before .before .before .before .before .before .before .pool-lens .ensures .depth
 
 slice-aggregate-store-used-2 : tie.Need-slice-aggregate-store-used-2
-slice-aggregate-store-used-2 c = taken (c .before .before .before .before .before .before .before .before .before .before .before .before .before .before .before .before .before .before .before .before .before .before .before .args .old .depth) _ (c .before .before .before .before .before .before .before .before .before .before .before .before .before .before .before .before .before .before .before .before .before .before .pool-lens .ensures .depth)
+slice-aggregate-store-used-2 c = taken (c .before .before .before .before .before .before .before .before .before .before .before .before .before .before .before .before .before .before .before .before .before .before .args .old .depth) _ (c .before .before .before .before .before .before .before .before .before .before .before .before .before .before .before .before .before .before .before .before .before .pool-lens .ensures .depth)
 
 array-share-prefix-len : tie.Need-array-share-prefix-len
-array-share-prefix-len c = c .before .before .before .before .before .before .before .before .before .before .before .before .before .before .before .before .before .before .before .before .before .before .pool-lens .ensures .len
+array-share-prefix-len c = c .before .before .before .before .before .before .before .before .before .before .before .before .before .before .before .before .before .before .before .before .before .pool-lens .ensures .len
 
 slice-aggregate-store-used-3 : tie.Need-slice-aggregate-store-used-3
-slice-aggregate-store-used-3 c = taken (c .before .before .before .before .before .before .before .before .before .before .before .before .before .before .before .before .before .before .before .before .before .before .before .before .args .old .len) _ (c .before .before .before .before .before .before .before .before .before .before .before .before .before .before .before .before .before .before .before .before .before .before .before .pool-lens .ensures .len)
+slice-aggregate-store-used-3 c = taken (c .before .before .before .before .before .before .before .before .before .before .before .before .before .before .before .before .before .before .before .before .before .before .before .args .old .len) _ (c .before .before .before .before .before .before .before .before .before .before .before .before .before .before .before .before .before .before .before .before .before .before .pool-lens .ensures .len)
 
 array-share-prefix-run : tie.Need-array-share-prefix-run
-array-share-prefix-run c = c .before .before .before .before .before .before .before .before .before .before .before .before .before .before .before .before .before .before .before .before .before .before .before .pool-lens .ensures .run
+array-share-prefix-run c = c .before .before .before .before .before .before .before .before .before .before .before .before .before .before .before .before .before .before .before .before .before .before .pool-lens .ensures .run
 
 slice-aggregate-store-used-4 : tie.Need-slice-aggregate-store-used-4
-slice-aggregate-store-used-4 c = taken (c .before .before .before .before .before .before .before .before .before .before .before .before .before .before .before .before .before .before .before .before .before .before .before .before .before .args .old .run) _ (c .before .before .before .before .before .before .before .before .before .before .before .before .before .before .before .before .before .before .before .before .before .before .before .before .pool-lens .ensures .run)
+slice-aggregate-store-used-4 c = taken (c .before .before .before .before .before .before .before .before .before .before .before .before .before .before .before .before .before .before .before .before .before .before .before .before .args .old .run) _ (c .before .before .before .before .before .before .before .before .before .before .before .before .before .before .before .before .before .before .before .before .before .before .before .pool-lens .ensures .run)
 
 array-share-prefix-words : tie.Need-array-share-prefix-words
-array-share-prefix-words c = c .before .before .before .before .before .before .before .before .before .before .before .before .before .before .before .before .before .before .before .before .before .before .before .before .pool-lens .ensures .words
+array-share-prefix-words c = c .before .before .before .before .before .before .before .before .before .before .before .before .before .before .before .before .before .before .before .before .before .before .before .pool-lens .ensures .words
 
 slice-aggregate-store-used-5 : tie.Need-slice-aggregate-store-used-5
-slice-aggregate-store-used-5 c = taken (c .before .before .before .before .before .before .before .before .before .before .before .before .before .before .before .before .before .before .before .before .before .before .before .before .before .before .args .old .words) _ (c .before .before .before .before .before .before .before .before .before .before .before .before .before .before .before .before .before .before .before .before .before .before .before .before .before .pool-lens .ensures .words)
+slice-aggregate-store-used-5 c = taken (c .before .before .before .before .before .before .before .before .before .before .before .before .before .before .before .before .before .before .before .before .before .before .before .before .before .args .old .words) _ (c .before .before .before .before .before .before .before .before .before .before .before .before .before .before .before .before .before .before .before .before .before .before .before .before .pool-lens .ensures .words)
 
 array-borrow-prefix-node : tie.Need-array-borrow-prefix-node
-array-borrow-prefix-node c = c .before .before .before .before .before .before .before .before .before .before .before .before .before .before .before .before .before .before .before .before .before .before .before .before .before .pool-lens .ensures .node
+array-borrow-prefix-node c = c .before .before .before .before .before .before .before .before .before .before .before .before .before .before .before .before .before .before .before .before .before .before .before .before .pool-lens .ensures .node
 
 slice-aggregate-store-used-6 : tie.Need-slice-aggregate-store-used-6
-slice-aggregate-store-used-6 c = taken (c .before .before .before .before .before .before .before .before .before .before .before .before .before .before .before .before .before .before .before .before .before .before .before .before .before .before .before .args .old .node) _ (c .before .before .before .before .before .before .before .before .before .before .before .before .before .before .before .before .before .before .before .before .before .before .before .before .before .before .pool-lens .ensures .node)
+slice-aggregate-store-used-6 c = taken (c .before .before .before .before .before .before .before .before .before .before .before .before .before .before .before .before .before .before .before .before .before .before .before .before .before .before .args .old .node) _ (c .before .before .before .before .before .before .before .before .before .before .before .before .before .before .before .before .before .before .before .before .before .before .before .before .before .pool-lens .ensures .node)
 
 array-borrow-prefix-start : tie.Need-array-borrow-prefix-start
-array-borrow-prefix-start c = c .before .before .before .before .before .before .before .before .before .before .before .before .before .before .before .before .before .before .before .before .before .before .before .before .before .before .pool-lens .ensures .start
+array-borrow-prefix-start c = c .before .before .before .before .before .before .before .before .before .before .before .before .before .before .before .before .before .before .before .before .before .before .before .before .before .pool-lens .ensures .start
 
 slice-aggregate-store-used-7 : tie.Need-slice-aggregate-store-used-7
-slice-aggregate-store-used-7 c = taken (c .before .before .before .before .before .before .before .before .before .before .before .before .before .before .before .before .before .before .before .before .before .before .before .before .before .before .before .before .args .old .start) _ (c .before .before .before .before .before .before .before .before .before .before .before .before .before .before .before .before .before .before .before .before .before .before .before .before .before .before .before .pool-lens .ensures .start)
+slice-aggregate-store-used-7 c = taken (c .before .before .before .before .before .before .before .before .before .before .before .before .before .before .before .before .before .before .before .before .before .before .before .before .before .before .before .args .old .start) _ (c .before .before .before .before .before .before .before .before .before .before .before .before .before .before .before .before .before .before .before .before .before .before .before .before .before .before .pool-lens .ensures .start)
 
 array-borrow-prefix-end : tie.Need-array-borrow-prefix-end
-array-borrow-prefix-end c = c .before .before .before .before .before .before .before .before .before .before .before .before .before .before .before .before .before .before .before .before .before .before .before .before .before .before .before .pool-lens .ensures .end
+array-borrow-prefix-end c = c .before .before .before .before .before .before .before .before .before .before .before .before .before .before .before .before .before .before .before .before .before .before .before .before .before .before .pool-lens .ensures .end
 
 slice-aggregate-store-used-8 : tie.Need-slice-aggregate-store-used-8
-slice-aggregate-store-used-8 c = taken (c .before .before .before .before .before .before .before .before .before .before .before .before .before .before .before .before .before .before .before .before .before .before .before .before .before .before .before .before .before .args .old .end) _ (c .before .before .before .before .before .before .before .before .before .before .before .before .before .before .before .before .before .before .before .before .before .before .before .before .before .before .before .before .pool-lens .ensures .end)
+slice-aggregate-store-used-8 c = taken (c .before .before .before .before .before .before .before .before .before .before .before .before .before .before .before .before .before .before .before .before .before .before .before .before .before .before .before .before .args .old .end) _ (c .before .before .before .before .before .before .before .before .before .before .before .before .before .before .before .before .before .before .before .before .before .before .before .before .before .before .before .pool-lens .ensures .end)
 
 array-borrow-prefix-id : tie.Need-array-borrow-prefix-id
-array-borrow-prefix-id c = c .before .before .before .before .before .before .before .before .before .before .before .before .before .before .before .before .before .before .before .before .before .before .before .before .before .before .before .before .pool-lens .ensures .id
+array-borrow-prefix-id c = c .before .before .before .before .before .before .before .before .before .before .before .before .before .before .before .before .before .before .before .before .before .before .before .before .before .before .before .pool-lens .ensures .id
 
 slice-aggregate-store-used-9 : tie.Need-slice-aggregate-store-used-9
-slice-aggregate-store-used-9 c = taken (c .before .before .before .before .before .before .before .before .before .before .before .before .before .before .before .before .before .before .before .before .before .before .before .before .before .before .before .before .before .before .args .old .id) _ (c .before .before .before .before .before .before .before .before .before .before .before .before .before .before .before .before .before .before .before .before .before .before .before .before .before .before .before .before .before .pool-lens .ensures .id)
+slice-aggregate-store-used-9 c = taken (c .before .before .before .before .before .before .before .before .before .before .before .before .before .before .before .before .before .before .before .before .before .before .before .before .before .before .before .before .before .args .old .id) _ (c .before .before .before .before .before .before .before .before .before .before .before .before .before .before .before .before .before .before .before .before .before .before .before .before .before .before .before .before .pool-lens .ensures .id)
 
 array-borrow-prefix-stamp : tie.Need-array-borrow-prefix-stamp
-array-borrow-prefix-stamp c = c .before .before .before .before .before .before .before .before .before .before .before .before .before .before .before .before .before .before .before .before .before .before .before .before .before .before .before .before .before .pool-lens .ensures .stamp
+array-borrow-prefix-stamp c = c .before .before .before .before .before .before .before .before .before .before .before .before .before .before .before .before .before .before .before .before .before .before .before .before .before .before .before .before .pool-lens .ensures .stamp
 
 slice-aggregate-store-used-10 : tie.Need-slice-aggregate-store-used-10
-slice-aggregate-store-used-10 c = taken (c .before .before .before .before .before .before .before .before .before .before .before .before .before .before .before .before .before .before .before .before .before .before .before .before .before .before .before .before .before .before .before .args .old .stamp) _ (c .before .before .before .before .before .before .before .before .before .before .before .before .before .before .before .before .before .before .before .before .before .before .before .before .before .before .before .before .before .before .pool-lens .ensures .stamp)
+slice-aggregate-store-used-10 c = taken (c .before .before .before .before .before .before .before .before .before .before .before .before .before .before .before .before .before .before .before .before .before .before .before .before .before .before .before .before .before .before .args .old .stamp) _ (c .before .before .before .before .before .before .before .before .before .before .before .before .before .before .before .before .before .before .before .before .before .before .before .before .before .before .before .before .before .pool-lens .ensures .stamp)
 
 array-borrow-prefix-touched : tie.Need-array-borrow-prefix-touched
-array-borrow-prefix-touched c = c .before .before .before .before .before .before .before .before .before .before .before .before .before .before .before .before .before .before .before .before .before .before .before .before .before .before .before .before .before .before .pool-lens .ensures .touched
+array-borrow-prefix-touched c = c .before .before .before .before .before .before .before .before .before .before .before .before .before .before .before .before .before .before .before .before .before .before .before .before .before .before .before .before .before .pool-lens .ensures .touched
 
 slice-aggregate-store-used-11 : tie.Need-slice-aggregate-store-used-11
-slice-aggregate-store-used-11 c = taken (c .before .before .before .before .before .before .before .before .before .before .before .before .before .before .before .before .before .before .before .before .before .before .before .before .before .before .before .before .before .before .before .before .args .old .touched) _ (c .before .before .before .before .before .before .before .before .before .before .before .before .before .before .before .before .before .before .before .before .before .before .before .before .before .before .before .before .before .before .before .pool-lens .ensures .touched)
+slice-aggregate-store-used-11 c = taken (c .before .before .before .before .before .before .before .before .before .before .before .before .before .before .before .before .before .before .before .before .before .before .before .before .before .before .before .before .before .before .before .args .old .touched) _ (c .before .before .before .before .before .before .before .before .before .before .before .before .before .before .before .before .before .before .before .before .before .before .before .before .before .before .before .before .before .before .pool-lens .ensures .touched)
 
 array-borrow-prefix-write : tie.Need-array-borrow-prefix-write
-array-borrow-prefix-write c = c .before .before .before .before .before .before .before .before .before .before .before .before .before .before .before .before .before .before .before .before .before .before .before .before .before .before .before .before .before .before .before .pool-lens .ensures .write
+array-borrow-prefix-write c = c .before .before .before .before .before .before .before .before .before .before .before .before .before .before .before .before .before .before .before .before .before .before .before .before .before .before .before .before .before .before .pool-lens .ensures .write
 
 slice-aggregate-store-used-12 : tie.Need-slice-aggregate-store-used-12
-slice-aggregate-store-used-12 c = taken (c .before .before .before .before .before .before .before .before .before .before .before .before .before .before .before .before .before .before .before .before .before .before .before .before .before .before .before .before .before .before .before .before .before .args .old .write) _ (c .before .before .before .before .before .before .before .before .before .before .before .before .before .before .before .before .before .before .before .before .before .before .before .before .before .before .before .before .before .before .before .before .pool-lens .ensures .write)
+slice-aggregate-store-used-12 c = taken (c .before .before .before .before .before .before .before .before .before .before .before .before .before .before .before .before .before .before .before .before .before .before .before .before .before .before .before .before .before .before .before .before .args .old .write) _ (c .before .before .before .before .before .before .before .before .before .before .before .before .before .before .before .before .before .before .before .before .before .before .before .before .before .before .before .before .before .before .before .pool-lens .ensures .write)
 
 array-share-prefix-pin-node : tie.Need-array-share-prefix-pin-node
-array-share-prefix-pin-node c = c .before .before .before .before .before .before .before .before .before .before .before .before .before .before .before .before .before .before .before .before .before .before .before .before .before .before .before .before .before .before .before .before .pool-lens .ensures .pin-node
+array-share-prefix-pin-node c = c .before .before .before .before .before .before .before .before .before .before .before .before .before .before .before .before .before .before .before .before .before .before .before .before .before .before .before .before .before .before .before .pool-lens .ensures .pin-node
 
 slice-aggregate-store-used-13 : tie.Need-slice-aggregate-store-used-13
-slice-aggregate-store-used-13 c = taken (c .before .before .before .before .before .before .before .before .before .before .before .before .before .before .before .before .before .before .before .before .before .before .before .before .before .before .before .before .before .before .before .before .before .before .args .old .«pin_node») _ (c .before .before .before .before .before .before .before .before .before .before .before .before .before .before .before .before .before .before .before .before .before .before .before .before .before .before .before .before .before .before .before .before .before .pool-lens .ensures .pin-node)
+slice-aggregate-store-used-13 c = taken (c .before .before .before .before .before .before .before .before .before .before .before .before .before .before .before .before .before .before .before .before .before .before .before .before .before .before .before .before .before .before .before .before .before .args .old .«pin_node») _ (c .before .before .before .before .before .before .before .before .before .before .before .before .before .before .before .before .before .before .before .before .before .before .before .before .before .before .before .before .before .before .before .before .pool-lens .ensures .pin-node)
 
 array-share-prefix-pin-start : tie.Need-array-share-prefix-pin-start
-array-share-prefix-pin-start c = c .before .before .before .before .before .before .before .before .before .before .before .before .before .before .before .before .before .before .before .before .before .before .before .before .before .before .before .before .before .before .before .before .before .pool-lens .ensures .pin-start
+array-share-prefix-pin-start c = c .before .before .before .before .before .before .before .before .before .before .before .before .before .before .before .before .before .before .before .before .before .before .before .before .before .before .before .before .before .before .before .before .pool-lens .ensures .pin-start
 
 slice-aggregate-store-used-14 : tie.Need-slice-aggregate-store-used-14
-slice-aggregate-store-used-14 c = taken (c .before .before .before .before .before .before .before .before .before .before .before .before .before .before .before .before .before .before .before .before .before .before .before .before .before .before .before .before .before .before .before .before .before .before .before .args .old .«pin_start») _ (c .before .before .before .before .before .before .before .before .before .before .before .before .before .before .before .before .before .before .before .before .before .before .before .before .before .before .before .before .before .before .before .before .before .before .pool-lens .ensures .pin-start)
+slice-aggregate-store-used-14 c = taken (c .before .before .before .before .before .before .before .before .before .before .before .before .before .before .before .before .before .before .before .before .before .before .before .before .before .before .before .before .before .before .before .before .before .before .args .old .«pin_start») _ (c .before .before .before .before .before .before .before .before .before .before .before .before .before .before .before .before .before .before .before .before .before .before .before .before .before .before .before .before .before .before .before .before .before .pool-lens .ensures .pin-start)
 
 array-share-prefix-pin-end : tie.Need-array-share-prefix-pin-end
-array-share-prefix-pin-end c = c .before .before .before .before .before .before .before .before .before .before .before .before .before .before .before .before .before .before .before .before .before .before .before .before .before .before .before .before .before .before .before .before .before .before .pool-lens .ensures .pin-end
+array-share-prefix-pin-end c = c .before .before .before .before .before .before .before .before .before .before .before .before .before .before .before .before .before .before .before .before .before .before .before .before .before .before .before .before .before .before .before .before .before .pool-lens .ensures .pin-end
 
 slice-aggregate-store-used-15 : tie.Need-slice-aggregate-store-used-15
-slice-aggregate-store-used-15 c = taken (c .before .before .before .before .before .before .before .before .before .before .before .before .before .before .before .before .before .before .before .before .before .before .before .before .before .before .before .before .before .before .before .before .before .before .before .before .args .old .«pin_end») _ (c .before .before .before .before .before .before .before .before .before .before .before .before .before .before .before .before .before .before .before .before .before .before .before .before .before .before .before .before .before .before .before .before .before .before .before .pool-lens .ensures .pin-end)
+slice-aggregate-store-used-15 c = taken (c .before .before .before .before .before .before .before .before .before .before .before .before .before .before .before .before .before .before .before .before .before .before .before .before .before .before .before .before .before .before .before .before .before .before .before .args .old .«pin_end») _ (c .before .before .before .before .before .before .before .before .before .before .before .before .before .before .before .before .before .before .before .before .before .before .before .before .before .before .before .before .before .before .before .before .before .before .pool-lens .ensures .pin-end)
 
 array-share-prefix-pin-count : tie.Need-array-share-prefix-pin-count
-array-share-prefix-pin-count c = c .before .before .before .before .before .before .before .before .before .before .before .before .before .before .before .before .before .before .before .before .before .before .before .before .before .before .before .before .before .before .before .before .before .before .before .pool-lens .ensures .pin-count
+array-share-prefix-pin-count c = c .before .before .before .before .before .before .before .before .before .before .before .before .before .before .before .before .before .before .before .before .before .before .before .before .before .before .before .before .before .before .before .before .before .before .pool-lens .ensures .pin-count
 
 slice-aggregate-store-used-16 : tie.Need-slice-aggregate-store-used-16
-slice-aggregate-store-used-16 c = taken (c .before .before .before .before .before .before .before .before .before .before .before .before .before .before .before .before .before .before .before .before .before .before .before .before .before .before .before .before .before .before .before .before .before .before .before .before .before .args .old .«pin_count») _ (c .before .before .before .before .before .before .before .before .before .before .before .before .before .before .before .before .before .before .before .before .before .before .before .before .before .before .before .before .before .before .before .before .before .before .before .before .pool-lens .ensures .pin-count)
+slice-aggregate-store-used-16 c = taken (c .before .before .before .before .before .before .before .before .before .before .before .before .before .before .before .before .before .before .before .before .before .before .before .before .before .before .before .before .before .before .before .before .before .before .before .before .args .old .«pin_count») _ (c .before .before .before .before .before .before .before .before .before .before .before .before .before .before .before .before .before .before .before .before .before .before .before .before .before .before .before .before .before .before .before .before .before .before .before .pool-lens .ensures .pin-count)
 
 array-borrow-prefix-marks : tie.Need-array-borrow-prefix-marks
-array-borrow-prefix-marks c = c .before .before .before .before .before .before .before .before .before .before .before .before .before .before .before .before .before .before .before .before .before .before .before .before .before .before .before .before .before .before .before .before .before .before .before .before .pool-lens .ensures .marks
+array-borrow-prefix-marks c = c .before .before .before .before .before .before .before .before .before .before .before .before .before .before .before .before .before .before .before .before .before .before .before .before .before .before .before .before .before .before .before .before .before .before .before .pool-lens .ensures .marks
 
 slice-aggregate-store-used-17 : tie.Need-slice-aggregate-store-used-17
-slice-aggregate-store-used-17 c = taken (c .before .before .before .before .before .before .before .before .before .before .before .before .before .before .before .before .before .before .before .before .before .before .before .before .before .before .before .before .before .before .before .before .before .before .before .before .before .before .args .old .marks) _ (c .before .before .before .before .before .before .before .before .before .before .before .before .before .before .before .before .before .before .before .before .before .before .before .before .before .before .before .before .before .before .before .before .before .before .before .before .before .pool-lens .ensures .marks)
+slice-aggregate-store-used-17 c = taken (c .before .before .before .before .before .before .before .before .before .before .before .before .before .before .before .before .before .before .before .before .before .before .before .before .before .before .before .before .before .before .before .before .before .before .before .before .before .args .old .marks) _ (c .before .before .before .before .before .before .before .before .before .before .before .before .before .before .before .before .before .before .before .before .before .before .before .before .before .before .before .before .before .before .before .before .before .before .before .before .pool-lens .ensures .marks)
 
 array-share-prefix-bytes : tie.Need-array-share-prefix-bytes
-array-share-prefix-bytes c = c .before .before .before .before .before .before .before .before .before .before .before .before .before .before .before .before .before .before .before .before .before .before .before .before .before .before .before .before .before .before .before .before .before .before .before .before .before .pool-lens .ensures .bytes
+array-share-prefix-bytes c = c .before .before .before .before .before .before .before .before .before .before .before .before .before .before .before .before .before .before .before .before .before .before .before .before .before .before .before .before .before .before .before .before .before .before .before .before .pool-lens .ensures .bytes
 
 slice-aggregate-store-used-18 : tie.Need-slice-aggregate-store-used-18
-slice-aggregate-store-used-18 c = taken (c .before .before .before .before .before .before .before .before .before .before .before .before .before .before .before .before .before .before .before .before .before .before .before .before .before .before .before .before .before .before .before .before .before .before .before .before .before .before .before .args .old .bytes) _ (c .before .before .before .before .before .before .before .before .before .before .before .before .before .before .before .before .before .before .before .before .before .before .before .before .before .before .before .before .before .before .before .before .before .before .before .before .before .before .pool-lens .ensures .bytes)
+slice-aggregate-store-used-18 c = taken (c .before .before .before .before .before .before .before .before .before .before .before .before .before .before .before .before .before .before .before .before .before .before .before .before .before .before .before .before .before .before .before .before .before .before .before .before .before .before .args .old .bytes) _ (c .before .before .before .before .before .before .before .before .before .before .before .before .before .before .before .before .before .before .before .before .before .before .before .before .before .before .before .before .before .before .before .before .before .before .before .before .before .pool-lens .ensures .bytes)
 
 array-borrow-prefix-books : tie.Need-array-borrow-prefix-books
-array-borrow-prefix-books c = c .before .before .before .before .before .before .before .before .before .before .before .before .before .before .before .before .before .before .before .before .before .before .before .before .before .before .before .before .before .before .before .before .before .before .before .before .before .before .pool-lens .ensures .books
+array-borrow-prefix-books c = c .before .before .before .before .before .before .before .before .before .before .before .before .before .before .before .before .before .before .before .before .before .before .before .before .before .before .before .before .before .before .before .before .before .before .before .before .before .pool-lens .ensures .books
 
 slice-aggregate-store-used-19 : tie.Need-slice-aggregate-store-used-19
-slice-aggregate-store-used-19 c = taken (c .before .before .before .before .before .before .before .before .before .before .before .before .before .before .before .before .before .before .before .before .before .before .before .before .before .before .before .before .before .before .before .before .before .before .before .before .before .before .before .before .args .old .books) _ (c .before .before .before .before .before .before .before .before .before .before .before .before .before .before .before .before .before .before .before .before .before .before .before .before .before .before .before .before .before .before .before .before .before .before .before .before .before .before .before .pool-lens .ensures .books)
+slice-aggregate-store-used-19 c = taken (c .before .before .before .before .before .before .before .before .before .before .before .before .before .before .before .before .before .before .before .before .before .before .before .before .before .before .before .before .before .before .before .before .before .before .before .before .before .before .before .args .old .books) _ (c .before .before .before .before .before .before .before .before .before .before .before .before .before .before .before .before .before .before .before .before .before .before .before .before .before .before .before .before .before .before .before .before .before .before .before .before .before .before .pool-lens .ensures .books)
 
 store-used-requires : tie.Need-store-used-requires
-store-used-requires c κs = c .before .before .before .before .before .before .before .before .before .before .before .before .before .before .before .before .before .before .before .before .before .before .before .before .before .before .before .before .before .before .before .before .before .before .before .before .before .before .within .ensures
+store-used-requires c κs = tt
 
 used-number-requires : tie.Need-used-number-requires
 used-number-requires c κs = tt
@@ -141,7 +138,6 @@ store-used-spec =
     tie.close
     (tie.spec
     pool-lens-requires
-    within-requires
     array-share-prefix-parent
     slice-aggregate-store-used
     array-share-prefix-depth
