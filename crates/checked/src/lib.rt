@@ -252,7 +252,8 @@ pub extern "C" fn scorebeetle_checked_store_insert(
         (now («pin_start» .entry)) (now («pin_end» .entry)) (now («pin_count» .entry)) (now (marks .exit)) (now (bytes .entry)) (now (books .exit)) in
         let lent = outList (now («out_node» .entry)) (now («out_start» .entry)) (now («out_end» .entry)) (now («out_write» .entry))
         (now («out_bytes» .entry)) (now («out_dead» .entry)) in
-        let left = outList (now («out_node» .exit)) (now («out_start» .exit)) (now («out_end» .exit)) (now («out_write» .exit)) (now («out_bytes» .exit))
+        let left = outList (now («out_node» .exit)) (now («out_start» .exit)) (now («out_end» .exit)) (now («out_write» .exit))
+        (now («out_bytes» .exit))
         (now («out_dead» .exit)) in
         Tells bringAt bringValues (storeInsert old lent s (record { node = on; start = from; end = upto }) time w) new left r (now (answer .entry))
         (now (answer .exit))
@@ -342,7 +343,7 @@ pub extern "C" fn scorebeetle_checked_store_used(
 {
     let count = exported::spans::count(on, from, upto);
     let spans = exported::spans::first_65(on, from, upto);
-    let r = usedarray::store_used(
+    let r = radix::store_used_array(
         parent,
         depth,
         len,
@@ -487,7 +488,8 @@ pub extern "C" fn scorebeetle_checked_store_expire(
         (now («pin_start» .entry)) (now («pin_end» .entry)) (now («pin_count» .entry)) (now (marks .exit)) (now (bytes .entry)) (now (books .exit)) in
         let lent = outList (now («out_node» .entry)) (now («out_start» .entry)) (now («out_end» .entry)) (now («out_write» .entry))
         (now («out_bytes» .entry)) (now («out_dead» .entry)) in
-        let left = outList (now («out_node» .exit)) (now («out_start» .exit)) (now («out_end» .exit)) (now («out_write» .exit)) (now («out_bytes» .exit))
+        let left = outList (now («out_node» .exit)) (now («out_start» .exit)) (now («out_end» .exit)) (now («out_write» .exit))
+        (now («out_bytes» .exit))
         (now («out_dead» .exit)) in
         Tells expireAt expireValues (storeExpire old lent s time seconds) new left r (now (answer .entry)) (now (answer .exit))
         ) ⌝ }
@@ -700,7 +702,8 @@ pub extern "C" fn scorebeetle_checked_lookup(
         (now («pin_start» .entry)) (now («pin_end» .entry)) (now («pin_count» .entry)) (now (marks .entry)) (now (bytes .entry)) (now (books .entry)) in
         let lent = listsOf (pathListOf (now («path_node» .entry)) (now («path_len» .entry))) (tierListOf (now («span_tier» .entry))
         (now («span_node» .entry)) (now («span_start» .entry)) (now («span_end» .entry))) in
-        let left = listsOf (pathListOf (now («path_node» .exit)) (now («path_len» .exit))) (tierListOf (now («span_tier» .exit)) (now («span_node» .exit))
+        let left = listsOf (pathListOf (now («path_node» .exit)) (now («path_len» .exit)))
+        (tierListOf (now («span_tier» .exit)) (now («span_node» .exit))
         (now («span_start» .exit)) (now («span_end» .exit))) in
         Tells lookupAt lookupValues (lookup st lent (now (tiers .entry)) (now (hashes .entry))) st left r (now (answer .entry)) (now (answer .exit))
         ) ⌝ }

@@ -14,7 +14,8 @@ ghost use mathlib.Core.Path.{_≡_};
 ghost use lib.Seq.{sets};
 ghost use Rattle.model.specs.Lookup.{sumsIn};
 ghost use Rattle.answers.specs.Answers.{plainOf, countOf, resolvedOf, insertedOf, storeInsertedOf, storeUsedOf, storeRemovedOf, storeExpiredOf, lookedOf};
-ghost use Rattle.exported.specs.Told.{numberOf, laid, countValues, resolveValues, insertValues, bringValues, touchValues, removeValues, expireValues, lookupValues};
+ghost use Rattle.exported.specs.Told.{numberOf, laid, countValues, resolveValues, insertValues};
+ghost use Rattle.exported.specs.Told.{bringValues, touchValues, removeValues, expireValues, lookupValues};
 
 pub fn plain(a: Plain) -> u8
     ensures { λ r. ⌜ r ≡ numberOf (plainOf a) ⌝ }

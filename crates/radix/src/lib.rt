@@ -38,3 +38,4 @@ pub use publicstore::store_remove;
 pub use publictree::resolve;
 pub use publicused::store_used;
 pub use setup::set_up;
+pub use usedarray::store_used_array;

@@ -178,7 +178,7 @@ pub fn store_used(
     let marks_long = lens.marks;
     let bytes_long = lens.bytes;
     let books_long = lens.books;
-    let r = usedarray::store_used(
+    let r = radix::store_used_array(
         &parent[..parent_long],
         &depth[..depth_long],
         &len[..len_long],

@@ -83,7 +83,7 @@ fn within(count: usize) -> usize
 }
 
 // Touches the first count spans, or all where count is more, in store s, in turn, and answers the bytes read; or refuses all of them.
-pub fn store_used(
+pub fn store_used_array(
     parent: &[usize],
     depth: &[usize],
     len: &[usize],

@@ -1,12 +1,12 @@
--- `usedarray::store_used` meets its contract: of 65 spans the first count are the first of them within 65. Assumes nothing.
+-- `usedarray::store_used_array` meets its contract: of 65 spans the first count are the first of them within 65. Assumes nothing.
 use mathlib.Core.Path.{_≡_, ap, _∙_}
 use native.Mathlib.Omega.{arith}
 use lib.ListN.{length}
 use Rattle.model.specs.Calls.{storeUsed}
 use Rattle.answers.specs.Answers.{stateFrom}
 use Rattle.usedarray.proofs.Laws.{take-within}
-use Rattle.usedarray.proofs.store_used.Statement.{statement}
-use Rattle.usedarray.proofs.store_used.Tie as tie
+use Rattle.usedarray.proofs.store_used_array.Statement.{statement}
+use Rattle.usedarray.proofs.store_used_array.Tie as tie
 
 within-requires : tie.Need-within-requires
 within-requires c κs = tt
@@ -48,8 +48,8 @@ returns c =
     let same = take-within (z .args .spans) (z .args .count) long (c .before .before .before .before .before .before .before .before .before .before .before .before .before .before .before .before .before .before .before .before .before .before .before .before .before .before .before .before .within .ensures) in
     c .before .before .before .before .before .before .before .before .before .before .before .before .before .before .before .before .before .before .first-used .ensures ∙ ap (λ sps. storeUsed (stateFrom (z .args .parent .now) (z .args .depth .now) (z .args .len .now) (z .args .run .now) (z .args .words .now) (z .args .node .now) (z .args .start .now) (z .args .end .now) (z .args .id .now) (z .args .stamp .now) (z .args .touched .now) (z .args .write .now) (z .args .pin-node .now) (z .args .pin-start .now) (z .args .pin-end .now) (z .args .pin-count .now) (z .args .marks .now) (z .args .bytes .now) (z .args .books .now)) (z .args .s) sps (z .args .time) (z .args .counted)) same
 
-pub store-used-spec : {M : Type 1} → statement M
-store-used-spec =
+pub store-used-array-spec : {M : Type 1} → statement M
+store-used-array-spec =
     tie.close
     (tie.spec
     within-requires
