@@ -1,12 +1,31 @@
 //! The public calls, which test the whole state first: each as the method of
-//! the same name. There is none for a touch; see `crates/checked`.
+//! the same name.
 
-use crate::radix::Radix;
+use crate::counters::Counter;
+use crate::radix::{Radix, SetUp};
 use crate::raw::call;
 use crate::refusal::{accepted, Answer};
 use crate::types::*;
 
 impl Radix {
+    /// It needs no sound state: whatever stands in the pools, it begins anew.
+    pub fn checked_set_up(
+        &mut self,
+        bytes: impl Fn(u32) -> u64,
+        stores: &[(u32, EvictionPolicy)],
+    ) -> Answer<()> {
+        let set = SetUp::of(bytes, stores);
+        accepted(call!(
+            self.scorebeetle_checked_set_up,
+            set.table.as_ptr(),
+            set.table.len(),
+            set.capacity.as_ptr(),
+            set.capacity.len(),
+            set.refreshes.as_ptr(),
+            set.refreshes.len(),
+        ))
+    }
+
     pub fn checked_resolve(&mut self, hashes: &[u64]) -> Answer<Path> {
         accepted(call!(
             self.scorebeetle_checked_resolve[path_node, path_len] answer,
@@ -43,6 +62,37 @@ impl Radix {
             write_id.unwrap_or(0),
         ))?;
         Ok(self.lists.given_out())
+    }
+
+    pub fn checked_store_promoted(&mut self, s: StoreId, spans: &[Span], now: f64) -> Answer<u64> {
+        self.checked_store_used(s, spans, now, true)
+    }
+
+    pub fn checked_store_touched(&mut self, s: StoreId, spans: &[Span], now: f64) -> Answer<()> {
+        self.checked_store_used(s, spans, now, false).map(|_| ())
+    }
+
+    fn checked_store_used(
+        &mut self,
+        s: StoreId,
+        spans: &[Span],
+        now: f64,
+        read: bool,
+    ) -> Answer<u64> {
+        self.spans.read(spans);
+        accepted(call!(
+            self.scorebeetle_checked_store_used[] answer,
+            s,
+            self.spans.node.as_ptr(),
+            self.spans.node.len(),
+            self.spans.start.as_ptr(),
+            self.spans.start.len(),
+            self.spans.end.as_ptr(),
+            self.spans.end.len(),
+            now,
+            read,
+        ))?;
+        Ok(self.lists.answer[0])
     }
 
     pub fn checked_store_remove(&mut self, s: StoreId, span: Span) -> Answer<Vec<u32>> {
@@ -105,32 +155,152 @@ impl Radix {
         ))?;
         Ok(self.lists.looked_up(tiers))
     }
+
+    fn checked_counter(&mut self, which: Counter, s: StoreId) -> Answer<u64> {
+        accepted(call!(self.scorebeetle_checked_counter[] answer, which as u8, s))?;
+        Ok(self.lists.answer[0])
+    }
+
+    pub fn checked_store_held_blocks(&mut self, s: StoreId) -> Answer<u32> {
+        Ok(self.checked_counter(Counter::Held, s)? as u32)
+    }
+
+    pub fn checked_store_capacity_blocks(&mut self, s: StoreId) -> Answer<u32> {
+        Ok(self.checked_counter(Counter::Capacity, s)? as u32)
+    }
+
+    pub fn checked_store_pinned_blocks(&mut self, s: StoreId) -> Answer<u32> {
+        Ok(self.checked_counter(Counter::Pinned, s)? as u32)
+    }
+
+    pub fn checked_store_available_for_stage(&mut self, s: StoreId) -> Answer<u64> {
+        self.checked_counter(Counter::Available, s)
+    }
+
+    pub fn checked_source_version(&mut self, source: TierSource) -> Answer<u64> {
+        let TierSource::Store(s) = source;
+        self.checked_counter(Counter::Version, s)
+    }
+
+    pub fn checked_pin_stalls(&mut self) -> Answer<u64> {
+        self.checked_counter(Counter::Stalls, 0)
+    }
 }
 
 #[cfg(test)]
 mod tests {
     use super::*;
+    use crate::lists::ANSWER;
+    use crate::refusal::Refusal;
+
+    const SPAN: Span = Span {
+        node: 1,
+        start: 0,
+        end: 2,
+    };
+
+    /// Two stores, and a list in the tree.
+    fn small() -> Radix {
+        let stores = [(4, EvictionPolicy::Refresh), (2, EvictionPolicy::Fifo)];
+        let mut radix = Radix::new(|k| k as u64, &stores).unwrap();
+        radix.insert(&[1, 2, 3]).unwrap();
+        radix
+    }
+
+    /// The six counters, those of a store of store 0.
+    fn counters(radix: &mut Radix) -> [Answer<u64>; 6] {
+        [
+            radix.checked_store_held_blocks(0).map(u64::from),
+            radix.checked_store_capacity_blocks(0).map(u64::from),
+            radix.checked_store_pinned_blocks(0).map(u64::from),
+            radix.checked_store_available_for_stage(0),
+            radix.checked_source_version(TierSource::Store(0)),
+            radix.checked_pin_stalls(),
+        ]
+    }
+
+    #[test]
+    fn a_state_that_is_not_sound_is_refused() {
+        let mut radix = small();
+        radix.pools.depth[0] = 1;
+        assert!(!radix.sound_state());
+        assert_eq!(counters(&mut radix), [Err(Refusal::NotSound); 6]);
+        let spans = [SPAN; 65];
+        for count in [1, 64, 65] {
+            assert_eq!(
+                radix.checked_store_promoted(9, &spans[..count], 0.0),
+                Err(Refusal::NotSound)
+            );
+        }
+        radix
+            .checked_set_up(|k| k as u64, &[(4, EvictionPolicy::Fifo)])
+            .unwrap();
+        assert!(radix.sound_state());
+        assert_eq!(radix.checked_store_capacity_blocks(0), Ok(4));
+    }
+
+    /// A refusal leaves every place of the answer, and an answer every place
+    /// behind its values.
+    #[test]
+    fn places_of_the_answer() {
+        let mut radix = small();
+        let sevens = [7; ANSWER];
+        radix.lists.answer = sevens;
+        assert!(radix.checked_store_promoted(9, &[SPAN], 0.0).is_err());
+        assert!(radix.checked_store_held_blocks(9).is_err());
+        assert!(radix.checked_resolve(&[0; 1025]).is_err());
+        assert!(radix.checked_lookup(&[9], &[1]).is_err());
+        assert!(radix.checked_store_expire(9, 0.0, 0.0).is_err());
+        assert!(radix.resolve(&[0; 1025]).is_err());
+        assert_eq!(radix.lists.answer, sevens);
+        assert_eq!(radix.checked_store_capacity_blocks(0), Ok(4));
+        assert_eq!(radix.lists.answer[0], 4);
+        assert_eq!(radix.checked_store_promoted(0, &[SPAN], 0.0), Ok(0));
+        assert_eq!(radix.lists.answer[0], 0);
+        assert_eq!(radix.lists.answer[1..], sevens[1..]);
+    }
+
+    /// Of three lists that differ in length the spans are as many as the
+    /// shortest has.
+    #[test]
+    fn the_shortest_list_counts() {
+        let mut radix = small();
+        radix.store_insert(0, SPAN, None, 0.0).unwrap();
+        let (on, from, upto) = ([1, 9, 9], [0, 0], [2]);
+        for (ons, froms, uptos, bytes) in [(3, 2, 1, 2), (1, 2, 1, 2), (0, 2, 1, 0), (3, 0, 1, 0)] {
+            let (a, b, c) = (&on[..ons], &from[..froms], &upto[..uptos]);
+            let r = &mut radix;
+            let number = call!(
+                r.scorebeetle_checked_store_used[] answer,
+                0, a.as_ptr(), a.len(), b.as_ptr(), b.len(), c.as_ptr(), c.len(), 1.0, true,
+            );
+            assert_eq!((number, radix.lists.answer[0]), (0, bytes));
+            let r = &mut radix;
+            let number = call!(
+                r.scorebeetle_store_used[] answer,
+                0, a.as_ptr(), a.len(), b.as_ptr(), b.len(), c.as_ptr(), c.len(), 1.0, true,
+            );
+            assert_eq!((number, radix.lists.answer[0]), (0, bytes));
+        }
+    }
 
     /// Whatever stands in the books, at a place that counts or at one that
     /// doesn't, a refused call leaves it: no store has the number 9.
     #[test]
     fn a_refusal_changes_no_number_of_the_books() {
-        let stores = [(4, EvictionPolicy::Refresh), (2, EvictionPolicy::Fifo)];
-        let span = Span {
-            node: 1,
-            start: 0,
-            end: 2,
-        };
         let mut tried = 0;
         for place in 0..crate::pools::BOOKS {
             for number in [0, 1, 2, 3, 1 << 48, u64::MAX] {
-                let mut radix = Radix::new(|k| k as u64, &stores).unwrap();
-                radix.insert(&[1, 2, 3]).unwrap();
+                let mut radix = small();
                 radix.pools.books[place] = number;
                 let before = radix.pools.books;
-                assert!(radix.checked_pin_source(TierSource::Store(9), span).is_err());
-                assert!(radix.checked_store_insert(9, span, None, 0.0).is_err());
-                assert!(radix.checked_store_remove(9, span).is_err());
+                assert!(radix
+                    .checked_pin_source(TierSource::Store(9), SPAN)
+                    .is_err());
+                assert!(radix.checked_store_insert(9, SPAN, None, 0.0).is_err());
+                assert!(radix.checked_store_remove(9, SPAN).is_err());
+                assert!(radix.checked_store_promoted(9, &[SPAN], 0.0).is_err());
+                assert!(radix.checked_store_held_blocks(9).is_err());
                 assert_eq!(radix.pools.books, before, "place {place}, number {number}");
                 tried += 1;
             }

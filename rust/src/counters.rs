@@ -9,7 +9,7 @@ use crate::types::*;
 /// The counters by the library's numbers.
 #[derive(Clone, Copy)]
 #[repr(u8)]
-enum Counter {
+pub(crate) enum Counter {
     Held = 0,
     Capacity = 1,
     Pinned = 2,

@@ -9,7 +9,26 @@ use crate::types::*;
 pub struct Radix {
     pub(crate) pools: Box<Pools>,
     pub(crate) lists: Box<Lists>,
-    spans: Spans,
+    pub(crate) spans: Spans,
+}
+
+/// What a set-up is handed: the byte table, and for each store its capacity and
+/// whether it refreshes on use.
+pub(crate) struct SetUp {
+    pub table: [u64; TABLE],
+    pub capacity: Vec<u64>,
+    pub refreshes: Vec<bool>,
+}
+
+impl SetUp {
+    pub fn of(bytes: impl Fn(u32) -> u64, stores: &[(u32, EvictionPolicy)]) -> Self {
+        let refreshes = stores.iter().map(|s| s.1 == EvictionPolicy::Refresh);
+        Self {
+            table: std::array::from_fn(|k| bytes(k as u32)),
+            capacity: stores.iter().map(|s| s.0 as u64).collect(),
+            refreshes: refreshes.collect(),
+        }
+    }
 }
 
 impl Radix {
@@ -31,18 +50,15 @@ impl Radix {
         bytes: impl Fn(u32) -> u64,
         stores: &[(u32, EvictionPolicy)],
     ) -> Answer<()> {
-        let table: [u64; TABLE] = std::array::from_fn(|k| bytes(k as u32));
-        let capacity: Vec<u64> = stores.iter().map(|s| s.0 as u64).collect();
-        let refreshes = stores.iter().map(|s| s.1 == EvictionPolicy::Refresh);
-        let refreshes: Vec<bool> = refreshes.collect();
+        let set = SetUp::of(bytes, stores);
         accepted(call!(
             self.scorebeetle_set_up,
-            table.as_ptr(),
-            table.len(),
-            capacity.as_ptr(),
-            capacity.len(),
-            refreshes.as_ptr(),
-            refreshes.len(),
+            set.table.as_ptr(),
+            set.table.len(),
+            set.capacity.as_ptr(),
+            set.capacity.len(),
+            set.refreshes.as_ptr(),
+            set.refreshes.len(),
         ))
     }
 

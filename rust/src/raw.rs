@@ -149,6 +149,11 @@ exported! {
         hashes: *const u64, count: usize,
     ) -> u8;
     scorebeetle_sound_state() -> bool;
+    scorebeetle_checked_set_up(
+        table: *const u64, tables: usize,
+        capacity: *const u64, capacities: usize,
+        refreshes: *const bool, policies: usize,
+    ) -> u8;
     scorebeetle_checked_resolve(
         path_node: *mut usize, path_nodes: usize,
         path_len: *mut usize, path_lens: usize,
@@ -170,6 +175,14 @@ exported! {
         out_dead: *mut u64, out_dead_count: usize,
         answer: *mut u64,
         s: usize, on: usize, from: usize, upto: usize, time: f64, w: u32,
+    ) -> u8;
+    scorebeetle_checked_store_used(
+        answer: *mut u64,
+        s: usize,
+        on: *const usize, ons: usize,
+        from: *const usize, froms: usize,
+        upto: *const usize, uptos: usize,
+        time: f64, counted: bool,
     ) -> u8;
     scorebeetle_checked_store_remove(
         list: *mut u32, places: usize,
@@ -203,6 +216,7 @@ exported! {
         tiers: *const usize, tier_count: usize,
         hashes: *const u64, count: usize,
     ) -> u8;
+    scorebeetle_checked_counter(answer: *mut u64, which: u8, s: usize) -> u8;
 }
 
 extern "C" {

@@ -145,16 +145,46 @@ fn examples_of_touch_and_lookup() {
     assert_eq!(found.tier_bytes, [0, 400]);
 }
 
+/// The six counters of a store, from the calls with soundness known and from
+/// the public ones.
+fn counters(a: &Radix, b: &mut Radix, s: usize) -> [[Result<u64, Refusal>; 6]; 2] {
+    let store = TierSource::Store(s);
+    let known = [
+        a.store_held_blocks(s).map(u64::from),
+        a.store_capacity_blocks(s).map(u64::from),
+        a.store_pinned_blocks(s).map(u64::from),
+        a.store_available_for_stage(s),
+        a.source_version(store),
+        Ok(a.pin_stalls()),
+    ];
+    let checked = [
+        b.checked_store_held_blocks(s).map(u64::from),
+        b.checked_store_capacity_blocks(s).map(u64::from),
+        b.checked_store_pinned_blocks(s).map(u64::from),
+        b.checked_store_available_for_stage(s),
+        b.checked_source_version(store),
+        b.checked_pin_stalls(),
+    ];
+    [known, checked]
+}
+
 /// The public calls answer as those with soundness known.
 #[test]
 fn checked_calls_answer_the_same() {
     let mut known = Radix::new(mix::bytes, &mix::STORES).unwrap();
     let mut checked = Radix::new(mix::bytes, &mix::STORES).unwrap();
-    for call in mix::calls(5, mix::PER_SET_UP) {
+    let calls = mix::calls(5, 2 * mix::PER_SET_UP);
+    for kind in 0..mix::KINDS.len() {
+        assert!(calls.iter().any(|c| c.kind() == kind));
+    }
+    for call in calls {
         let (a, b) = (&mut known, &mut checked);
         let store = |s: &usize| TierSource::Store(*s);
         match &call {
-            Call::SetUp => {}
+            Call::SetUp => assert_eq!(
+                a.set_up(mix::bytes, &mix::STORES),
+                b.checked_set_up(mix::bytes, &mix::STORES)
+            ),
             Call::Insert(list, _) => assert_eq!(a.insert(list), b.checked_insert(list)),
             Call::Resolve(list) => assert_eq!(a.resolve(list), b.checked_resolve(list)),
             Call::Lookup(t, list) => assert_eq!(
@@ -167,11 +197,11 @@ fn checked_calls_answer_the_same() {
             ),
             Call::Promoted(s, spans, at) => assert_eq!(
                 a.store_promoted(*s, spans, *at),
-                b.store_promoted(*s, spans, *at)
+                b.checked_store_promoted(*s, spans, *at)
             ),
             Call::Touched(s, spans, at) => assert_eq!(
                 a.store_touched(*s, spans, *at),
-                b.store_touched(*s, spans, *at)
+                b.checked_store_touched(*s, spans, *at)
             ),
             Call::StoreRemove(s, span) => {
                 assert_eq!(a.store_remove(*s, *span), b.checked_store_remove(*s, *span))
@@ -189,5 +219,50 @@ fn checked_calls_answer_the_same() {
                 b.checked_unpin_source(store(s), *span)
             ),
         }
+        for s in [0, 1, 2] {
+            let [a, b] = counters(&known, &mut checked, s);
+            assert_eq!(a, b);
+            assert_eq!(a[0].is_err(), s == 2);
+        }
     }
+}
+
+/// And they refuse the same.
+#[test]
+fn checked_calls_refuse_the_same() {
+    let mut known = Radix::new(mix::bytes, &mix::STORES).unwrap();
+    let mut checked = Radix::new(mix::bytes, &mix::STORES).unwrap();
+    let (a, b) = (&mut known, &mut checked);
+    assert_eq!(a.insert(&[1, 2, 3]), b.checked_insert(&[1, 2, 3]));
+    let span = Span {
+        node: 1,
+        start: 0,
+        end: 3,
+    };
+    let past = Span { end: 4, ..span };
+    let touches = [
+        (0, vec![span; 65], 0.0, Err(Refusal::TooMany)),
+        (0, vec![past; 80], 0.0, Err(Refusal::TooMany)),
+        (2, vec![span; 65], 0.0, Err(Refusal::NoSuchStore)),
+        (2, vec![past], 0.0, Err(Refusal::NoSuchStore)),
+        (0, vec![span, past], 0.0, Err(Refusal::NoSuchSpan)),
+        (0, vec![span], f64::NAN, Err(Refusal::NotFinite)),
+        (0, vec![span; 64], 0.0, Ok(0)),
+        (0, vec![], 0.0, Ok(0)),
+    ];
+    for (s, spans, at, answer) in touches {
+        assert_eq!(a.store_promoted(s, &spans, at), answer);
+        assert_eq!(b.checked_store_promoted(s, &spans, at), answer);
+        assert_eq!(b.checked_store_touched(s, &spans, at), answer.map(|_| ()));
+    }
+    let [a, b] = counters(&known, &mut checked, 2);
+    assert_eq!(a, b);
+    assert_eq!(a[..5], [Err(Refusal::NoSuchStore); 5]);
+    for stores in [vec![], vec![(1, EvictionPolicy::Fifo); 9]] {
+        let answer = Err(Refusal::OutsideTheRules);
+        assert_eq!(known.set_up(mix::bytes, &stores), answer);
+        assert_eq!(checked.checked_set_up(mix::bytes, &stores), answer);
+    }
+    assert!(checked.sound_state());
+    assert_eq!(known.resolve(&[1, 2]), checked.checked_resolve(&[1, 2]));
 }

@@ -102,8 +102,8 @@ lookupValues v = v .path .segs ∷ v .path .blocks ∷ v .spans ∷ (sumsIn (v .
 
 -- ---- what an exported call leaves
 
--- With state, lists and number there are the call's outcome, and each of the list's places is known: on a refusal all are as they were, else the values
--- stand in front and the rest is as it was.
+-- State and answer lists, and the answer that number and list tell, are the call's outcome o. Each place of the list is known: on a refusal all are as
+-- they were, else the values stand in front and the rest is as it was.
 pub record Tells {L A : Type 0} (read : List ℕ → A) (values : A → List ℕ) (o : Outcome L A) (st : State) (l : L) (r : ℕ) (before after : List ℕ) : Type 0 where
   pub says : outcome st l (told read r after) ≡ o
   pub places : after ≡ laid values (o .answer) before
