@@ -111,6 +111,8 @@ def clause(line):
 
 
 def main():
+    if len(sys.argv) < 2:
+        sys.exit(__doc__.strip())
     left = 0
     for name in sys.argv[1:]:
         with open(name, encoding='utf-8') as f:
@@ -127,4 +129,5 @@ def main():
         print(f'{left} lines are longer than {WIDTH} bytes still')
 
 
-main()
+if __name__ == '__main__':
+    main()

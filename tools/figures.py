@@ -37,5 +37,5 @@ def main():
         print(f'| {crate} | ' + ' | '.join(f'{n:,}' for n in row) + ' |')
 
 
-if __name__ == "__main__":
+if __name__ == '__main__':
     main()

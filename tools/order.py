@@ -62,5 +62,5 @@ def main():
         f.write(text)
 
 
-if __name__ == "__main__":
+if __name__ == '__main__':
     main()
