@@ -45,9 +45,8 @@ pub fn tick() -> f64 {
     start.elapsed().as_nanos() as f64 / (ticks() - from) as f64
 }
 
-/// The public calls, which test the state first. A touch takes a lent list of
-/// spans there, which is not exported: it is timed as the whole test and the
-/// call, which is what the public call does.
+/// The public calls, which test the state first. A touch is timed as the whole
+/// test and the call with soundness known, which is what the public call does.
 struct Public(Ours);
 
 impl Side for Public {
