@@ -2,9 +2,8 @@
 //! the same name.
 
 use crate::counters::Counter;
-use crate::radix::{Radix, SetUp};
-use crate::raw::call;
-use crate::refusal::{accepted, Answer};
+use crate::radix::Radix;
+use crate::refusal::Answer;
 use crate::types::*;
 
 impl Radix {
@@ -14,34 +13,15 @@ impl Radix {
         bytes: impl Fn(u32) -> u64,
         stores: &[(u32, EvictionPolicy)],
     ) -> Answer<()> {
-        let set = SetUp::of(bytes, stores);
-        accepted(call!(
-            self.scorebeetle_checked_set_up,
-            set.table.as_ptr(),
-            set.table.len(),
-            set.capacity.as_ptr(),
-            set.capacity.len(),
-            set.refreshes.as_ptr(),
-            set.refreshes.len(),
-        ))
+        self.set_up(bytes, stores)
     }
 
     pub fn checked_resolve(&mut self, hashes: &[u64]) -> Answer<Path> {
-        accepted(call!(
-            self.scorebeetle_checked_resolve[path_node, path_len] answer,
-            hashes.as_ptr(),
-            hashes.len(),
-        ))?;
-        Ok(self.lists.path())
+        self.call_resolve(false, hashes)
     }
 
     pub fn checked_insert(&mut self, hashes: &[u64]) -> Answer<Path> {
-        accepted(call!(
-            self.scorebeetle_checked_insert[path_node, path_len] answer,
-            hashes.as_ptr(),
-            hashes.len(),
-        ))?;
-        Ok(self.lists.path())
+        Ok(self.call_insert(false, hashes)?.0)
     }
 
     pub fn checked_store_insert(
@@ -51,59 +31,20 @@ impl Radix {
         write_id: Option<u32>,
         now: f64,
     ) -> Answer<Vec<TierEvicted>> {
-        accepted(call!(
-            self.scorebeetle_checked_store_insert
-                [out_node, out_start, out_end, out_write, out_bytes, out_dead] answer,
-            s,
-            span.node as usize,
-            span.start as usize,
-            span.end as usize,
-            now,
-            write_id.unwrap_or(0),
-        ))?;
-        Ok(self.lists.given_out())
+        self.call_store_insert(false, s, span, write_id, now)
     }
 
     pub fn checked_store_promoted(&mut self, s: StoreId, spans: &[Span], now: f64) -> Answer<u64> {
-        self.checked_store_used(s, spans, now, true)
+        self.call_store_used(false, s, spans, now, true)
     }
 
     pub fn checked_store_touched(&mut self, s: StoreId, spans: &[Span], now: f64) -> Answer<()> {
-        self.checked_store_used(s, spans, now, false).map(|_| ())
-    }
-
-    fn checked_store_used(
-        &mut self,
-        s: StoreId,
-        spans: &[Span],
-        now: f64,
-        read: bool,
-    ) -> Answer<u64> {
-        self.spans.read(spans);
-        accepted(call!(
-            self.scorebeetle_checked_store_used[] answer,
-            s,
-            self.spans.node.as_ptr(),
-            self.spans.node.len(),
-            self.spans.start.as_ptr(),
-            self.spans.start.len(),
-            self.spans.end.as_ptr(),
-            self.spans.end.len(),
-            now,
-            read,
-        ))?;
-        Ok(self.lists.answer[0])
+        self.call_store_used(false, s, spans, now, false)
+            .map(|_| ())
     }
 
     pub fn checked_store_remove(&mut self, s: StoreId, span: Span) -> Answer<Vec<u32>> {
-        accepted(call!(
-            self.scorebeetle_checked_store_remove[writes] answer,
-            s,
-            span.node as usize,
-            span.start as usize,
-            span.end as usize,
-        ))?;
-        Ok(self.lists.writes())
+        self.call_store_remove(false, s, span)
     }
 
     pub fn checked_store_expire(
@@ -112,78 +53,44 @@ impl Radix {
         now: f64,
         seconds: f64,
     ) -> Answer<Vec<TierEvicted>> {
-        accepted(call!(
-            self.scorebeetle_checked_store_expire
-                [out_node, out_start, out_end, out_write, out_bytes, out_dead] answer,
-            s,
-            now,
-            seconds,
-        ))?;
-        Ok(self.lists.given_out())
+        self.call_store_expire(false, s, now, seconds)
     }
 
     pub fn checked_pin_source(&mut self, source: TierSource, span: Span) -> Answer<()> {
-        let TierSource::Store(s) = source;
-        accepted(call!(
-            self.scorebeetle_checked_pin_source,
-            s,
-            span.node as usize,
-            span.start as usize,
-            span.end as usize,
-        ))
+        self.call_pin_source(false, source, span)
     }
 
     pub fn checked_unpin_source(&mut self, source: TierSource, span: Span) -> Answer<()> {
-        let TierSource::Store(s) = source;
-        accepted(call!(
-            self.scorebeetle_checked_unpin_source,
-            s,
-            span.node as usize,
-            span.start as usize,
-            span.end as usize,
-        ))
+        self.call_unpin_source(false, source, span)
     }
 
     pub fn checked_lookup(&mut self, tiers: &[StoreId], hashes: &[u64]) -> Answer<HbmLookup> {
-        accepted(call!(
-            self.scorebeetle_checked_lookup
-                [path_node, path_len, span_tier, span_node, span_start, span_end] answer,
-            tiers.as_ptr(),
-            tiers.len(),
-            hashes.as_ptr(),
-            hashes.len(),
-        ))?;
-        Ok(self.lists.looked_up(tiers))
+        self.call_lookup(false, tiers, hashes)
     }
 
-    fn checked_counter(&mut self, which: Counter, s: StoreId) -> Answer<u64> {
-        accepted(call!(self.scorebeetle_checked_counter[] answer, which as u8, s))?;
-        Ok(self.lists.answer[0])
+    pub fn checked_store_held_blocks(&self, s: StoreId) -> Answer<u32> {
+        Ok(self.call_counter(false, Counter::Held, s)? as u32)
     }
 
-    pub fn checked_store_held_blocks(&mut self, s: StoreId) -> Answer<u32> {
-        Ok(self.checked_counter(Counter::Held, s)? as u32)
+    pub fn checked_store_capacity_blocks(&self, s: StoreId) -> Answer<u32> {
+        Ok(self.call_counter(false, Counter::Capacity, s)? as u32)
     }
 
-    pub fn checked_store_capacity_blocks(&mut self, s: StoreId) -> Answer<u32> {
-        Ok(self.checked_counter(Counter::Capacity, s)? as u32)
+    pub fn checked_store_pinned_blocks(&self, s: StoreId) -> Answer<u32> {
+        Ok(self.call_counter(false, Counter::Pinned, s)? as u32)
     }
 
-    pub fn checked_store_pinned_blocks(&mut self, s: StoreId) -> Answer<u32> {
-        Ok(self.checked_counter(Counter::Pinned, s)? as u32)
+    pub fn checked_store_available_for_stage(&self, s: StoreId) -> Answer<u64> {
+        self.call_counter(false, Counter::Available, s)
     }
 
-    pub fn checked_store_available_for_stage(&mut self, s: StoreId) -> Answer<u64> {
-        self.checked_counter(Counter::Available, s)
-    }
-
-    pub fn checked_source_version(&mut self, source: TierSource) -> Answer<u64> {
+    pub fn checked_source_version(&self, source: TierSource) -> Answer<u64> {
         let TierSource::Store(s) = source;
-        self.checked_counter(Counter::Version, s)
+        self.call_counter(false, Counter::Version, s)
     }
 
-    pub fn checked_pin_stalls(&mut self) -> Answer<u64> {
-        self.checked_counter(Counter::Stalls, 0)
+    pub fn checked_pin_stalls(&self) -> Answer<u64> {
+        self.call_counter(false, Counter::Stalls, 0)
     }
 }
 
@@ -191,6 +98,7 @@ impl Radix {
 mod tests {
     use super::*;
     use crate::lists::ANSWER;
+    use crate::raw::call;
     use crate::refusal::Refusal;
 
     const SPAN: Span = Span {
@@ -244,16 +152,20 @@ mod tests {
     #[test]
     fn places_of_the_answer() {
         let mut radix = small();
+        let capacity = |r: &mut Radix, s: StoreId| {
+            let which = Counter::Capacity as u8;
+            call!(r.scorebeetle_counter[] answer, false, which, s)
+        };
         let sevens = [7; ANSWER];
         radix.lists.answer = sevens;
         assert!(radix.checked_store_promoted(9, &[SPAN], 0.0).is_err());
-        assert!(radix.checked_store_held_blocks(9).is_err());
+        assert_ne!(capacity(&mut radix, 9), 0);
         assert!(radix.checked_resolve(&[0; 1025]).is_err());
         assert!(radix.checked_lookup(&[9], &[1]).is_err());
         assert!(radix.checked_store_expire(9, 0.0, 0.0).is_err());
         assert!(radix.resolve(&[0; 1025]).is_err());
         assert_eq!(radix.lists.answer, sevens);
-        assert_eq!(radix.checked_store_capacity_blocks(0), Ok(4));
+        assert_eq!(capacity(&mut radix, 0), 0);
         assert_eq!(radix.lists.answer[0], 4);
         assert_eq!(radix.checked_store_promoted(0, &[SPAN], 0.0), Ok(0));
         assert_eq!(radix.lists.answer[0], 0);
@@ -269,18 +181,14 @@ mod tests {
         let (on, from, upto) = ([1, 9, 9], [0, 0], [2]);
         for (ons, froms, uptos, bytes) in [(3, 2, 1, 2), (1, 2, 1, 2), (0, 2, 1, 0), (3, 0, 1, 0)] {
             let (a, b, c) = (&on[..ons], &from[..froms], &upto[..uptos]);
-            let r = &mut radix;
-            let number = call!(
-                r.scorebeetle_checked_store_used[] answer,
-                0, a.as_ptr(), a.len(), b.as_ptr(), b.len(), c.as_ptr(), c.len(), 1.0, true,
-            );
-            assert_eq!((number, radix.lists.answer[0]), (0, bytes));
-            let r = &mut radix;
-            let number = call!(
-                r.scorebeetle_store_used[] answer,
-                0, a.as_ptr(), a.len(), b.as_ptr(), b.len(), c.as_ptr(), c.len(), 1.0, true,
-            );
-            assert_eq!((number, radix.lists.answer[0]), (0, bytes));
+            for known in [false, true] {
+                let r = &mut radix;
+                let number = call!(
+                    r.scorebeetle_store_used[] answer,
+                    known, 0, a.as_ptr(), a.len(), b.as_ptr(), b.len(), c.as_ptr(), c.len(), 1.0, true,
+                );
+                assert_eq!((number, radix.lists.answer[0]), (0, bytes));
+            }
         }
     }
 

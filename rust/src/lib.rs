@@ -6,6 +6,7 @@
 //! library's functions, each of which keeps the state sound, so that no call
 //! has to test it.
 
+mod calls;
 mod checked;
 mod counters;
 mod lists;

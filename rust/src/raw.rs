@@ -1,5 +1,6 @@
 //! The exported functions as they are. A slice is a pointer and a length; the
-//! nineteen columns always come first, in the order of `Pools`.
+//! nineteen columns always come first, in the order of `Pools`. `known` says
+//! that the state is known to be sound; else it is tested.
 
 /// Declares functions whose parameters begin with the columns.
 macro_rules! exported {
@@ -33,44 +34,43 @@ macro_rules! exported {
 
 /// Calls one of them on a `Radix`: the columns, the answer lists named in
 /// brackets, the answer's values where there are some, then the arguments.
+/// `shared` is for one that changes no column.
 macro_rules! call {
-    ($radix:ident.$name:ident, $($arg:expr),* $(,)?) => {
-        crate::raw::call!(@ $radix $name [] [] $($arg),*)
+    ($radix:ident.$name:ident $([$($list:ident),*] $answer:ident)? $(, $arg:expr)* $(,)?) => {
+        crate::raw::call!(@ as_mut_ptr $radix $name [$($($list)*)?] [$($answer)?] $($arg),*)
     };
-    ($radix:ident.$name:ident) => {
-        crate::raw::call!(@ $radix $name [] [])
+    (shared $radix:ident.$name:ident $(, $arg:expr)* $(,)?) => {
+        crate::raw::call!(@ as_ptr $radix $name [] [] $($arg),*)
     };
-    ($radix:ident.$name:ident[$($list:ident),*] answer, $($arg:expr),* $(,)?) => {
-        crate::raw::call!(@ $radix $name [$($list)*] [answer] $($arg),*)
-    };
-    (@ $radix:ident $name:ident [$($list:ident)*] [$($answer:ident)?] $($arg:expr),*) => {{
+    (@ $pointer:ident $radix:ident $name:ident [$($list:ident)*] [$($answer:ident)?] $($arg:expr),*) => {{
         #[allow(unused_variables)]
         let crate::radix::Radix { pools: p, lists, .. } = $radix;
         // SAFETY: the pools and lists are this `Radix`'s own, as long as their
-        // arrays, and lent to this call alone; the state in them was set up by
-        // the library and changed by its functions only, so it is as their
-        // contracts ask.
+        // arrays, and lent to this call alone, or shared with a function that
+        // only reads them; the state in them was set up by the library and
+        // changed by its functions only, so it is as their contracts ask where
+        // it is said to be known.
         unsafe {
             crate::raw::$name(
-                p.parent.as_mut_ptr(), p.parent.len(),
-                p.depth.as_mut_ptr(), p.depth.len(),
-                p.len.as_mut_ptr(), p.len.len(),
-                p.run.as_mut_ptr(), p.run.len(),
-                p.words.as_mut_ptr(), p.words.len(),
-                p.node.as_mut_ptr(), p.node.len(),
-                p.start.as_mut_ptr(), p.start.len(),
-                p.end.as_mut_ptr(), p.end.len(),
-                p.id.as_mut_ptr(), p.id.len(),
-                p.stamp.as_mut_ptr(), p.stamp.len(),
-                p.touched.as_mut_ptr(), p.touched.len(),
-                p.write.as_mut_ptr(), p.write.len(),
-                p.pin_node.as_mut_ptr(), p.pin_node.len(),
-                p.pin_start.as_mut_ptr(), p.pin_start.len(),
-                p.pin_end.as_mut_ptr(), p.pin_end.len(),
-                p.pin_count.as_mut_ptr(), p.pin_count.len(),
-                p.marks.as_mut_ptr(), p.marks.len(),
-                p.bytes.as_mut_ptr(), p.bytes.len(),
-                p.books.as_mut_ptr(), p.books.len(),
+                p.parent.$pointer() as *mut _, p.parent.len(),
+                p.depth.$pointer() as *mut _, p.depth.len(),
+                p.len.$pointer() as *mut _, p.len.len(),
+                p.run.$pointer() as *mut _, p.run.len(),
+                p.words.$pointer() as *mut _, p.words.len(),
+                p.node.$pointer() as *mut _, p.node.len(),
+                p.start.$pointer() as *mut _, p.start.len(),
+                p.end.$pointer() as *mut _, p.end.len(),
+                p.id.$pointer() as *mut _, p.id.len(),
+                p.stamp.$pointer() as *mut _, p.stamp.len(),
+                p.touched.$pointer() as *mut _, p.touched.len(),
+                p.write.$pointer() as *mut _, p.write.len(),
+                p.pin_node.$pointer() as *mut _, p.pin_node.len(),
+                p.pin_start.$pointer() as *mut _, p.pin_start.len(),
+                p.pin_end.$pointer() as *mut _, p.pin_end.len(),
+                p.pin_count.$pointer() as *mut _, p.pin_count.len(),
+                p.marks.$pointer() as *mut _, p.marks.len(),
+                p.bytes.$pointer() as *mut _, p.bytes.len(),
+                p.books.$pointer() as *mut _, p.books.len(),
                 $(lists.$list.as_mut_ptr(), lists.$list.len(),)*
                 $(lists.$answer.as_mut_ptr(),)?
                 $($arg),*
@@ -89,13 +89,13 @@ exported! {
     scorebeetle_resolve(
         path_node: *mut usize, path_nodes: usize,
         path_len: *mut usize, path_lens: usize,
-        answer: *mut u64,
+        answer: *mut u64, known: bool,
         hashes: *const u64, count: usize,
     ) -> u8;
     scorebeetle_insert(
         path_node: *mut usize, path_nodes: usize,
         path_len: *mut usize, path_lens: usize,
-        answer: *mut u64,
+        answer: *mut u64, known: bool,
         hashes: *const u64, count: usize,
     ) -> u8;
     scorebeetle_store_insert(
@@ -105,11 +105,11 @@ exported! {
         out_write: *mut u32, out_writes: usize,
         out_bytes: *mut u64, out_byte_count: usize,
         out_dead: *mut u64, out_dead_count: usize,
-        answer: *mut u64,
+        answer: *mut u64, known: bool,
         s: usize, on: usize, from: usize, upto: usize, time: f64, w: u32,
     ) -> u8;
     scorebeetle_store_used(
-        answer: *mut u64,
+        answer: *mut u64, known: bool,
         s: usize,
         on: *const usize, ons: usize,
         from: *const usize, froms: usize,
@@ -118,7 +118,7 @@ exported! {
     ) -> u8;
     scorebeetle_store_remove(
         list: *mut u32, places: usize,
-        answer: *mut u64,
+        answer: *mut u64, known: bool,
         s: usize, on: usize, from: usize, upto: usize,
     ) -> u8;
     scorebeetle_store_expire(
@@ -128,14 +128,14 @@ exported! {
         out_write: *mut u32, out_writes: usize,
         out_bytes: *mut u64, out_byte_count: usize,
         out_dead: *mut u64, out_dead_count: usize,
-        answer: *mut u64,
+        answer: *mut u64, known: bool,
         s: usize, now: f64, seconds: f64,
     ) -> u8;
     scorebeetle_pin_source(
-        s: usize, on: usize, from: usize, upto: usize,
+        known: bool, s: usize, on: usize, from: usize, upto: usize,
     ) -> u8;
     scorebeetle_unpin_source(
-        s: usize, on: usize, from: usize, upto: usize,
+        known: bool, s: usize, on: usize, from: usize, upto: usize,
     ) -> u8;
     scorebeetle_lookup(
         path_node: *mut usize, path_nodes: usize,
@@ -144,87 +144,10 @@ exported! {
         span_node: *mut usize, span_nodes: usize,
         span_start: *mut usize, span_starts: usize,
         span_end: *mut usize, span_ends: usize,
-        answer: *mut u64,
+        answer: *mut u64, known: bool,
         tiers: *const usize, tier_count: usize,
         hashes: *const u64, count: usize,
     ) -> u8;
     scorebeetle_sound_state() -> bool;
-    scorebeetle_checked_set_up(
-        table: *const u64, tables: usize,
-        capacity: *const u64, capacities: usize,
-        refreshes: *const bool, policies: usize,
-    ) -> u8;
-    scorebeetle_checked_resolve(
-        path_node: *mut usize, path_nodes: usize,
-        path_len: *mut usize, path_lens: usize,
-        answer: *mut u64,
-        hashes: *const u64, count: usize,
-    ) -> u8;
-    scorebeetle_checked_insert(
-        path_node: *mut usize, path_nodes: usize,
-        path_len: *mut usize, path_lens: usize,
-        answer: *mut u64,
-        hashes: *const u64, count: usize,
-    ) -> u8;
-    scorebeetle_checked_store_insert(
-        out_node: *mut usize, out_nodes: usize,
-        out_start: *mut usize, out_starts: usize,
-        out_end: *mut usize, out_ends: usize,
-        out_write: *mut u32, out_writes: usize,
-        out_bytes: *mut u64, out_byte_count: usize,
-        out_dead: *mut u64, out_dead_count: usize,
-        answer: *mut u64,
-        s: usize, on: usize, from: usize, upto: usize, time: f64, w: u32,
-    ) -> u8;
-    scorebeetle_checked_store_used(
-        answer: *mut u64,
-        s: usize,
-        on: *const usize, ons: usize,
-        from: *const usize, froms: usize,
-        upto: *const usize, uptos: usize,
-        time: f64, counted: bool,
-    ) -> u8;
-    scorebeetle_checked_store_remove(
-        list: *mut u32, places: usize,
-        answer: *mut u64,
-        s: usize, on: usize, from: usize, upto: usize,
-    ) -> u8;
-    scorebeetle_checked_store_expire(
-        out_node: *mut usize, out_nodes: usize,
-        out_start: *mut usize, out_starts: usize,
-        out_end: *mut usize, out_ends: usize,
-        out_write: *mut u32, out_writes: usize,
-        out_bytes: *mut u64, out_byte_count: usize,
-        out_dead: *mut u64, out_dead_count: usize,
-        answer: *mut u64,
-        s: usize, now: f64, seconds: f64,
-    ) -> u8;
-    scorebeetle_checked_pin_source(
-        s: usize, on: usize, from: usize, upto: usize,
-    ) -> u8;
-    scorebeetle_checked_unpin_source(
-        s: usize, on: usize, from: usize, upto: usize,
-    ) -> u8;
-    scorebeetle_checked_lookup(
-        path_node: *mut usize, path_nodes: usize,
-        path_len: *mut usize, path_lens: usize,
-        span_tier: *mut usize, span_tiers: usize,
-        span_node: *mut usize, span_nodes: usize,
-        span_start: *mut usize, span_starts: usize,
-        span_end: *mut usize, span_ends: usize,
-        answer: *mut u64,
-        tiers: *const usize, tier_count: usize,
-        hashes: *const u64, count: usize,
-    ) -> u8;
-    scorebeetle_checked_counter(answer: *mut u64, which: u8, s: usize) -> u8;
-}
-
-extern "C" {
-    pub fn scorebeetle_counter(
-        books: *const u64,
-        book_count: usize,
-        answer: *mut u64,
-        which: u8,
-        s: usize,
-    ) -> u8;
+    scorebeetle_counter(answer: *mut u64, known: bool, which: u8, s: usize) -> u8;
 }

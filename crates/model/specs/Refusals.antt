@@ -1,5 +1,5 @@
 -- Document 01, "Refusal numbers": for each public call the list of its conditions, in 01's order. A condition has its number, the fact, and a test that
--- computes; the crate `sure` proves that each test says exactly its fact. Assumes nothing.
+-- computes; `theory_refuse` proves that each test says exactly its fact. Assumes nothing.
 use Prim.Native.Nat.{ℕ, zero, suc, _+_, _-_, _≤_, _<_}
 use mathlib.Core.Path.{_≡_}
 use mathlib.Core.Logic.{_⊎_}

@@ -1,4 +1,4 @@
--- The sound state as a test that computes: one for each fact of `Sound`, under its name. The crate `sure` proves that each says exactly its fact.
+-- The sound state as a test that computes: one for each fact of `Sound`, under its name. `theory_refuse` proves that each says exactly its fact.
 -- Assumes nothing.
 use Prim.Native.Nat.{ℕ, zero, suc, _+_, _-_, _*_, min, max}
 use mathlib.Core.Bool.{Bool, true, false, not, _&&_, _||_}

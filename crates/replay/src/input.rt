@@ -1,9 +1,9 @@
 // Standard input, a line at a time, in bounded memory.
-use lines::Op;
+use text_lines::Op;
 ghost use Prim.Native.Nat.{_≤_};
 ghost use lib.ListN.{length};
-ghost use Rattle.lines.specs.Lines.{Filled};
-ghost use Rattle.replay.specs.Replay.{Within};
+ghost use Rattle.text_lines.specs.Lines.{Filled};
+ghost use Rattle.replay.specs.Input.{Within};
 
 // The part of the buffer that is read and not used yet, and whether the input has ended. In a line that is too long to keep, `seen` says what was passed of
 // it: 1 spaces, 2 a remark, 3 anything else, 4 spaces and a CR, which the line's LF may follow; 0 where there is no such line.
@@ -156,7 +156,7 @@ fn read_line(
     if 65535 < z - from {
         return long_line(see(buf, from, z, 1), whole);
     }
-    lines::read(&buf[from..z], list, spans, tiers, capacity, refreshes)
+    text_lines::read(&buf[from..z], list, spans, tiers, capacity, refreshes)
 }
 
 // What is left where the input has ended.
@@ -220,7 +220,7 @@ pub fn next_op(
 {
     let from = c.from;
     let to = c.to;
-    let z = words::next_byte(&*buf, from, to, b'\n');
+    let z = text_words::next_byte(&*buf, from, to, b'\n');
     if z < to {
         let cursor = Cursor {
             from: z + 1,

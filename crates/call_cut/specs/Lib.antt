@@ -1,0 +1,4 @@
+pub mod Needs
+pub mod Refusal
+pub mod Halves
+pub mod Room

@@ -1,0 +1,30 @@
+-- Where a span's pin entry stands among a store's entries, or where it goes in. Assumes nothing.
+use Prim.Native.Nat.{ℕ, _+_, _≤_, _<_}
+use mathlib.Core.Path.{_≡_}
+use mathlib.Core.Bool.{Bool, true, false}
+use mathlib.Core.List.{List}
+use Rattle.model.specs.declared.Span.{Span}
+use Rattle.model.specs.State.{at}
+use Rattle.model.specs.Pins.{pinOf, sameSpan, pinAhead}
+use Rattle.call_pin.specs.declared.Place.{Place}
+
+-- the span at place i of three columns
+abbrev pub spanAt : List ℕ → List ℕ → List ℕ → ℕ → Span
+spanAt node start end i = record { node = at node i; start = at start i; end = at end i }
+
+-- the two spans are one; the first stands before the second
+abbrev pub same : Span → Span → Bool
+same a b = sameSpan (pinOf a 1) (pinOf b 1)
+
+abbrev pub before : Span → Span → Bool
+before a b = pinAhead (pinOf a 1) (pinOf b 1)
+
+-- Of the n entries from place a on: sp is behind the first r .at, and the next is of its span where r .there, or else behind it
+pub record Placed (node start end : List ℕ) (a n : ℕ) (sp : Span) (r : Place) : Type 0 where
+  pub high : r .at ≤ n
+  pub behind : (k : ℕ) → k < r .at → (same sp (spanAt node start end (a + k)) ≡ false) × (before sp (spanAt node start end (a + k)) ≡ false)
+  pub found : r .there ≡ true → (r .at < n) × (same sp (spanAt node start end (a + r .at)) ≡ true)
+  pub new :
+      r .there ≡ false
+      → r .at < n
+      → (same sp (spanAt node start end (a + r .at)) ≡ false) × (before sp (spanAt node start end (a + r .at)) ≡ true)

@@ -1,0 +1,141 @@
+-- `call_touch::take_turns` meets its contract: each turn is the next of the list, and the first that is refused ends them. Assumes nothing.
+use Prim.Native.Nat.{ℕ, _≤_, _-_}
+use mathlib.Core.Path.{_≡_, _∙_}
+use mathlib.Core.List.{List}
+use native.Mathlib.Omega.{arith}
+use lib.ListN.{length, take}
+use Rattle.shape_state.specs.Lent.{rangesOf}
+use Rattle.call_touch_span.specs.Turn.{Others, booksWith}
+use Rattle.call_touch.specs.Running.{Starts}
+use Rattle.call_touch_span.proofs.Laws.{AsLong, as-long}
+use Rattle.call_touch.proofs.Laws.{array-long, array-at, array-in, array-over, span-fits}
+use Rattle.call_touch.proofs.Running.{Running, running-start, running-at, running-next, running-stop, running-end}
+use Rattle.call_touch.proofs.take_turns.Statement.{statement}
+use Rattle.call_touch.proofs.take_turns.Tie as tie
+
+abbrev Inv-loop : tie.InvT-loop
+Inv-loop node₀ start₀ end₀ id₀ stamp₀ touched₀ write₀ marks₀ depth bytes s refreshes count time counted spans y j₀ node start end id stamp touched write marks z j =
+    (length spans ≡ 64) × AsLong (rangesOf node₀ start₀ end₀ id₀ stamp₀ touched₀ write₀) marks₀ (rangesOf node start end id stamp touched write) marks × (z .number ≡ 0) × (j ≤ count)
+    × ((o : Others) (x : List ℕ) → Starts o x (take count spans) depth bytes (rangesOf node₀ start₀ end₀ id₀ stamp₀ touched₀ write₀) marks₀ s refreshes time counted y
+    → Running o x (take count spans) depth bytes (rangesOf node₀ start₀ end₀ id₀ stamp₀ touched₀ write₀) marks₀ s refreshes time counted j (rangesOf node start end id stamp touched write) marks z)
+
+abbrev μ-loop : tie.MeasureT-loop
+μ-loop node₀ start₀ end₀ id₀ stamp₀ touched₀ write₀ marks₀ depth bytes s refreshes count time counted spans y j₀ node start end id stamp touched write marks z j = count - j
+
+loop-holds : tie.Need-loop-holds Inv-loop μ-loop
+loop-holds c =
+    let z = c .before .before .before .before .before .before .before .before .before .before in
+    let long : length (z .args .t13) ≡ 64 = z .good .1 .1 .1 .1 .1 .1 .1 .1 .1 .1 .1 .1 .0 .1 .0 .1 in
+    (long, as-long _ _, z .pre .0 .starts .number, omega arith, λ o x q. running-start o x (take (z .args .count) (z .args .t13)) (z .args .depth .now) (z .args .bytes .now) (rangesOf (z .args .node .now) (z .args .start .now) (z .args .end .now) (z .args .id .now) (z .args .stamp .now) (z .args .touched .now) (z .args .write .now)) (z .args .marks .now) (z .args .s) (z .args .refreshes) (z .args .time) (z .args .counted) (z .args .y) q)
+
+array-copy-out-sp : tie.Need-array-copy-out-sp Inv-loop μ-loop
+array-copy-out-sp c = omega (arith, c .before .before .before .before .before .before .before .before .before .before .before .before .pre .1, c .loop-test .taken)
+
+one-turn-requires : tie.Need-one-turn-requires Inv-loop μ-loop
+one-turn-requires c κs =
+    let z = c .before .before .before .before .before .before .before .before .before .before .before .before .before .before .before .before .before .before .before .before .before in
+    let l = c .before .before .before .before .before .before .before .before .before .before .loop in
+    let t = c .before .before .before .before .before .before .before .before .before .loop-test .taken in
+    let p = z .pre .0 in
+    record {
+      others = p .others;
+      books = booksWith (z .args .s) (l .z) (p .books);
+      ready = running-at (p .others) (p .books) (take (z .args .count) (z .args .t13)) (z .args .depth .now) (z .args .bytes .now) (rangesOf (z .args .node .now) (z .args .start .now) (z .args .end .now) (z .args .id .now) (z .args .stamp .now) (z .args .touched .now) (z .args .write .now)) (z .args .marks .now) (z .args .s) (z .args .refreshes) (z .args .time) (z .args .counted) (z .args .y) (p .starts) (l .j) (rangesOf (l .node) (l .start) (l .end) (l .id) (l .stamp) (l .touched) (l .write)) (l .marks) (l .z) (l .inv .4 (p .others) (p .books) (p .starts)) _ (array-in _ _ (l .inv .0) (z .pre .1) t)
+          (array-at (z .args .t13) (z .args .count) (l .inv .0) (z .pre .1) (l .j) _ t);
+    }
+
+same-length : tie.Need-same-length Inv-loop μ-loop
+same-length c = c .before .before .before .before .before .before .before .before .before .before .before .before .before .before .before .before .before .before .one-turn .kept .1 .0 ∙ c .before .before .before .before .before .before .before .before .before .before .before .before .before .before .before .before .before .before .before .before .before .before .before .before .before .before .before .before .before .loop .inv .1 .node
+
+same-length-2 : tie.Need-same-length-2 Inv-loop μ-loop
+same-length-2 c = c .before .before .before .before .before .before .before .before .before .before .before .before .before .before .before .before .before .before .one-turn .kept .1 .1 .0 ∙ c .before .before .before .before .before .before .before .before .before .before .before .before .before .before .before .before .before .before .before .before .before .before .before .before .before .before .before .before .before .loop .inv .1 .start
+
+same-length-3 : tie.Need-same-length-3 Inv-loop μ-loop
+same-length-3 c = c .before .before .before .before .before .before .before .before .before .before .before .before .before .before .before .before .before .before .one-turn .kept .1 .1 .1 .0 ∙ c .before .before .before .before .before .before .before .before .before .before .before .before .before .before .before .before .before .before .before .before .before .before .before .before .before .before .before .before .before .loop .inv .1 .end
+
+same-length-4 : tie.Need-same-length-4 Inv-loop μ-loop
+same-length-4 c = c .before .before .before .before .before .before .before .before .before .before .before .before .before .before .before .before .before .before .one-turn .kept .1 .1 .1 .1 .0 ∙ c .before .before .before .before .before .before .before .before .before .before .before .before .before .before .before .before .before .before .before .before .before .before .before .before .before .before .before .before .before .loop .inv .1 .id
+
+same-length-5 : tie.Need-same-length-5 Inv-loop μ-loop
+same-length-5 c = c .before .before .before .before .before .before .before .before .before .before .before .before .before .before .before .before .before .before .one-turn .kept .1 .1 .1 .1 .1 .0 ∙ c .before .before .before .before .before .before .before .before .before .before .before .before .before .before .before .before .before .before .before .before .before .before .before .before .before .before .before .before .before .loop .inv .1 .stamp
+
+same-length-6 : tie.Need-same-length-6 Inv-loop μ-loop
+same-length-6 c = c .before .before .before .before .before .before .before .before .before .before .before .before .before .before .before .before .before .before .one-turn .kept .1 .1 .1 .1 .1 .1 .0 ∙ c .before .before .before .before .before .before .before .before .before .before .before .before .before .before .before .before .before .before .before .before .before .before .before .before .before .before .before .before .before .loop .inv .1 .touched
+
+same-length-7 : tie.Need-same-length-7 Inv-loop μ-loop
+same-length-7 c = c .before .before .before .before .before .before .before .before .before .before .before .before .before .before .before .before .before .before .one-turn .kept .1 .1 .1 .1 .1 .1 .1 .0 ∙ c .before .before .before .before .before .before .before .before .before .before .before .before .before .before .before .before .before .before .before .before .before .before .before .before .before .before .before .before .before .loop .inv .1 .write
+
+same-length-8 : tie.Need-same-length-8 Inv-loop μ-loop
+same-length-8 c = c .before .before .before .before .before .before .before .before .before .before .before .before .before .before .before .before .before .before .one-turn .kept .1 .1 .1 .1 .1 .1 .1 .1 .0 ∙ c .before .before .before .before .before .before .before .before .before .before .before .before .before .before .before .before .before .before .before .before .before .before .before .before .before .before .before .before .before .loop .inv .1 .marks
+
+returns : tie.Need-returns Inv-loop μ-loop
+returns c =
+    let z = c .before .before .before .before .before .before .before .before .before .before .before .before .before .before .before .before .before .before .before .before .before .before .before .before .before .before .before .before .before .before .before .before .before .before .before .before .before .before .before .before in
+    let l = c .before .before .before .before .before .before .before .before .before .before .before .before .before .before .before .before .before .before .before .before .before .before .before .before .before .before .before .before .before .loop in
+    let t = c .before .before .before .before .before .before .before .before .before .before .before .before .before .before .before .before .before .before .before .before .before .before .before .before .before .before .before .before .loop-test .taken in
+    let k = c .before .before .before .before .before .before .before .before .before .before .before .before .before .before .before .before .before .before .one-turn in
+    λ o x q. running-stop o x (take (z .args .count) (z .args .t13)) (z .args .depth .now) (z .args .bytes .now) (rangesOf (z .args .node .now) (z .args .start .now) (z .args .end .now) (z .args .id .now) (z .args .stamp .now) (z .args .touched .now) (z .args .write .now)) (z .args .marks .now) (z .args .s) (z .args .refreshes) (z .args .time) (z .args .counted) (z .args .y) q (l .j) (rangesOf (l .node) (l .start) (l .end) (l .id) (l .stamp) (l .touched) (l .write)) (l .marks) (l .z) (l .inv .4 o x q) _ (array-in _ _ (l .inv .0) (z .pre .1) t)
+    (array-at (z .args .t13) (z .args .count) (l .inv .0) (z .pre .1) (l .j) _ t) (rangesOf (k .last .1 .0) (k .last .1 .1 .0) (k .last .1 .1 .1 .0) (k .last .1 .1 .1 .1 .0) (k .last .1 .1 .1 .1 .1 .0) (k .last .1 .1 .1 .1 .1 .1 .0) (k .last .1 .1 .1 .1 .1 .1 .1 .0)) (k .last .1 .1 .1 .1 .1 .1 .1 .1 .0) (k .result)
+    (k .ensures o (booksWith (z .args .s) (l .z) x) (running-at o x (take (z .args .count) (z .args .t13)) (z .args .depth .now) (z .args .bytes .now) (rangesOf (z .args .node .now) (z .args .start .now) (z .args .end .now) (z .args .id .now) (z .args .stamp .now) (z .args .touched .now) (z .args .write .now)) (z .args .marks .now) (z .args .s) (z .args .refreshes) (z .args .time) (z .args .counted) (z .args .y) q (l .j) (rangesOf (l .node) (l .start) (l .end) (l .id) (l .stamp) (l .touched) (l .write)) (l .marks) (l .z) (l .inv .4 o x q) _ (array-in _ _ (l .inv .0) (z .pre .1) t)
+    (array-at (z .args .t13) (z .args .count) (l .inv .0) (z .pre .1) (l .j) _ t))) (c .if1 .taken)
+
+add-j : tie.Need-add-j Inv-loop μ-loop
+add-j c = omega (arith, c .before .before .before .before .before .before .before .before .before .before .before .before .before .before .before .before .before .before .before .before .before .before .before .before .before .before .before .before .before .before .before .before .before .before .before .before .before .before .before .before .pre .1, c .before .before .before .before .before .before .before .before .before .before .before .before .before .before .before .before .before .before .before .before .before .before .before .before .before .before .before .before .loop-test .taken)
+
+loop-less : tie.Need-loop-less Inv-loop μ-loop
+loop-less c = omega (arith, c .before .before .before .before .before .before .before .before .before .before .before .before .before .before .before .before .before .before .before .before .before .before .before .before .before .before .before .before .loop-test .taken)
+
+loop-again : tie.Need-loop-again Inv-loop μ-loop
+loop-again c =
+    let z = c .before .before .before .before .before .before .before .before .before .before .before .before .before .before .before .before .before .before .before .before .before .before .before .before .before .before .before .before .before .before .before .before .before .before .before .before .before .before .before .before in
+    let l = c .before .before .before .before .before .before .before .before .before .before .before .before .before .before .before .before .before .before .before .before .before .before .before .before .before .before .before .before .before .loop in
+    let t = c .before .before .before .before .before .before .before .before .before .before .before .before .before .before .before .before .before .before .before .before .before .before .before .before .before .before .before .before .loop-test .taken in
+    let k = c .before .before .before .before .before .before .before .before .before .before .before .before .before .before .before .before .before .before .one-turn in (
+      l .inv .0,
+      record { node = k .kept .1 .0 ∙ l .inv .1 .node; start = k .kept .1 .1 .0 ∙ l .inv .1 .start; end = k .kept .1 .1 .1 .0 ∙ l .inv .1 .end; id = k .kept .1 .1 .1 .1 .0 ∙ l .inv .1 .id; stamp = k .kept .1 .1 .1 .1 .1 .0 ∙ l .inv .1 .stamp; touched = k .kept .1 .1 .1 .1 .1 .1 .0 ∙ l .inv .1 .touched; write = k .kept .1 .1 .1 .1 .1 .1 .1 .0 ∙ l .inv .1 .write; marks = k .kept .1 .1 .1 .1 .1 .1 .1 .1 .0 ∙ l .inv .1 .marks },
+      c .if1 .left,
+      omega (arith, t),
+      λ o x q. running-next o x (take (z .args .count) (z .args .t13)) (z .args .depth .now) (z .args .bytes .now) (rangesOf (z .args .node .now) (z .args .start .now) (z .args .end .now) (z .args .id .now) (z .args .stamp .now) (z .args .touched .now) (z .args .write .now)) (z .args .marks .now) (z .args .s) (z .args .refreshes) (z .args .time) (z .args .counted) (z .args .y) q (l .j) (rangesOf (l .node) (l .start) (l .end) (l .id) (l .stamp) (l .touched) (l .write)) (l .marks) (l .z) (l .inv .4 o x q) _ (array-in _ _ (l .inv .0) (z .pre .1) t)
+          (array-at (z .args .t13) (z .args .count) (l .inv .0) (z .pre .1) (l .j) _ t) (rangesOf (k .last .1 .0) (k .last .1 .1 .0) (k .last .1 .1 .1 .0) (k .last .1 .1 .1 .1 .0) (k .last .1 .1 .1 .1 .1 .0) (k .last .1 .1 .1 .1 .1 .1 .0) (k .last .1 .1 .1 .1 .1 .1 .1 .0)) (k .last .1 .1 .1 .1 .1 .1 .1 .1 .0) (k .result)
+          (k .ensures o (booksWith (z .args .s) (l .z) x) (running-at o x (take (z .args .count) (z .args .t13)) (z .args .depth .now) (z .args .bytes .now) (rangesOf (z .args .node .now) (z .args .start .now) (z .args .end .now) (z .args .id .now) (z .args .stamp .now) (z .args .touched .now) (z .args .write .now)) (z .args .marks .now) (z .args .s) (z .args .refreshes) (z .args .time) (z .args .counted) (z .args .y) q (l .j) (rangesOf (l .node) (l .start) (l .end) (l .id) (l .stamp) (l .touched) (l .write)) (l .marks) (l .z) (l .inv .4 o x q) _ (array-in _ _ (l .inv .0) (z .pre .1) t)
+          (array-at (z .args .t13) (z .args .count) (l .inv .0) (z .pre .1) (l .j) _ t))) (c .if1 .left),
+    )
+
+returns-2 : tie.Need-returns-2 Inv-loop μ-loop
+returns-2 c =
+    let z = c .before .before .before .before .before .before .before .before .before .before .before .before in
+    let l = c .before .loop in
+    λ o x q. running-end o x (take (z .args .count) (z .args .t13)) (z .args .depth .now) (z .args .bytes .now) (rangesOf (z .args .node .now) (z .args .start .now) (z .args .end .now) (z .args .id .now) (z .args .stamp .now) (z .args .touched .now) (z .args .write .now)) (z .args .marks .now) (z .args .s) (z .args .refreshes) (z .args .time) (z .args .counted) (z .args .y) q (l .j) (rangesOf (l .node) (l .start) (l .end) (l .id) (l .stamp) (l .touched) (l .write)) (l .marks) (l .z) (l .inv .4 o x q) (array-over _ _ (l .inv .0) (z .pre .1) (c .loop-test .left))
+    (omega (arith, l .inv .3, array-long (z .args .t13) (z .args .count) (l .inv .0) (z .pre .1))) (l .inv .2)
+
+pub take-turns-spec : {M : Type 1} → statement M
+take-turns-spec =
+    tie.close
+    (tie.spec
+    Inv-loop
+    μ-loop
+    loop-holds
+    (λ c. span-fits (c .before .before .before .before .before .before .before .before .before .before .before .before .pre .1) (c .loop-test .taken))
+    array-copy-out-sp
+    one-turn-requires
+    same-length
+    same-length-2
+    same-length-3
+    same-length-4
+    same-length-5
+    same-length-6
+    same-length-7
+    same-length-8
+    returns
+    add-j
+    loop-less
+    loop-again
+    (λ c. c .before .loop .inv .1 .node)
+    (λ c. c .before .loop .inv .1 .start)
+    (λ c. c .before .loop .inv .1 .end)
+    (λ c. c .before .loop .inv .1 .id)
+    (λ c. c .before .loop .inv .1 .stamp)
+    (λ c. c .before .loop .inv .1 .touched)
+    (λ c. c .before .loop .inv .1 .write)
+    (λ c. c .before .loop .inv .1 .marks)
+    returns-2)

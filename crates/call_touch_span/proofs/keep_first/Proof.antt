@@ -1,0 +1,24 @@
+-- `call_touch_span::keep_first` meets its contract: before the first turn the part is kept. Assumes nothing.
+use borrow.Author.Needs.{needs}
+use Rattle.shape_state.specs.Lent.{rangesOf}
+use Rattle.call_touch_span.proofs.Laws.{kept-first, kept-later}
+use Rattle.call_touch_span.proofs.keep_first.Statement.{statement}
+use Rattle.call_touch_span.proofs.keep_first.Tie as tie
+
+returns : tie.Need-returns
+returns c =
+    let z = c .before .before .before .before .before .before .before .before .before .before .before in
+    kept-first (z .args .y .turns) _ (z .args .y .old) (z .args .y .s) (rangesOf (z .args .node .now) (z .args .start .now) (z .args .end .now) (z .args .id .now) (z .args .stamp .now) (z .args .touched .now) (z .args .write .now)) (z .args .marks .now) (c .before .if1 .taken) (c .keep .ensures)
+
+returns-2 : tie.Need-returns-2
+returns-2 c =
+    let z = c .before .before .before .before .before .before .before .before .before .before .before in
+    kept-later (z .args .y .turns) (z .args .y .old) (z .args .y .s) (rangesOf (z .args .node .now) (z .args .start .now) (z .args .end .now) (z .args .id .now) (z .args .stamp .now) (z .args .touched .now) (z .args .write .now)) (z .args .marks .now) (c .before .if1 .left)
+
+pub keep-first-spec : {M : Type 1} → statement M
+keep-first-spec =
+    tie.close
+    (tie.spec
+    (λ c κs. search needs)
+    returns
+    returns-2)

@@ -1,5 +1,0 @@
--- The crate's laws that belong to no one function.
-pub mod Across
-pub mod Over
-pub mod Steps
-pub mod Marks

@@ -1,3 +1,0 @@
--- Each public call's contract settles the call.
-pub mod Laws
-pub mod Calls

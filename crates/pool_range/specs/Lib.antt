@@ -1,0 +1,2 @@
+pub mod Cols
+pub mod Part

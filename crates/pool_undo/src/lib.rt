@@ -1,0 +1,331 @@
+ghost use mathlib.Core.Path.{_≡_};
+ghost use Prim.Native.Nat.{_+_, _*_, _≤_, _<_};
+ghost use lib.ListN.{length};
+ghost use Rattle.model.specs.Sound.{RangesLent, PinsLent};
+ghost use Rattle.shape_state.specs.Lent.{rangesOf, pinsOf};
+ghost use Rattle.pool_part.specs.Parts.{mid, back, backRanges, backPins};
+ghost use Rattle.pool_undo.specs.Old.{oldRanges, oldFrom, oldPins, oldPinsFrom};
+
+// A store's part of the ranges and of the marks, as it was.
+pub struct Old {
+    pub node: [usize; 128],
+    pub start: [usize; 128],
+    pub end: [usize; 128],
+    pub id: [u64; 128],
+    pub stamp: [u64; 128],
+    pub touched: [f64; 128],
+    pub write: [u32; 128],
+    pub marks: [usize; 256],
+}
+
+// A store's part of the pins, as it was.
+pub struct OldPins {
+    pub node: [usize; 32],
+    pub start: [usize; 32],
+    pub end: [usize; 32],
+    pub count: [u64; 32],
+}
+
+// ---- a column's part copied, and put back: the same for each type and width
+
+fn copy_usize(col: &[usize], a: usize) -> [usize; 128]
+    requires { ⌜ a + 128 ≤ length (now col) ⌝ }
+    ensures { λ r. ⌜ r ≡ mid a 128 (now (col .entry)) ⌝ }
+{
+    let mut out = [0usize; 128];
+    let mut i = 0;
+    while i < 128 {
+        out[i] = col[a + i];
+        i += 1;
+    }
+    out
+}
+
+fn put_usize(col: &mut [usize], a: usize, from: [usize; 128])
+    requires { ⌜ a + 128 ≤ length (now col) ⌝ }
+    ensures { λ _. ⌜ now (col .exit) ≡ back a 128 from (now (col .entry)) ⌝ }
+{
+    let mut i = 0;
+    while i < 128 {
+        col[a + i] = from[i];
+        i += 1;
+    }
+}
+
+fn copy_u64(col: &[u64], a: usize) -> [u64; 128]
+    requires { ⌜ a + 128 ≤ length (now col) ⌝ }
+    ensures { λ r. ⌜ r ≡ mid a 128 (now (col .entry)) ⌝ }
+{
+    let mut out = [0u64; 128];
+    let mut i = 0;
+    while i < 128 {
+        out[i] = col[a + i];
+        i += 1;
+    }
+    out
+}
+
+fn put_u64(col: &mut [u64], a: usize, from: [u64; 128])
+    requires { ⌜ a + 128 ≤ length (now col) ⌝ }
+    ensures { λ _. ⌜ now (col .exit) ≡ back a 128 from (now (col .entry)) ⌝ }
+{
+    let mut i = 0;
+    while i < 128 {
+        col[a + i] = from[i];
+        i += 1;
+    }
+}
+
+fn copy_f64(col: &[f64], a: usize) -> [f64; 128]
+    requires { ⌜ a + 128 ≤ length (now col) ⌝ }
+    ensures { λ r. ⌜ r ≡ mid a 128 (now (col .entry)) ⌝ }
+{
+    let mut out = [0.0; 128];
+    let mut i = 0;
+    while i < 128 {
+        out[i] = col[a + i];
+        i += 1;
+    }
+    out
+}
+
+fn put_f64(col: &mut [f64], a: usize, from: [f64; 128])
+    requires { ⌜ a + 128 ≤ length (now col) ⌝ }
+    ensures { λ _. ⌜ now (col .exit) ≡ back a 128 from (now (col .entry)) ⌝ }
+{
+    let mut i = 0;
+    while i < 128 {
+        col[a + i] = from[i];
+        i += 1;
+    }
+}
+
+fn copy_u32(col: &[u32], a: usize) -> [u32; 128]
+    requires { ⌜ a + 128 ≤ length (now col) ⌝ }
+    ensures { λ r. ⌜ r ≡ mid a 128 (now (col .entry)) ⌝ }
+{
+    let mut out = [0u32; 128];
+    let mut i = 0;
+    while i < 128 {
+        out[i] = col[a + i];
+        i += 1;
+    }
+    out
+}
+
+fn put_u32(col: &mut [u32], a: usize, from: [u32; 128])
+    requires { ⌜ a + 128 ≤ length (now col) ⌝ }
+    ensures { λ _. ⌜ now (col .exit) ≡ back a 128 from (now (col .entry)) ⌝ }
+{
+    let mut i = 0;
+    while i < 128 {
+        col[a + i] = from[i];
+        i += 1;
+    }
+}
+
+fn copy_marks(col: &[usize], a: usize) -> [usize; 256]
+    requires { ⌜ a + 256 ≤ length (now col) ⌝ }
+    ensures { λ r. ⌜ r ≡ mid a 256 (now (col .entry)) ⌝ }
+{
+    let mut out = [0usize; 256];
+    let mut i = 0;
+    while i < 256 {
+        out[i] = col[a + i];
+        i += 1;
+    }
+    out
+}
+
+fn put_marks(col: &mut [usize], a: usize, from: [usize; 256])
+    requires { ⌜ a + 256 ≤ length (now col) ⌝ }
+    ensures { λ _. ⌜ now (col .exit) ≡ back a 256 from (now (col .entry)) ⌝ }
+{
+    let mut i = 0;
+    while i < 256 {
+        col[a + i] = from[i];
+        i += 1;
+    }
+}
+
+fn copy_pins(col: &[usize], a: usize) -> [usize; 32]
+    requires { ⌜ a + 32 ≤ length (now col) ⌝ }
+    ensures { λ r. ⌜ r ≡ mid a 32 (now (col .entry)) ⌝ }
+{
+    let mut out = [0usize; 32];
+    let mut i = 0;
+    while i < 32 {
+        out[i] = col[a + i];
+        i += 1;
+    }
+    out
+}
+
+fn put_pins(col: &mut [usize], a: usize, from: [usize; 32])
+    requires { ⌜ a + 32 ≤ length (now col) ⌝ }
+    ensures { λ _. ⌜ now (col .exit) ≡ back a 32 from (now (col .entry)) ⌝ }
+{
+    let mut i = 0;
+    while i < 32 {
+        col[a + i] = from[i];
+        i += 1;
+    }
+}
+
+fn copy_counts(col: &[u64], a: usize) -> [u64; 32]
+    requires { ⌜ a + 32 ≤ length (now col) ⌝ }
+    ensures { λ r. ⌜ r ≡ mid a 32 (now (col .entry)) ⌝ }
+{
+    let mut out = [0u64; 32];
+    let mut i = 0;
+    while i < 32 {
+        out[i] = col[a + i];
+        i += 1;
+    }
+    out
+}
+
+fn put_counts(col: &mut [u64], a: usize, from: [u64; 32])
+    requires { ⌜ a + 32 ≤ length (now col) ⌝ }
+    ensures { λ _. ⌜ now (col .exit) ≡ back a 32 from (now (col .entry)) ⌝ }
+{
+    let mut i = 0;
+    while i < 32 {
+        col[a + i] = from[i];
+        i += 1;
+    }
+}
+
+// ---- a store's part, kept and put back
+
+// The ranges and the marks of store s, kept as they are.
+pub fn keep(
+    node: &[usize],
+    start: &[usize],
+    end: &[usize],
+    id: &[u64],
+    stamp: &[u64],
+    touched: &[f64],
+    write: &[u32],
+    marks: &[usize],
+    s: usize,
+) -> Old
+    requires { ⌜
+        (s < 8)
+        × RangesLent (rangesOf (now node) (now start) (now end) (now id) (now stamp) (now touched) (now write))
+        × (2048 ≤ length (now marks))
+        ⌝ }
+    ensures { λ r. ⌜
+        r ≡ oldFrom s
+        (rangesOf (now (node .entry)) (now (start .entry)) (now (end .entry)) (now (id .entry)) (now (stamp .entry))
+        (now (touched .entry)) (now (write .entry)))
+        (now (marks .entry))
+        ⌝ }
+{
+    let a = 128 * s;
+    Old {
+        node: copy_usize(node, a),
+        start: copy_usize(start, a),
+        end: copy_usize(end, a),
+        id: copy_u64(id, a),
+        stamp: copy_u64(stamp, a),
+        touched: copy_f64(touched, a),
+        write: copy_u32(write, a),
+        marks: copy_marks(marks, 256 * s),
+    }
+}
+
+// The ranges and the marks of store s, put back as they were kept.
+pub fn undo(
+    node: &mut [usize],
+    start: &mut [usize],
+    end: &mut [usize],
+    id: &mut [u64],
+    stamp: &mut [u64],
+    touched: &mut [f64],
+    write: &mut [u32],
+    marks: &mut [usize],
+    s: usize,
+    old: Old,
+)
+    requires { ⌜
+        (s < 8)
+        × RangesLent (rangesOf (now node) (now start) (now end) (now id) (now stamp) (now touched) (now write))
+        × (2048 ≤ length (now marks))
+        ⌝ }
+    ensures { λ _. ⌜
+        (rangesOf (now (node .exit)) (now (start .exit)) (now (end .exit)) (now (id .exit)) (now (stamp .exit))
+        (now (touched .exit)) (now (write .exit))
+        ≡ backRanges (128 * s) 128 (oldRanges old)
+        (rangesOf (now (node .entry)) (now (start .entry)) (now (end .entry)) (now (id .entry)) (now (stamp .entry))
+        (now (touched .entry)) (now (write .entry))))
+        × (now (marks .exit) ≡ back (256 * s) 256 (old .marks) (now (marks .entry)))
+        ⌝ }
+{
+    let a = 128 * s;
+    let old_node = old.node;
+    put_usize(node, a, old_node);
+    let old_start = old.start;
+    put_usize(start, a, old_start);
+    let old_end = old.end;
+    put_usize(end, a, old_end);
+    let old_id = old.id;
+    put_u64(id, a, old_id);
+    let old_stamp = old.stamp;
+    put_u64(stamp, a, old_stamp);
+    let old_touched = old.touched;
+    put_f64(touched, a, old_touched);
+    let old_write = old.write;
+    put_u32(write, a, old_write);
+    let old_marks = old.marks;
+    put_marks(marks, 256 * s, old_marks);
+}
+
+// The pins of store s, kept as they are.
+pub fn keep_pins(
+    pin_node: &[usize],
+    pin_start: &[usize],
+    pin_end: &[usize],
+    pin_count: &[u64],
+    s: usize,
+) -> OldPins
+    requires { ⌜ (s < 8) × PinsLent (pinsOf (now «pin_node») (now «pin_start») (now «pin_end») (now «pin_count»)) ⌝ }
+    ensures { λ r. ⌜
+        r ≡ oldPinsFrom s (pinsOf (now («pin_node» .entry)) (now («pin_start» .entry)) (now («pin_end» .entry)) (now («pin_count» .entry)))
+        ⌝ }
+{
+    let a = 32 * s;
+    OldPins {
+        node: copy_pins(pin_node, a),
+        start: copy_pins(pin_start, a),
+        end: copy_pins(pin_end, a),
+        count: copy_counts(pin_count, a),
+    }
+}
+
+// The pins of store s, put back as they were kept.
+pub fn undo_pins(
+    pin_node: &mut [usize],
+    pin_start: &mut [usize],
+    pin_end: &mut [usize],
+    pin_count: &mut [u64],
+    s: usize,
+    old: OldPins,
+)
+    requires { ⌜ (s < 8) × PinsLent (pinsOf (now «pin_node») (now «pin_start») (now «pin_end») (now «pin_count»)) ⌝ }
+    ensures { λ _. ⌜
+        pinsOf (now («pin_node» .exit)) (now («pin_start» .exit)) (now («pin_end» .exit)) (now («pin_count» .exit))
+        ≡ backPins (32 * s) 32 (oldPins old)
+        (pinsOf (now («pin_node» .entry)) (now («pin_start» .entry)) (now («pin_end» .entry)) (now («pin_count» .entry)))
+        ⌝ }
+{
+    let a = 32 * s;
+    let old_node = old.node;
+    put_pins(pin_node, a, old_node);
+    let old_start = old.start;
+    put_pins(pin_start, a, old_start);
+    let old_end = old.end;
+    put_pins(pin_end, a, old_end);
+    let old_count = old.count;
+    put_counts(pin_count, a, old_count);
+}

@@ -1,5 +1,0 @@
--- On a chained list resolve finds the longest stored prefix.
-pub mod Halving
-pub mod Deep
-pub mod Walked
-pub mod Prefix

@@ -1,1 +1,0 @@
-// On a chained list resolve finds the longest stored prefix; see proofs/.

@@ -1,0 +1,27 @@
+-- `public_read::store_available_for_stage` meets its contract: refused by 1, or what the inner call answers. Assumes nothing.
+use mathlib.Core.Path.{refl}
+use Rattle.theory_refuse.proofs.Says.{says-yes, says-no}
+use Rattle.public_read.proofs.Laws.{available-is}
+use Rattle.theory_outcome.proofs.Gates.{available-unsound}
+use Rattle.public_read.proofs.store_available_for_stage.Statement.{statement}
+use Rattle.public_read.proofs.store_available_for_stage.Tie as tie
+
+returns : tie.Need-returns
+returns c = available-unsound _ (says-no (c .before .sound-state .result) (c .if1 .taken) (c .before .sound-state .ensures)) (c .before .before .before .before .before .before .before .before .before .before .before .before .before .before .before .before .before .before .before .before .before .args .s)
+
+store-available-for-stage-requires : tie.Need-store-available-for-stage-requires
+store-available-for-stage-requires c κs =
+    let h = says-yes (c .before .sound-state .result) (c .if1 .left) (c .before .sound-state .ensures) in
+    (h .counts .stores, h .lent .books)
+
+returns-2 : tie.Need-returns-2
+returns-2 c = available-is _ (c .before .before .before .before .before .before .before .before .before .before .before .before .before .before .before .before .before .before .before .before .before .before .args .s) (c .store-available-for-stage .ensures _ (record { books = refl; sound = (says-yes (c .before .before .sound-state .result) (c .before .if1 .left) (c .before .before .sound-state .ensures)) }))
+
+pub store-available-for-stage-spec : {M : Type 1} → statement M
+store-available-for-stage-spec =
+    tie.close
+    (tie.spec
+    (λ c κs. tt)
+    returns
+    store-available-for-stage-requires
+    returns-2)

@@ -1,0 +1,78 @@
+-- A store's pin entries by value: the list that they make, and where an entry goes in it. Assumes nothing.
+use Prim.Native.Nat.{ℕ, _+_, _^_, _<_, _≤_}
+use mathlib.Core.Path.{_≡_}
+use mathlib.Core.Bool.{Bool, true, false, not, _&&_}
+use mathlib.Core.List.{List, [], _∷_}
+use lib.ListN.{length, getD, set}
+use lib.Dec.{ltb, eqb}
+use Rattle.model.specs.State.{Pins, Pin, at}
+use Rattle.model.specs.Store.{pins, layPins}
+use Rattle.model.specs.Insert.{cutPins, pinsAcross}
+use Rattle.model.specs.Pins.{sameSpan, pinAhead, counted, addPin}
+use Rattle.shape_state.specs.Lent.{pinsOf}
+use Rattle.pool_range.specs.Cols.{insertAt}
+use Rattle.rule_cut_pins.specs.declared.Entry.{Entry}
+use Rattle.rule_cut_pins.specs.declared.Entries.{Entries}
+
+-- an entry by value is a pin
+abbrev pub pinFrom : Entry → Pin
+pinFrom e = record { node = e .node; start = e .start; end = e .end; count = e .count }
+
+abbrev pub columnsOf : Entries → Pins
+columnsOf l = pinsOf (l .node) (l .start) (l .end) (l .count)
+
+-- the first n
+abbrev pub pinsIn : Entries → List Pin
+pinsIn l = pins (columnsOf l) 0 (l .n)
+
+-- each column has k elements
+pub record PinsSized (k : ℕ) (c : Pins) : Type 0 where
+  pub node : length (c .node) ≡ k
+  pub start : length (c .start) ≡ k
+  pub end : length (c .end) ≡ k
+  pub count : length (c .count) ≡ k
+
+-- the counts added up
+unfoldable pub counts : List Pin → ℕ
+counts [] = 0
+counts (p ∷ ps) = p .count + counts ps
+
+-- a list that the entries by value can hold
+pub record Small (ps : List Pin) : Type 0 where
+  pub few : length ps ≤ 32
+  pub low : counts ps < 2 ^ 64
+
+-- place r is where `addPin` adds p up, where an entry of its span stands there, and where it puts p in else
+pub record Found (p : Pin) (ps : List Pin) (r : ℕ) : Type 0 where
+  pub high : r ≤ length ps
+  pub joins : r < length ps → sameSpan p (getD ps r p) ≡ true → addPin p ps ≡ set ps r (counted (getD ps r p) (getD ps r p .count + p .count))
+  pub enters : (r < length ps → sameSpan p (getD ps r p) ≡ false) → addPin p ps ≡ insertAt r p ps
+
+-- how many of the first n entries are across k on node j
+abbrev pub pinsAcrossIn : ℕ → ℕ → ℕ → Pins → ℕ
+pinsAcrossIn j k n c = pinsAcross j k (pins c 0 n)
+
+-- p stands ahead of the next entry, where there is one
+abbrev pub leads : Pin → List Pin → Bool
+leads p [] = true
+leads p (q ∷ qs) = pinAhead p q
+
+-- no entry is on node j, and each stands ahead of the next: a cut of node j leaves them as they are
+unfoldable pub unmoved : ℕ → List Pin → Bool
+unmoved j [] = true
+unmoved j (p ∷ ps) = (not (eqb (p .node) j) && leads p ps) && unmoved j ps
+
+-- the same of one place of the columns, of which n are used
+abbrev pub spanAt : List ℕ → List ℕ → List ℕ → ℕ → Pin
+spanAt node start end i = record { node = at node i; start = at start i; end = at end i; count = 0 }
+
+abbrev pub leadsIf : Bool → Pin → Pin → Bool
+leadsIf true p q = pinAhead p q
+leadsIf false p q = true
+
+abbrev pub staysAt : ℕ → List ℕ → List ℕ → List ℕ → ℕ → ℕ → Bool
+staysAt j node start end n i = not (eqb (at node i) j) && leadsIf (ltb (i + 1) n) (spanAt node start end i) (spanAt node start end (i + 1))
+
+-- the columns with the first n entries cut; m is the new node
+abbrev pub cutEntries : ℕ → ℕ → ℕ → ℕ → Pins → Pins
+cutEntries j k m n c = layPins 0 (n + pinsAcrossIn j k n c) (cutPins j k m (pins c 0 n)) c

@@ -1,0 +1,40 @@
+-- `test_store::all_inside` meets its contract: a test of each from a up to `b`. Assumes nothing.
+use Prim.Native.Nat.{_-_, _≤_}
+use Rattle.model.specs.Words.{Each}
+use Rattle.test_store.specs.Records.{InsideAt}
+use Rattle.test_tree.proofs.Each.{each-none, each-more, each-whole, each-not}
+use Rattle.theory_refuse.proofs.Says.{says-yes, says-no}
+use borrow.Author.Needs.{needs}
+use native.Mathlib.Omega.{arith}
+use Rattle.test_store.proofs.all_inside.Statement.{statement}
+use Rattle.test_store.proofs.all_inside.Tie as tie
+
+abbrev Inv-loop : tie.InvT-loop
+Inv-loop len node start end nodes a b i₀ i = (a ≤ i) × Each a i (InsideAt len node start end nodes)
+
+abbrev μ-loop : tie.MeasureT-loop
+μ-loop len node start end nodes a b i₀ i = b - i
+
+loop-holds : tie.Need-loop-holds Inv-loop μ-loop
+loop-holds c = (omega arith, each-none _ _)
+
+inside-requires : tie.Need-inside-requires Inv-loop μ-loop
+inside-requires c κs = search needs
+
+returns : tie.Need-returns Inv-loop μ-loop
+returns c = each-not (c .before .before .before .loop .inv .0) (c .before .before .loop-test .taken) (says-no (c .before .inside .result) (c .if1 .taken) (c .before .inside .ensures))
+
+add-i : tie.Need-add-i Inv-loop μ-loop
+add-i c = search needs
+
+loop-less : tie.Need-loop-less Inv-loop μ-loop
+loop-less c = search needs
+
+loop-again : tie.Need-loop-again Inv-loop μ-loop
+loop-again c = (omega arith, each-more (c .before .before .before .loop .inv .1) (says-yes (c .before .inside .result) (c .if1 .left) (c .before .inside .ensures)))
+
+returns-2 : tie.Need-returns-2 Inv-loop μ-loop
+returns-2 c = each-whole (c .before .loop .inv .1) (c .loop-test .left)
+
+pub all-inside-spec : {M : Type 1} → statement M
+all-inside-spec = tie.close (tie.spec Inv-loop μ-loop loop-holds inside-requires returns add-i loop-less loop-again returns-2)

@@ -1,0 +1,300 @@
+"""What the tools of this folder share: the repository, the generated records of a function, the path from a place to an earlier one."""
+import hashlib, json, os, re, shutil, subprocess, sys, tempfile
+
+
+def die(msg):
+    sys.exit(f"{os.path.basename(sys.argv[0])}: {msg}")
+
+
+def root():
+    """The folder with crates.txt: the current one or one above."""
+    d = os.getcwd()
+    while not os.path.isfile(os.path.join(d, "crates.txt")):
+        up = os.path.dirname(d)
+        if up == d:
+            die("no crates.txt in this folder or above: run this in a Rattle repository")
+        d = up
+    if not shutil.which("rt"):
+        die("the command rt is not on the PATH")
+    return d
+
+
+def deps(top):
+    """crates.txt as {crate: [dependency]}."""
+    out = {}
+    for line in open(os.path.join(top, "crates.txt")):
+        line = line.split("#")[0]
+        if ":" in line:
+            name, rest = line.split(":", 1)
+            out[name.strip()] = rest.split()
+    return out
+
+
+def reached(all_deps, crate):
+    """The crates of the repository that `crate` depends on, near or far."""
+    seen, todo = [], list(all_deps.get(crate, []))
+    while todo:
+        d = todo.pop()
+        if d in all_deps and d not in seen:
+            seen.append(d)
+            todo += all_deps[d]
+    return sorted(seen)
+
+
+def function(top, crate, fn):
+    """Checks the names; the function's folder below proofs/, as `f` or `a/f`."""
+    if crate not in deps(top):
+        die(f"crates.txt lists no crate {crate}; it lists: {' '.join(deps(top))}")
+    path = fn.replace("::", "/")
+    name = path.split("/")[-1]
+    src = os.path.join(top, "crates", crate, "src")
+    text = "".join(open(os.path.join(d, f)).read() for d, _, fs in os.walk(src) for f in fs if f.endswith(".rt"))
+    if not name.startswith("+") and not re.search(rf"\bfn {re.escape(name)}\b", text):
+        die(f"crates/{crate}/src has no fn {name}")
+    return path
+
+
+def proof_file(top, crate, path):
+    return os.path.join(top, "crates", crate, "proofs", *path.split("/"), "Proof.antt")
+
+
+def module(crate, path):
+    return f"Rattle.{crate}.proofs." + path.replace("/", ".")
+
+
+def stub(crate, path):
+    s = path.split("/")[-1].replace("_", "-")
+    m = module(crate, path)
+    return f"use {m}.Statement.{{statement}}\n\npub {s}-spec : {{M : Type 1}} → statement M\n{s}-spec = ?\n"
+
+
+def rt(top, *words):
+    o = subprocess.run(["rt", *words], cwd=top, capture_output=True, text=True, env=dict(os.environ, RT_CUT="0"))
+    return o.returncode, o.stdout + o.stderr
+
+
+def _key(top, crate):
+    h = hashlib.sha256(open(__file__, "rb").read())
+    for c in [crate] + reached(deps(top), crate):
+        for part in ("src", "specs"):
+            for d, sub, fs in os.walk(os.path.join(top, "crates", c, part)):
+                sub.sort()
+                for f in sorted(fs):
+                    p = os.path.join(d, f)
+                    h.update(os.path.relpath(p, top).encode() + b"\0" + open(p, "rb").read() + b"\0")
+    return h.hexdigest()[:32]
+
+
+def _records(text):
+    """{record: [[field, first word of its type]]}"""
+    recs, cur, depth = {}, None, 0
+    for line in text.split("\n"):
+        if not line.strip():
+            continue
+        ind = len(line) - len(line.lstrip())
+        m = re.match(r"\s*pub record (\S+)", line)
+        if m:
+            cur, depth = m.group(1), ind
+            recs[cur] = []
+            continue
+        if cur and ind <= depth:
+            cur = None
+        m = re.match(r"\s*pub (\S+) :\s*(\S*)", line)
+        if cur and m and ind == depth + 2:
+            recs[cur].append([m.group(1), m.group(2)])
+    return recs
+
+
+def _terms(text):
+    """The terms in round brackets at the top level of text."""
+    out, n, start = [], 0, 0
+    for i, ch in enumerate(text):
+        if ch == "(":
+            if n == 0:
+                start = i
+            n += 1
+        elif ch == ")":
+            n -= 1
+            if n == 0:
+                out.append(text[start : i + 1])
+            if n < 0:
+                break
+    return out
+
+
+def _parse(lts, tie):
+    recs = _records(lts)
+    for call in re.findall(r"(\S+·own) =\s*Called\.Called\b", lts):
+        recs[call] = [[f, ""] for f in ("result", "last", "kept", "ensures")]
+    place = dict(re.findall(r"Need-(\S+) =\s*\(c : ([^\s)]+)", lts))
+    spec = tie[tie.find("pub spec :") :]
+    spec = re.split(r"\n\s*\n", spec)[0]
+    loops = [n for k, n in re.findall(r": (InvT|MeasureT)-([\w·-]+)", spec) if k == "InvT"]
+    needs = re.findall(r": Need-([^\s)]+)", spec)
+    args = [f for f, _ in recs.get("Args", [])]
+    got, names = {}, {}
+    for l in loops:
+        m = re.search(rf"Need-{re.escape(l)}-holds =\s*\(c : [^)]*\) →\s*Inv·\d+(.*?)\n\s*\n", lts, re.S)
+        moved = [f for f, _ in recs.get(f"At-{l}·own", []) if f != "inv"]
+        at = [re.match(r"\(Row\.get\s+(\d+)", t) for t in _terms(m.group(1))] if m else []
+        at = [int(x.group(1)) if x else 0 for x in at]
+        k = len(at) - len(moved)
+        got[l] = (at[:k], moved)
+        if len(moved) and len(at) >= len(moved):
+            names.update(zip(at[k:], moved))
+    inv = {}
+    for l, (first, moved) in got.items():
+        line = []
+        for i in first:
+            n = names.get(i) or (args[i - 1] if 0 < i <= len(args) else f"x{i}")
+            line.append(n + "₀" if n in moved else n)
+        inv[l] = line + moved
+    return {"recs": recs, "place": place, "needs": needs, "loops": loops, "inv": inv, "args": args}
+
+
+def records(top, crate, path, fresh=False):
+    """The records of what is known at each place of a function. They are made in a temporary copy of the repository in which each
+    proof of the crate is one hole, so that no proof is run; and kept, under a key of the code and the specs, in the temporary folder."""
+    keep = os.path.join(tempfile.gettempdir(), f"rattle-places-{os.getuid()}", f"{crate}-{_key(top, crate)}.json")
+    if os.path.exists(keep) and not fresh:
+        got = json.load(open(keep))
+        if path in got:
+            return got[path]
+    below = reached(deps(top), crate)
+    if below:
+        code, out = rt(top, "check", *below)
+        if code:
+            die(f"a crate that {crate} depends on is not proved:\n{out[-1500:]}")
+    with tempfile.TemporaryDirectory() as tmp:
+        copy, gen = os.path.join(tmp, "repo"), os.path.join(tmp, "generated")
+        os.makedirs(os.path.join(copy, "target"))
+        with open(os.path.join(copy, "crates.txt"), "w") as f:
+            for c in below + [crate]:
+                f.write(f"{c}: {' '.join(deps(top)[c])}".rstrip() + "\n")
+        for c in below + [crate]:
+            shutil.copytree(os.path.join(top, "crates", c), os.path.join(copy, "crates", c))
+        for c in below:
+            for part in (f"rlib/{c}.rlib", f"stamp/{c}"):
+                a, b = os.path.join(top, "target", part), os.path.join(copy, "target", part)
+                os.makedirs(os.path.dirname(b), exist_ok=True)
+                if os.path.isdir(a):
+                    shutil.copytree(a, b)
+                elif os.path.exists(a):
+                    shutil.copy(a, b)
+        proofs = os.path.join(copy, "crates", crate, "proofs")
+        todo = {path}
+        for d, _, fs in os.walk(proofs):
+            if "Proof.antt" in fs:
+                todo.add(os.path.relpath(d, proofs))
+        for p in todo:
+            os.makedirs(os.path.dirname(proof_file(copy, crate, p)), exist_ok=True)
+            open(proof_file(copy, crate, p), "w").write(stub(crate, p))
+        _, out = rt(copy, "dev", crate, "--generated", gen)
+        base = os.path.join(gen, f"Rattle.{crate}.proofs", "proofs")
+        got = {}
+        for d, _, fs in os.walk(base):
+            if "Lts.antt" in fs and "Tie.antt" in fs:
+                read = lambda f: open(os.path.join(d, f)).read()
+                got[os.path.relpath(d, base)] = _parse(read("Lts.antt"), read("Tie.antt"))
+    if path not in got:
+        die(f"rattle made no records for {crate}::{path.replace('/', '::')}. Does the crate parse? It said:\n{out[:1500]}")
+    os.makedirs(os.path.dirname(keep), mode=0o700, exist_ok=True)
+    json.dump(got, open(keep, "w"))
+    return got[path]
+
+
+def chain(r, start):
+    """From a place back to the start: (how many .before, the place, its own field, the fields of that)."""
+    out, k = [], 0
+    while start in r["recs"]:
+        fields = dict(r["recs"][start])
+        own = [f for f in fields if f != "before"]
+        if "before" not in fields:
+            out.append((k, start, "", own))
+            break
+        sub = [f for f, _ in r["recs"].get(start + "·own", [])]
+        out.append((k, start, own[0] if own else "", sub))
+        start, k = fields["before"], k + 1
+    return out
+
+
+def before(k, var="c"):
+    return var + " .before" * k
+
+
+def words(r):
+    """What `tie.spec` is given, in its order: an invariant and a measure for each loop, then the needs."""
+    return [w for l in r["loops"] for w in (f"Inv-{l}", f"μ-{l}")] + r["needs"]
+
+
+def _each_line(r, text, change):
+    """The text with change(line, place, line number) for each line of code; place is that of the need, of the lemma's `c`, or of the answer's
+    turn in the list of `tie.spec`, which has a line for each."""
+    out, cur, turn = [], None, None
+    for no, line in enumerate(text.split("\n"), 1):
+        m = re.match(r"(\S+) c\b", line)
+        if m and m.group(1) in r["place"]:
+            cur = r["place"][m.group(1)]
+        elif re.match(r"\S", line):
+            m = re.search(r"\(c : tie\.([\w-]+)", line)
+            cur, turn = m.group(1) if m else cur, None
+        elif line.strip() == "(tie.spec":
+            turn = iter(words(r))
+        elif turn:
+            cur = r["place"].get(next(turn, None))
+        out.append(line if line.lstrip().startswith("--") else change(line, cur, no))
+    return "\n".join(out)
+
+
+def expand(r, text, name):
+    """The short forms of expand.py, written out."""
+
+    def change(line, cur, no):
+        def bad(msg):
+            die(f"{name}:{no}: {msg}")
+
+        def here():
+            if cur is None:
+                bad("a short form that stands in no need's answer and below no `(c : tie.PLACE)`")
+            return chain(r, cur)
+
+        def place(m):
+            for d, at, _, _ in here():
+                if at == m.group(1):
+                    return before(d)
+            bad(f"no way from {cur} to {m.group(1)}; on the way back from {cur} are: {' '.join(x[1] for x in here())}")
+
+        def field(m):
+            for d, at, f, _ in here():
+                if m.group(1) == "start" and at == "Start":
+                    return before(d)
+                if f == m.group(1):
+                    return f"{before(d)} .{f}"
+            bad(f"no record on the way back from {cur} has {m.group(1)}; they have: {' '.join(x[2] for x in here() if x[2])}")
+
+        def said(m):
+            law, side = ("says-yes", "left") if m.group(1) == "YES" else ("says-no", "taken")
+            i = m.group(3) if m.group(3).startswith("if") else "if" + m.group(3)
+            return f"({law} (@{m.group(2)} .result) (@{i} .{side}) (@{m.group(2)} .ensures))"
+
+        line = re.sub(r"\b(YES|NO)\(\s*([\w-]+)\s*,\s*((?:if)?\d+)\s*\)", said, line)
+        line = re.sub(r"(?<![\w-])c@([\w-]+)", place, line)
+        return re.sub(r"(?<![\w@])@([a-z][\w-]*)", field, line)
+
+    return _each_line(r, text, change)
+
+
+def fold(r, text, name):
+    """Each `c .before ..` as c@PLACE."""
+
+    def change(line, cur, no):
+        def one(m):
+            ch = chain(r, cur)
+            n = m.group(0).count(".before")
+            if n >= len(ch):
+                die(f"{name}:{no}: {n} times .before from {cur}, which has {len(ch) - 1} places before it")
+            return f"c@{ch[n][1]}"
+
+        return re.sub(r"(?<![\w.)-])c(?: \.before(?![\w-]))+", one, line) if cur else line
+
+    return _each_line(r, text, change)
