@@ -227,23 +227,171 @@ def words(r):
     return [w for l in r["loops"] for w in (f"Inv-{l}", f"μ-{l}")] + r["needs"]
 
 
+WIDE = 150
+
+
+def spec(text):
+    """Where the list of `tie.spec` stands in the text, (from, upto), and its items: names, and answers in round brackets."""
+    start = text.find("(tie.spec")
+    if start < 0:
+        return None
+    at, depth, found, item = start + len("(tie.spec"), 0, [], ""
+    for i, ch in enumerate(text[at:], at):
+        if ch == ")" and depth == 0:
+            return (at, i), found + ([item] if item else [])
+        depth += (ch == "(") - (ch == ")")
+        if depth == 0 and ch.isspace():
+            found, item = found + ([item] if item else []), ""
+        else:
+            item += " " if ch.isspace() else ch
+    return None
+
+
+def listed(items, was):
+    """The items over lines, as many on each as it takes; on the line of `tie.spec` if they stood there."""
+    flat = " " + " ".join(items)
+    if "\n" not in was and len(flat) < WIDE // 2:
+        return flat
+    out = [""]
+    for item in items:
+        if out[-1] and len(out[-1]) + len(item) > WIDE:
+            out.append("")
+        out[-1] += " " + item if out[-1] else "    " + item
+    return "\n" + "\n".join(out)
+
+
 def _each_line(r, text, change):
-    """The text with change(line, place, line number) for each line of code; place is that of the need, of the lemma's `c`, or of the answer's
-    turn in the list of `tie.spec`, which has a line for each."""
-    out, cur, turn = [], None, None
-    for no, line in enumerate(text.split("\n"), 1):
+    """The text with change(piece, place, line number) for each piece of code: a line, or an item in the list of `tie.spec`. Its place is that of the need, of
+    the lemma's `c`, or of the item's turn in the list."""
+    held, source = spec(text), text
+    head, tail = (text[: held[0][0]], text[held[0][1] :]) if held else (text, "")
+    out, cur = [], None
+    for no, line in enumerate(head.split("\n"), 1):
         m = re.match(r"(\S+) c\b", line)
         if m and m.group(1) in r["place"]:
             cur = r["place"][m.group(1)]
         elif re.match(r"\S", line):
             m = re.search(r"\(c : tie\.([\w-]+)", line)
-            cur, turn = m.group(1) if m else cur, None
-        elif line.strip() == "(tie.spec":
-            turn = iter(words(r))
-        elif turn:
-            cur = r["place"].get(next(turn, None))
-        out.append(line if line.lstrip().startswith("--") else change(line, cur, no))
-    return "\n".join(out)
+            cur = m.group(1) if m else cur
+        own = re.match(r"abbrev (\S+) : tie\.\S+[^→]*→ tie\.", out[-1]) if out else None
+        named_here = own and line.startswith(own[1] + " c = ")
+        out.append(line if named_here or line.lstrip().startswith("--") else change(line, cur, no))
+    text = "\n".join(out)
+    if held:
+        text += listed([change(item, r["place"].get(turn), "list") for item, turn in zip(held[1], words(r))], source[held[0][0] : held[0][1]]) + tail
+    return text
+
+
+FAR = 10
+CHAIN = re.compile(r"(?<![\w.)-])c((?: \.before(?![\w-]))+)")
+NAMES = "-- earlier places of the function, by name\n"
+NAMED = re.compile(r"abbrev (\S+) : tie\.([\w-]+)[^\n]*→ tie\.([\w-]+)[^\n]*\n\1 c = [^\n]*\n\n?")
+
+
+def _goals(r, far):
+    """For each pair of a place and one far before it, how it is named: {(from, to): (name, the place that the name starts from, steps to there)}, and the names'
+    definitions, [(name, from, to)]. A name serves all places from which its own start is less than ten steps back."""
+    depth = lambda p: len(chain(r, p))
+    how, made = {}, []
+    for to in sorted({b for _, b in far}, key=depth):
+        name, n = ("entry" if to == "Start" else to[0].lower() + to[1:]), 0
+        starts = []
+        for a in sorted({a for a, b in far if b == to}, key=depth):
+            back = [x[1] for x in chain(r, a)][:FAR]
+            got = next(((s, back.index(s[1])) for s in starts if s[1] in back), None)
+            if not got:
+                n += 1
+                starts.append((name + (f"-{n}" if n > 1 else ""), a))
+                made.append((starts[-1][0], a, to))
+                got = starts[-1], 0
+            how[a, to] = (got[0][0], got[0][1], got[1])
+    return how, made
+
+
+def named(r, text, name):
+    """Each chain of ten `.before` and more by a name, which the file declares above its first use."""
+    far = set()
+
+    def look(piece, cur, no):
+        for m in CHAIN.finditer(piece):
+            n = m[1].count(".before")
+            if n >= FAR:
+                if cur is None:
+                    die(f"{name}:{no}: a chain of {n} .before at no known place")
+                far.add((cur, chain(r, cur)[n][1]))
+        return piece
+
+    _each_line(r, text, look)
+    if not far:
+        return text
+    how, made = _goals(r, far)
+    taken = set(re.findall(r"(?<![\w.·-])[a-zA-Z][\w·′-]*", text))
+    fresh = {}
+    for n, _, _ in made:
+        fresh[n] = n
+        while fresh[n] in taken:
+            fresh[n] += "′"
+
+    def change(piece, cur, no):
+        def one(m):
+            n = m[1].count(".before")
+            if n < FAR:
+                return m[0]
+            word, _, steps = how[cur, chain(r, cur)[n][1]]
+            return f"{fresh[word]} " + (f"({before(steps)})" if steps else "c")
+
+        return CHAIN.sub(one, piece)
+
+    text = _each_line(r, text, change)
+    over = "".join(f" Inv-{l} μ-{l}" for l in r["loops"])
+    block, ready = NAMES, []
+    for n, a, to in sorted(made, key=lambda x: (len(chain(r, x[1])), -len(chain(r, x[2])))):
+        way = [x[1] for x in chain(r, a)]
+        goal = way.index(to)
+        ways = [(goal, before(goal))]
+        for m, b, t in ready:
+            if b in way and t in way and way.index(t) <= goal:
+                k, j = way.index(b), goal - way.index(t)
+                ways.append((k + j, f"{fresh[m]} " + (f"({before(k)})" if k else "c") + " .before" * j))
+        block += f"abbrev {fresh[n]} : tie.{a}{over} → tie.{to}{over}\n{fresh[n]} c = {min(ways)[1]}\n\n"
+        ready.append((n, a, to))
+    uses = min(m.start() for w in fresh.values() for m in re.finditer(r"(?<![\w.·-])" + re.escape(w) + r"(?![\w·′-])", text))
+    heads = [m.start() for m in re.finditer(r"(?m)^(?:--[^\n]*\n)*(?:pub |abbrev |unfoldable )*[^\s:(]+ :", text) if m.start() <= uses]
+    return nearby(text[: heads[-1]] + block + text[heads[-1] :])
+
+
+def nearby(text):
+    """The text without the names of places that stand one or two steps before a named one: they are reached from that."""
+    at = text.find(NAMES)
+    while at >= 0:
+        end, near = at + len(NAMES), None
+        while not near and (m := NAMED.match(text, end)):
+            end, near = m.end(), re.search(rf"\n{re.escape(m[1])} c = ([^\s(]+) c((?: \.before){{1,2}})\n", m[0])
+        if not near or near[1] == "c":
+            return text
+        text = text[: m.start()] + text[m.end() :]
+        text = re.sub(_use(m[1]), lambda u: f"{near[1]} {u[1]}{near[2]}", text)
+    return text
+
+
+def _use(word):
+    """The pattern of a use of a place's name: what it is applied to."""
+    return r"(?<![\w.·-])" + re.escape(word) + r" (c(?![\w@-])|\(c(?: \.before)+\))"
+
+
+def unnamed(text):
+    """The text with its names of earlier places gone, each use as c@PLACE."""
+    at = text.find(NAMES)
+    if at < 0:
+        return text
+    end, gone = at + len(NAMES), []
+    while m := NAMED.match(text, end):
+        gone.append((m[1], m[3]))
+        end = m.end()
+    text = text[:at] + text[end:]
+    for word, to in gone:
+        text = re.sub(_use(word), f"c@{to}", text)
+    return text
 
 
 def expand(r, text, name):
@@ -281,11 +429,11 @@ def expand(r, text, name):
         line = re.sub(r"(?<![\w-])c@([\w-]+)", place, line)
         return re.sub(r"(?<![\w@])@([a-z][\w-]*)", field, line)
 
-    return _each_line(r, text, change)
+    return named(r, _each_line(r, text, change), name)
 
 
 def fold(r, text, name):
-    """Each `c .before ..` as c@PLACE."""
+    """Each `c .before ..`, and each place that has a name, as c@PLACE."""
 
     def change(line, cur, no):
         def one(m):
@@ -295,6 +443,6 @@ def fold(r, text, name):
                 die(f"{name}:{no}: {n} times .before from {cur}, which has {len(ch) - 1} places before it")
             return f"c@{ch[n][1]}"
 
-        return re.sub(r"(?<![\w.)-])c(?: \.before(?![\w-]))+", one, line) if cur else line
+        return CHAIN.sub(one, line) if cur else line
 
-    return _each_line(r, text, change)
+    return _each_line(r, unnamed(text), change)

@@ -1,6 +1,6 @@
 -- A bring-in on a sound state: the number of the first condition that holds, from the tests that the code makes; and what comes of a bring-in that is
 -- refused, given back or kept, as `storeInsert` has it. Assumes nothing.
-use Prim.Native.Nat.{ℕ, zero, suc, _+_, _-_, _*_, _≤_, _<_, zero-le}
+use Prim.Native.Nat.{ℕ, zero, suc, _+_, _*_, _≤_, _<_, zero-le}
 use mathlib.Core.Path.{_≡_, refl, sym, ap, subst, _∙_}
 use mathlib.Core.Logic.{inl, inr}
 use mathlib.Core.Bool.{Bool, true, false, not, _||_}
@@ -20,9 +20,10 @@ use Rattle.model.specs.Store.{storeOf, ranges}
 use Rattle.model.specs.Trim.{Out}
 use Rattle.model.specs.Bring.{Brought, gaps, bringNeed, giveBack}
 use Rattle.model.specs.Refusals.{Condition, Exact, First, firstOf, OutList, OutFits, SpanIn, spanIn, unsound, shortOuts, noStore, badSpan, badTime, fewRecords, lateStamp, storeInsertRefusals}
-use Rattle.model.specs.Calls.{refused, done, Outcome, unless, brought, bringIn, layOuts, storeInsert}
+use Rattle.model.specs.Calls.{refused, done, brought, bringIn, layOuts, storeInsert}
 use Rattle.theory_refuse.proofs.Says.{false-says}
 use Rattle.theory_refuse.proofs.Refusals.{first-says, storeInsert-exact}
+use Rattle.theory_refuse.proofs.Unless.{unless-none, unless-some}
 use Rattle.theory_bring.proofs.Bring.{bring-cases}
 use Rattle.theory_calls.proofs.Accepted.{NoneHolds, neither, span-in, is-finite}
 use Rattle.rule_resolve.specs.Span.{Priced, onlyDepth}
@@ -81,15 +82,6 @@ none-of (c ∷ cs) k (inr p) = (p .0, none-of cs (k .1) (p .1))
 
 none-holds : (cs : List Condition) → Numbered cs → Exact cs → 0 ≡ firstOf cs → NoneHolds cs
 none-holds cs k x e = none-of cs k (subst (λ (n : ℕ). First cs n) (sym e) (first-says cs x))
-
--- ---- a call that is refused, or not
-
-unless-some : {L A : Type 0} (k n : ℕ) (st : State) (l : L) (o : Outcome L A) → 0 < n → k ≡ n → outcome st l (refused n) ≡ unless k st l o
-unless-some k zero st l o p e = absurd (omega arith)
-unless-some k (suc n) st l o p e = sym (ap (λ (m : ℕ). unless m st l o) e)
-
-unless-none : {L A : Type 0} (k : ℕ) (st : State) (l : L) (o : Outcome L A) → k ≡ 0 → o ≡ unless k st l o
-unless-none k st l o e = sym (ap (λ (m : ℕ). unless m st l o) e)
 
 -- ---- the tests for 2, 4 and 5
 
@@ -159,9 +151,6 @@ module _ (st : State) (s n : ℕ) (b : Book) (next : ℕ) (e : bookOf st s ≡ b
         (le-ltb maxStamp (nextIdOf st + n) (omega (arith, d)))))
 
 -- ---- the gaps of a store's part are those of the store
-
-pub width : (s : ℕ) → (128 * s + 128) - 128 * s ≡ 128
-width s = omega arith
 
 pub gaps-part : (st : State) (s w n : ℕ) (sp : Span) (g : Gaps) (node start end : List ℕ) → w ≡ 128 → n ≤ 128
     → ((id stamp write : List ℕ) (touched : List Float)
@@ -234,7 +223,7 @@ module _ (st : State) (l : OutList) (s : ℕ) (sp : Span) (time : Float) (h : So
   pub argument-refused : (w n : ℕ) → 0 < n → n ≡ firstOf (argumentRefusals st s sp time) → outcome st l (refused n) ≡ storeInsert st l s sp time w
   unfolding storeInsert
   argument-refused w n p e =
-      unless-some _ n st l _ p (first-left ∙ first-front (argumentRefusals st s sp time) (needRefusals st s need) n p e)
+      sym (unless-some st l _ _ n (first-left ∙ first-front (argumentRefusals st s sp time) (needRefusals st s need) n p e) (λ (z : n ≡ 0). omega arith))
 
   arguments-exact : Exact (argumentRefusals st s sp time)
   arguments-exact = (exact .1 .1 .0, (exact .1 .1 .1 .0, (exact .1 .1 .1 .1 .0, tt)))
@@ -293,7 +282,7 @@ module _ (st : State) (l : OutList) (s : ℕ) (sp : Span) (time : Float) (h : So
       unfolding storeInsert
       given-back lʹ q =
           (λ j. outcome (sym same-state j) ((q ∙ ap (λ (os : List Out). layOuts os l) (sym outs-are)) j) (done (record { outs = sym (ap length outs-are) j })))
-          ∙ unless-none _ st l _ (need-decides st l s sp time h fits store-there span-there time-finite ∙ sym nothing-needed)
+          ∙ sym (unless-none st l _ _ (need-decides st l s sp time h fits store-there span-there time-finite ∙ sym nothing-needed))
 
 -- ---- a store with a capacity
 
@@ -316,7 +305,7 @@ module _ {st : State} {l : OutList} {s : ℕ} {sp : Span} {time : Float} (p : Ke
 
   pub need-refused : (w n : ℕ) → 0 < n → n ≡ firstOf (needRefusals st s (g .n)) → outcome st l (refused n) ≡ storeInsert st l s sp time w
   unfolding storeInsert
-  need-refused w n q e = unless-some _ n st l _ q (need-first ∙ sym e)
+  need-refused w n q e = sym (unless-some st l _ _ n (need-first ∙ sym e) (λ (z : n ≡ 0). omega arith))
 
   module _ (e : 0 ≡ firstOf (needRefusals st s (g .n))) where
     none-late : NoneHolds (needRefusals st s kept)
@@ -343,4 +332,4 @@ module _ {st : State} {l : OutList} {s : ℕ} {sp : Span} {time : Float} (p : Ke
 
     pub kept-whole : {w : ℕ} {stʹ : State} {lʹ : OutList} {o : ℕ} → BroughtIn st l s sp time w stʹ lʹ o → outcome stʹ lʹ (done (record { outs = o })) ≡ storeInsert st l s sp time w
     unfolding storeInsert
-    kept-whole u = (λ j. outcome (u .state j) (u .lists j) (done (record { outs = u .outs j }))) ∙ unless-none _ st l _ (need-first ∙ sym e)
+    kept-whole u = (λ j. outcome (u .state j) (u .lists j) (done (record { outs = u .outs j }))) ∙ sym (unless-none st l _ _ (need-first ∙ sym e))

@@ -5,13 +5,13 @@ use mathlib.Core.List.{List}
 use Prim.Native.Nat.{ℕ, zero, suc, _+_, _-_, _*_, _≤_, _<_, zero-le}
 use native.Mathlib.Numerals.{add-one}
 use native.Mathlib.Omega.{arith}
-use borrow.Author.Tests.{lt-ltb, le-ltb}
+use borrow.Author.Tests.{lt-ltb, le-ltb, not-true, not-false}
 use lib.Dec.{ltb}
 use lib.ListN.{length, getD, take, set, length-set}
 use lib.Seq.{take-suc, length-take-le}
 use Rattle.model.specs.Words.{any}
 use Rattle.model.specs.Sizes.{maxNodes, maxWords, maxStores, maxNumbers, maxStamp, storeRecords, storePins}
-use Rattle.model.specs.State.{Ranges, Pins, State, at, nodesIn, usedIn, storesIn, nextIdIn, bookIn, storesOf, nextIdOf, recordsOf, entriesOf}
+use Rattle.model.specs.State.{Ranges, Pins, State, at, nodesIn, usedIn, storesIn, nextIdIn, storesOf, nextIdOf, recordsOf, entriesOf}
 use Rattle.model.specs.Sound.{Sound}
 use Rattle.model.specs.Tree.{Seg, resolve, blocks}
 use Rattle.model.specs.Store.{storeOf, ranges, pins, plus}
@@ -26,7 +26,7 @@ use Rattle.call_cut.specs.Needs.{overfull, overpinned, idsBelow}
 use Rattle.theory_calls.proofs.Cut.{records-counted, entries-counted}
 use Rattle.theory_calls.proofs.Parts.{sound-parts}
 use Rattle.theory_cut.proofs.Insert.{match-end}
-use Rattle.call_cut.specs.Refusal.{insertRefusal, pick, cutRefusal, Seen, Shown}
+use Rattle.call_cut.specs.Refusal.{insertRefusal, cutNumber, cutRefusal, Seen, Shown}
 
 -- ---- the copy
 
@@ -74,7 +74,7 @@ any-same (suc n) t u h = ap₂ (λ a b. a || b) (h n (omega arith)) (any-same n 
 abbrev five : Bool → Bool → Bool → Bool → Bool → ℕ
 five true b c d e = 6
 five false true c d e = 7
-five false false c d e = pick c d e
+five false false c d e = cutNumber c d e
 
 module _ (st : State) (hs : List ℕ) where
   abbrev recordsOver : ℕ → Bool
@@ -180,14 +180,6 @@ module _ (st : State) (hs : List ℕ) where
 pub plus-few : (b : Bool) → plus b 1 ≤ 2
 plus-few true = omega arith
 plus-few false = omega arith
-
-not-yes : (b : Bool) → not b ≡ true → b ≡ false
-not-yes true e = sym e
-not-yes false e = refl
-
-not-no : (b : Bool) → not b ≡ false → b ≡ true
-not-no true e = refl
-not-no false e = sym e
 
 -- ---- the returns of the code: of a cut
 
@@ -297,16 +289,16 @@ module _ {ls ns ss es bs : List ℕ} {o : Bool} {m : Match} {n : ℕ} (st : Stat
         words-fit = omega (arith, new-is st hs, blocks-is, w .count, w .used)
 
         pub not-inside : not b ≡ true → 0 ≡ insertRefusal st hs
-        not-inside q = no-cut (rw (added, inside-is b e, not-yes b q)) nodes-fit words-fit
+        not-inside q = no-cut (rw (added, inside-is b e, not-true b q)) nodes-fit words-fit
 
         pub inside : not b ≡ false → (rs : List ℕ) → rs ≡ recordsIn bs → (v : ℕ)
             → ((c : Ranges) → c .node ≡ ns → c .start ≡ ss → c .end ≡ es → v ≡ cutRefusal (m .node) (m .len) o c rs (storesIn bs) (nextIdIn bs))
             → v ≡ insertRefusal st hs
         unfolding cutRefusal
         inside q rs are v h =
-            let does : cuts st hs ≡ true = rw (added, inside-is b e, not-no b q) in
+            let does : cuts st hs ≡ true = rw (added, inside-is b e, not-false b q) in
             let is : insertRefusal st hs
-            ≡ pick (any (storesOf st) (overfull (m .node) (m .len) (st .ranges) (recordsIn (st .books)))) o (ltb maxStamp (nextIdOf st + idsBelow (m .node) (m .len) (st .ranges) (recordsIn (st .books)) (storesOf st))) =
+            ≡ cutNumber (any (storesOf st) (overfull (m .node) (m .len) (st .ranges) (recordsIn (st .books)))) o (ltb maxStamp (nextIdOf st + idsBelow (m .node) (m .len) (st .ranges) (recordsIn (st .books)) (storesOf st))) =
             first-is st hs
             ∙ rw (le-ltb maxNodes (st .tree .nodes + nodeNeed st hs) nodes-fit, le-ltb maxWords (st .tree .used + newBlocks st hs) words-fit, records-test st hs does few-stores, entries-test st hs does few-stores, ids-read st hs does (storesOf st) few-stores, w .over, node-is, len-is) in
             h (st .ranges) (w .node) (w .start) (w .end)

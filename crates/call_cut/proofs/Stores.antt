@@ -1,18 +1,15 @@
--- Facts of numbers about a store's part of 128 places, and a callee's result on the part as one on the pool.
+-- A callee's result on a store's part is one on the pool, and a loop over the stores.
 use mathlib.Core.Path.{_≡_, refl, sym, ap, ap₂, _∙_}
 use mathlib.Core.Bool.{Bool, true, false, _||_}
-use mathlib.Core.Logic.{_⊎_, ⊎-elim}
+use mathlib.Core.Logic.{⊎-elim}
 use mathlib.Core.List.{List, [], _∷_, _++_}
-use Prim.Native.Nat.{ℕ, zero, suc, _+_, _-_, _*_, _≤_, _<_}
+use Prim.Native.Nat.{ℕ, zero, suc, _+_, _*_, _≤_, _<_}
 use native.Mathlib.Nat.{eq-or-lt-of-le}
 use native.Mathlib.Numerals.{add-one}
 use native.Mathlib.Omega.{arith}
 use lib.Dec.{ltb}
 use borrow.Author.Tests.{lt-ltb, le-ltb}
-use lib.ListN.{length, take, drop, replicate, length-set}
-use lib.Seq.{drop-drop}
-use mir.Val.{Fits}
-use mir.Syntax.{w64}
+use lib.ListN.{length, length-set}
 use Rattle.model.specs.Sizes.{maxStamp, maxPinned}
 use Rattle.model.specs.Words.{any}
 use Rattle.model.specs.State.{Ranges, Range, Pins, Pin, at}
@@ -21,30 +18,11 @@ use Rattle.model.specs.Store.{lay, ranges, layRanges, pins, layPins, plus}
 use Rattle.model.specs.Insert.{across, heads, tails, rangesAcross, cutMarks, cutPins, pinAcross, pinsAcross}
 use Rattle.pool_range.specs.Part.{Sized}
 use Rattle.pool_part.specs.Parts.{mid, back, midRanges, backRanges, midPins, backPins}
-use Rattle.pool_part.proofs.Parts.{ranges-part, ranges-back, ranges-sized, mid-long, pins-part, pins-back}
+use Rattle.pool_part.proofs.Parts.{ranges-part, ranges-back, ranges-sized, mid-long, pins-part, pins-back, marks-back}
 use Rattle.theory_lay.proofs.Rows.{ranges-length, pins-length}
 use Rattle.rule_cut_pins.specs.Entries.{PinsSized, counts, pinsAcrossIn, cutEntries}
 use Rattle.rule_cut.specs.Cutting.{acrossIn, cutRanges}
 use Rattle.call_cut.specs.Needs.{acrossOf, idsBelow}
-
--- the bounds of a store's part
-pub start-fits : {s : ℕ} → s < 8 → Fits w64 (128 * s)
-start-fits h = omega arith
-
-pub end-fits : {s : ℕ} → s < 8 → Fits w64 (128 * s + 128)
-end-fits h = omega arith
-
-pub fit4 : {s : ℕ} → s < 8 → Fits w64 (128 * s * 4)
-fit4 h = omega arith
-
-pub fit8 : {s : ℕ} → s < 8 → Fits w64 (128 * s * 8)
-fit8 h = omega arith
-
-pub ends : {s m : ℕ} → s < 8 → 1024 ≤ m → 128 * s + 128 ≤ m
-ends h e = omega arith
-
-pub width : (s : ℕ) → (128 * s + 128) - 128 * s ≡ 128
-width s = omega arith
 
 -- what the callee asks of the part
 pub asked : (s w n j k next : ℕ) (c : Ranges) → w ≡ 128 → s < 8 → n + rangesAcross j k (ranges c (128 * s) n) ≤ 128 → next ≤ maxStamp → RangesLent c
@@ -78,13 +56,6 @@ unfolding midRanges
 across-part s w n j k r c node start end e h f a b d =
     f (midRanges (128 * s) w c) (ap (mid (128 * s) w) a) (ap (mid (128 * s) w) b) (ap (mid (128 * s) w) d) ∙ across-same s w n j k c e h
 
--- a list as long as the part, given back
-full : (blank a w : ℕ) (xs pool : List ℕ) → length xs ≡ w → back a w xs pool ≡ lay blank a w xs pool
-unfolding lay
-full blank a w xs pool e =
-    let z : w - length xs ≡ 0 = omega arith in
-    rw z (ap (λ t. take a pool ++ (xs ++ t)) (drop-drop w a pool))
-
 cut-marks-long : (j k m : ℕ) (rs : List Range) (ms : List ℕ) → length (cutMarks j k m rs ms) ≡ length ms
 unfolding cutMarks
 cut-marks-long j k m rs ms = simp length-set
@@ -98,16 +69,11 @@ marks-part s w v n j k m c node marks last e g l h big f a =
     f (midRanges (128 * s) w c) (ap (mid (128 * s) w) a)
     ∙ ap (λ t. cutMarks j k m t (mid (256 * s) v marks)) (part-same s w n c e h)
     ∙ ap (λ t. cutMarks j k m (ranges c (128 * s) n) (mid (256 * s) t marks)) g in
-    let long : length (cutMarks j k m (ranges c (128 * s) n) (mid (256 * s) 256 marks)) ≡ 256 =
-    cut-marks-long j k m (ranges c (128 * s) n) (mid (256 * s) 256 marks) ∙ mid-long (256 * s) 256 marks (omega arith) in
-    ap (λ t. back (256 * s) v t marks) is ∙ ap (λ t. back (256 * s) t (cutMarks j k m (ranges c (128 * s) n) (mid (256 * s) 256 marks)) marks) g
-    ∙ full 0 (256 * s) 256 (cutMarks j k m (ranges c (128 * s) n) (mid (256 * s) 256 marks)) marks long
+    ap (λ t. back (256 * s) t last marks) g
+    ∙ marks-back l marks big (ap length is ∙ cut-marks-long j k m (ranges c (128 * s) n) (mid (256 * s) 256 marks)) is
   where
     part-same : (s w n : ℕ) (c : Ranges) → w ≡ 128 → n ≤ 128 → ranges (midRanges (128 * s) w c) 0 n ≡ ranges c (128 * s) n
     part-same s w n c e h = rw (e, ranges-part c (128 * s) 128 n h)
-
-pub mark-width : (s : ℕ) → (256 * s + 256) - 256 * s ≡ 256
-mark-width s = omega arith
 
 plus-less : (b : Bool) (m n : ℕ) → m ≤ n → plus b m ≤ suc n
 plus-less true m n h = omega arith
@@ -205,9 +171,6 @@ module _ (node start end : List ℕ) (j k : ℕ) (records : List ℕ) (stores : 
       (omega (arith, w .most), λ c a b d. rw e at (w .is c a b d))
 
 -- ---- pins
-
-pub pin-width : (s : ℕ) → (32 * s + 32) - 32 * s ≡ 32
-pin-width s = omega arith
 
 pub pins-sized : (a : ℕ) (c : Pins) → PinsLent c → a + 32 ≤ 256 → PinsSized 32 (midPins a 32 c)
 unfolding midPins

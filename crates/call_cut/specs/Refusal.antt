@@ -27,17 +27,17 @@ insertRefusal st hs =
     ∷ [])
 
 -- the number of the first test that holds, or 0
-abbrev pub pick : Bool → Bool → Bool → ℕ
-pick true b c = 8
-pick false true c = 9
-pick false false true = 11
-pick false false false = 0
+abbrev pub cutNumber : Bool → Bool → Bool → ℕ
+cutNumber true b c = 8
+cutNumber false true c = 9
+cutNumber false false true = 11
+cutNumber false false false = 0
 
 -- what a cut is refused for: of its ranges the columns are looked at, of its pins only whether they are too many
 unfoldable pub cutRefusal : ℕ → ℕ → Bool → Ranges → List ℕ → ℕ → ℕ → ℕ
 unfolding idsBelow
 cutRefusal j k over c records stores next =
-    pick (any stores (overfull j k c records)) over (ltb maxStamp (next + idsBelow j k c records stores))
+    cutNumber (any stores (overfull j k c records)) over (ltb maxStamp (next + idsBelow j k c records stores))
 
 -- a sound state of which these columns and numbers are lent, and the match of a list in its tree; o tells whether some store's pins are too many
 pub record Seen (ls ns ss es bs : List ℕ) (o : Bool) (m : Match) (n : ℕ) (st : State) (hs : List ℕ) : Type 0 where

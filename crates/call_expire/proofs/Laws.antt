@@ -1,34 +1,34 @@
 -- An expiry in a sound state: each test gives the refusal's number, the store's part is ready where none holds, and what the expiry leaves of the pools and
 -- the small numbers is the state that the definition has. Assumes nothing.
-use Prim.Native.Nat.{ℕ, zero, suc, _+_, _-_, _*_, _≤_, _<_}
+use Prim.Native.Nat.{ℕ, zero, _+_, _*_, _≤_, _<_}
 use mathlib.Core.Bool.{Bool, true, false, not}
 use mathlib.Core.Logic.{inl, inr, ⊎-elim}
 use mathlib.Core.Path.{_≡_, refl, sym, ap, subst, _∙_}
-use mathlib.Core.List.{List, [], _∷_, _++_}
+use mathlib.Core.List.{List, [], _∷_}
 use native.Mathlib.Omega.{arith}
-use lib.ListN.{length, take}
-use lib.Seq.{drop-drop}
+use lib.ListN.{length}
 use lib.Ieee.{Float}
 use Rattle.model.specs.declared.Book.{Book}
 use Rattle.model.specs.Words.{Says}
 use Rattle.model.specs.Sizes.{maxStores, maxNumbers}
 use Rattle.model.specs.State.{Tree, Ranges, Pins, Range, State, nodesIn, usedIn, bookIn, storesOf, nextIdOf, bookOf, recordsOf, heldOf, versionOf}
 use Rattle.model.specs.Sound.{Sound, Finite}
-use Rattle.model.specs.Store.{ranges, storeOf, lay, layRanges, layBook, ranged, total, withRanges}
+use Rattle.model.specs.Store.{ranges, storeOf, layRanges, layBook, ranged, total, withRanges}
 use Rattle.model.specs.Trim.{Trimmed}
 use Rattle.model.specs.Expire.{expire}
 use Rattle.model.specs.Refusals.{First, firstOf, OutList, OutFits, noStore, badTimes, storeExpireRefusals}
-use Rattle.model.specs.Calls.{Outcome, refused, done, unless, storeExpire}
+use Rattle.model.specs.Calls.{refused, done, storeExpire}
 use Rattle.theory_refuse.proofs.Says.{says-yes, says-no}
 use Rattle.theory_refuse.proofs.Refusals.{first-is, storeExpire-exact}
 use Rattle.theory_refuse.proofs.Refused.{storeExpire-kept}
+use Rattle.theory_refuse.proofs.Unless.{unless-none, unless-some}
 use Rattle.theory_sound.specs.StoreSound.{RangesSound, MarksSound, StoreSound}
 use Rattle.theory_calls.proofs.Parts.{sound-parts}
-use Rattle.theory_calls.proofs.Accepted.{NoneHolds, unless-done}
+use Rattle.theory_calls.proofs.Accepted.{NoneHolds, none-where}
 use Rattle.theory_calls.proofs.Stores.{store-sound}
 use Rattle.shape_state.specs.Lent.{stateOf}
 use Rattle.pool_part.specs.Parts.{mid, back, midRanges, backRanges}
-use Rattle.pool_part.proofs.Parts.{mid-long, ranges-part, ranges-back, ranges-sized}
+use Rattle.pool_part.proofs.Parts.{ranges-part, ranges-sized}
 use Rattle.rule_resolve.specs.Span.{onlyDepth}
 use Rattle.rule_evict.specs.Given.{Ready, GivenOut}
 use Rattle.rule_evict.proofs.Laws.{sound-ready}
@@ -36,6 +36,7 @@ use Rattle.rule_expire.specs.declared.Expiring.{Expiring}
 use Rattle.rule_expire.specs.Expire.{expired}
 use Rattle.rule_expire.proofs.Laws.{expired-depth}
 use Rattle.rule_bring.specs.Pool.{GivenOutAt}
+use Rattle.rule_bring.proofs.Laws.{given-at}
 use Rattle.shape_answer.specs.Answers.{outcome}
 use Rattle.call_expire.specs.Pool.{PoolReady}
 
@@ -65,53 +66,25 @@ module _ (st : State) (l : OutList) (s : ℕ) (time seconds : Float) (h : Sound 
 
 -- ---- the parts of store s
 
--- a list as long as the part, given back
-full : (a w : ℕ) (xs pool : List ℕ) → length xs ≡ w → back a w xs pool ≡ lay 0 a w xs pool
-unfolding lay
-full a w xs pool e = let z : w - length xs ≡ 0 = omega arith in rw z (ap (λ t. take a pool ++ (xs ++ t)) (drop-drop w a pool))
-
 module _ {depth bytes : List ℕ} {s n h : ℕ} {c : Ranges} {ms : List ℕ} {l : OutList} (p : PoolReady depth bytes s n h c ms l) where
   pub pool-part : (a b : ℕ) → a ≡ 128 → b ≡ 256 → Ready depth bytes n h (midRanges (128 * s) a c) (mid (256 * s) b ms) l
   pool-part a b ea eb = rw (ea, eb) (p .part)
 
   module _ {q : Ranges} {ms₂ : List ℕ} {l₂ : OutList} {v₀ j k o v : ℕ} {t : Bool} where
-    given-at : (x : Trimmed) → length ms₂ ≡ 256 → GivenOut x n v₀ (midRanges (128 * s) 128 c) l q ms₂ l₂ j k o v t
-        → GivenOutAt s x n v₀ c ms l (backRanges (128 * s) 128 q c) (back (256 * s) 256 ms₂ ms) l₂ j k o v t
-    given-at x long u =
-        record {
-          cols = ap (λ (y : Ranges). backRanges (128 * s) 128 y c) (u .cols) ∙ ranges-back (128 * s) 128 n (x .ranges) c (p .part .few);
-          marks = full (256 * s) 256 ms₂ ms long ∙ ap (λ (y : List ℕ). lay 0 (256 * s) 256 y ms) (u .marks);
-          lists = u .lists;
-          records = u .records;
-          held = u .held;
-          outs = u .outs;
-          version = u .version;
-          stalled = u .stalled;
-        }
-
     pub pool-given : (time seconds : Float) (a b : ℕ) → a ≡ 128 → b ≡ 256 → length ms₂ ≡ length (mid (256 * s) b ms)
         → GivenOut (expired (onlyDepth depth) bytes time seconds (ranges (midRanges (128 * s) a c) 0 n) (mid (256 * s) b ms)) n v₀ (midRanges (128 * s) a c) l q ms₂ l₂ j k o v t
         → GivenOutAt s (expired (onlyDepth depth) bytes time seconds (ranges c (128 * s) n) (mid (256 * s) 256 ms)) n v₀ c ms l (backRanges (128 * s) a q c) (back (256 * s) b ms₂ ms) l₂ j k o v t
     pool-given time seconds a b ea eb kept u =
-        let long : length ms₂ ≡ 256 = kept ∙ ap (λ (x : ℕ). length (mid (256 * s) x ms)) eb ∙ mid-long (256 * s) 256 ms (omega (arith, p .marks, p .store)) in
+        let long : length ms₂ ≡ length (mid (256 * s) 256 ms) = rw eb at kept in
         let f = ranges-part c (128 * s) 128 n (p .part .few) in
-        rw (ea, eb) (given-at _ long (rw f at (rw (ea, eb) at u)))
+        rw (ea, eb) (given-at _ (p .store) (p .part .few) (p .marks) long (rw f at (rw (ea, eb) at u)))
 
 -- ---- the call
-
-module _ {L A : Type 0} (st : State) (l : L) (o : Outcome L A) where
-  unless-none : (n : ℕ) → n ≡ 0 → unless n st l o ≡ o
-  unless-none zero e = refl
-  unless-none (suc n) e = absurd (omega arith)
-
-  unless-some : (n : ℕ) → (n ≡ 0 → ⊥) → unless n st l o ≡ outcome st l (refused n)
-  unless-some zero e = absurd (e refl)
-  unless-some (suc n) e = refl
 
 module _ (st : State) (l : OutList) (s : ℕ) (time seconds : Float) where
   pub call-refused : (n : ℕ) → n ≡ firstOf (storeExpireRefusals st l s time seconds) → (n ≡ 0 → ⊥) → outcome st l (refused n) ≡ storeExpire st l s time seconds
   unfolding storeExpire
-  call-refused n e d = ap (λ (k : ℕ). outcome st l (refused k)) e ∙ sym (unless-some st l _ (firstOf (storeExpireRefusals st l s time seconds)) (λ z. d (e ∙ z)))
+  call-refused n e d = sym (unless-some st l _ (firstOf (storeExpireRefusals st l s time seconds)) n (sym e) d)
 
   module _ (h : Sound st) (fits : OutFits l) (n : ℕ) (number : n ≡ firstOf (storeExpireRefusals st l s time seconds)) (zero : n ≡ 0) where
     none : firstOf (storeExpireRefusals st l s time seconds) ≡ 0
@@ -119,7 +92,7 @@ module _ (st : State) (l : OutList) (s : ℕ) (time seconds : Float) where
 
     none-holds : NoneHolds (storeExpireRefusals st l s time seconds)
     unfolding storeExpire
-    none-holds = unless-done _ _ _ (storeExpire-kept st l s time seconds) _ (ap (λ o. o .answer) (unless-none st l _ (firstOf (storeExpireRefusals st l s time seconds)) none)) .none
+    none-holds = none-where _ _ _ (storeExpire-kept st l s time seconds) none
 
     less : s < storesOf st
     less = let f = none-holds .1 .1 .0 in omega arith

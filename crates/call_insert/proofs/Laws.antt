@@ -1,8 +1,8 @@
 -- An insert's outcomes from its tests: refused, nothing new, a leaf, a leaf after a cut; and what each stage asks of the next. Assumes nothing.
 use mathlib.Core.Path.{_≡_, refl, sym, ap, ap₂, _∙_}
-use mathlib.Core.Bool.{true, false, not}
+use mathlib.Core.Bool.{true, false}
 use mathlib.Core.List.{List, [], _∷_, _++_, map}
-use Prim.Native.Nat.{ℕ, zero, suc, _+_, _-_, _^_, _≤_, _<_}
+use Prim.Native.Nat.{ℕ, suc, _+_, _-_, _^_, _≤_, _<_}
 use native.Mathlib.Omega.{arith}
 use borrow.Author.Tests.{lt-ltb, le-ltb, ltb-true, le-leb}
 use lib.ListN.{length, take, drop, set, length-append, length-take, length-drop}
@@ -19,7 +19,7 @@ use Rattle.model.specs.Tree.{Seg, resolve, blocks}
 use Rattle.model.specs.Store.{plus, layCounts}
 use Rattle.model.specs.Insert.{Inserted, cutTree, addLeaf, matchEnd, adds, endsInside, withTree, withLeaf, cut, cutFirst, grow, insertPath}
 use Rattle.model.specs.Refusals.{PathList, PathFits, pathFits, firstOf, insertRefusals, nodeNeed, newBlocks, cuts, cutRecords, cutEntries, cutIds}
-use Rattle.model.specs.Calls.{Outcome, refused, done, unless, front, layPath, pathOf, insert}
+use Rattle.model.specs.Calls.{Outcome, done, unless, front, layPath, pathOf, insert}
 use Rattle.shape_state.specs.Lent.{treeOf, stateOf}
 use Rattle.shape_answer.specs.declared.Inserted.the-variants as I
 use Rattle.shape_answer.specs.Answers.{outcome, insertedOf}
@@ -29,11 +29,12 @@ use Rattle.shape_answer.specs.Lists.{pathListOf}
 use Rattle.theory_refuse.proofs.Says.{true-says}
 use Rattle.theory_refuse.proofs.Sound.{sound-says}
 use Rattle.theory_refuse.proofs.Refused.{insert-kept}
+use Rattle.theory_refuse.proofs.Unless.{unless-some}
 use Rattle.theory_resolve.proofs.Walked.{resolve-few}
 use Rattle.theory_cut.proofs.Insert.{EndsAt, match-end, cut-tree}
 use Rattle.theory_calls.proofs.Parts.{sound-parts}
 use Rattle.theory_calls.proofs.Cut.{records-counted, entries-counted, ids-counted}
-use Rattle.theory_calls.proofs.Accepted.{NoneHolds, unless-done, each-fits}
+use Rattle.theory_calls.proofs.Accepted.{NoneHolds, each-fits, none-where}
 use Rattle.rule_grow.proofs.Laws.{Done, done-turn}
 use Rattle.call_cut.specs.Room.{Cuttable}
 use Rattle.call_cut.proofs.Laws.{ids-are, tree-cut}
@@ -127,10 +128,6 @@ resolved-found t hs l found m r =
 abbrev taken : Inserted → PathList → Outcome PathList InsertAnswer
 taken w l = record { state = w .state; lists = layPath (w .path) l; answer = done (record { path = pathOf (w .path); split = w .split }) }
 
-refused-is : (n : ℕ) (st : State) (l : PathList) (o : Outcome PathList InsertAnswer) → (n ≡ 0 → ⊥) → unless n st l o ≡ outcome st l (refused n)
-refused-is zero st l o h = absurd (h refl)
-refused-is (suc n) st l o h = refl
-
 module _ (st : State) (l : PathList) (hs : List ℕ) where
   -- the outcome of an insert that is refused with number n, or not, 0
   numbered : (n : ℕ) → firstOf (insertRefusals st l hs) ≡ n → insert st l hs ≡ unless n st l (taken (insertPath hs (resolve (st .tree) hs) st) l)
@@ -158,7 +155,7 @@ module _ (st : State) (l : PathList) (hs : List ℕ) where
     module _ (short : length hs ≤ maxHashes) (n : ℕ) (e : n ≡ insertRefusal st hs) where
       pub number-refused : (n ≡ 0 → ⊥) → outcome st l (insertedOf (I.Refused n)) ≡ insert st l hs
       number-refused some =
-          sym (numbered n (few-number short ∙ sym e) ∙ refused-is n st l (taken (insertPath hs (resolve (st .tree) hs) st) l) some)
+          sym (numbered n (few-number short ∙ sym e) ∙ unless-some st l (taken (insertPath hs (resolve (st .tree) hs) st) l) n n refl some)
 
       pub passed : {k : PathList} (found : PathList) (m : Match) → n ≡ 0 → Resolved (st .tree) hs k found m → Passed st l hs m found
       passed {k} found m z r =
@@ -307,8 +304,7 @@ module _ (st : State) (l : PathList) (hs : List ℕ) (m : Match) (found : PathLi
   unfolding insert
   fit =
       let w = insertPath hs (resolve (st .tree) hs) st in
-      roomy st l hs
-      (unless-done (w .state) (layPath (w .path) l) (record { path = pathOf (w .path); split = w .split }) (insert-kept st l hs) (record { path = pathOf (w .path); split = w .split }) (ap (λ i. unless i st l (taken w l) .answer) zero-number) .none)
+      roomy st l hs (none-where (w .state) (layPath (w .path) l) (record { path = pathOf (w .path); split = w .split }) (insert-kept st l hs) zero-number)
 
   blocks-is : m .blocks ≡ blocks (resolve (st .tree) hs)
   blocks-is = blocks-are (h .path)

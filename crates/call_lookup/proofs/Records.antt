@@ -1,8 +1,7 @@
 -- The array of the stores' record counts has each store's at its place. Assumes nothing.
-use Prim.Native.Nat.{ℕ, zero, suc, _<_}
+use Prim.Native.Nat.{ℕ}
 use mathlib.Core.List.{List}
-use mathlib.Core.Path.{_≡_, refl, ap, _∙_}
-use native.Mathlib.Omega.{arith}
+use mathlib.Core.Path.{_≡_, ap, _∙_}
 use Rattle.model.specs.Words.{Each}
 use Rattle.model.specs.Sizes.{maxStores}
 use Rattle.model.specs.State.{at, bookIn}

@@ -4,11 +4,10 @@ use Prim.Native.Nat.{ℕ, zero, suc, _+_, _-_, _*_, _%_, _≤_, _<_}
 use mathlib.Core.Bool.{Bool, true, false, not}
 use mathlib.Core.Logic.{inl, inr}
 use mathlib.Core.Path.{_≡_, refl, sym, ap, subst, _∙_}
-use mathlib.Core.List.{List, [], _∷_, _++_}
+use mathlib.Core.List.{List, [], _∷_}
 use native.Mathlib.Numerals.{add-one}
 use native.Mathlib.Omega.{arith}
-use lib.ListN.{length, take}
-use lib.Seq.{drop-drop}
+use lib.ListN.{length}
 use mir.Val.{Fits}
 use mir.Syntax.{w64}
 use Rattle.model.specs.declared.Span.{Span}
@@ -17,22 +16,23 @@ use Rattle.model.specs.declared.RemoveAnswer.{RemoveAnswer}
 use Rattle.model.specs.Sizes.{maxStores, maxNumbers, maxStamp, outPlaces, storeRecords, versions}
 use Rattle.model.specs.State.{Tree, Ranges, Pins, State, at, nodesIn, usedIn, nextIdIn, stallsIn, bookIn, storesOf, nextIdOf, stallsOf, bookOf, recordsOf, heldOf, versionOf}
 use Rattle.model.specs.Sound.{Sound, EndsWithin}
-use Rattle.model.specs.Store.{Store, ranges, storeOf, lay, layBook, layNext, ranged, total, withRanges, withNext}
+use Rattle.model.specs.Store.{Store, ranges, storeOf, layBook, layNext, ranged, total, withRanges, withNext}
 use Rattle.model.specs.Remove.{Removed, remove}
 use Rattle.model.specs.Refusals.{First, firstOf, SpanIn, spanIn, noStore, badSpan, fewRecords, lateId, storeRemoveRefusals}
-use Rattle.model.specs.Calls.{Outcome, refused, done, unless, storeRemove}
+use Rattle.model.specs.Calls.{refused, done, storeRemove}
 use Rattle.theory_refuse.proofs.Says.{says-true, says-false}
 use Rattle.theory_refuse.proofs.Refusals.{first-is, storeRemove-exact}
 use Rattle.theory_refuse.proofs.Refused.{storeRemove-kept}
+use Rattle.theory_refuse.proofs.Unless.{unless-none, unless-some}
 use Rattle.theory_sound.specs.StoreSound.{RangesSound, StoreSound}
 use Rattle.theory_bring.proofs.Facts.{Steady}
 use Rattle.theory_touch.proofs.Remove.{remove-steady, remove-need, remove-stamp, remove-sound}
 use Rattle.theory_lay.proofs.Store.{records-length}
-use Rattle.theory_calls.proofs.Accepted.{NoneHolds, unless-done, span-in}
+use Rattle.theory_calls.proofs.Accepted.{NoneHolds, span-in, none-where}
 use Rattle.theory_calls.proofs.Stores.{store-sound, removedBy}
 use Rattle.shape_state.specs.Lent.{stateOf}
 use Rattle.pool_part.specs.Parts.{mid, back, midRanges, backRanges}
-use Rattle.pool_part.proofs.Parts.{mid-long, ranges-part, ranges-back, ranges-sized}
+use Rattle.pool_part.proofs.Parts.{marks-back, mid-long, ranges-part, ranges-back, ranges-sized}
 use Rattle.pool_range.specs.Part.{Sized}
 use Rattle.rule_overlap.specs.Overlap.{Ordered, RemoveNeeds, RemoveFits}
 use Rattle.rule_overlap.proofs.Places.{sound-ordered}
@@ -200,11 +200,6 @@ module _ {len node start end : List ℕ} {k i s n : ℕ} {st : State} (v : Seen 
 
 -- ---- the parts of store s
 
--- a list as long as the part, given back
-full : (a w : ℕ) (xs pool : List ℕ) → length xs ≡ w → back a w xs pool ≡ lay 0 a w xs pool
-unfolding lay
-full a w xs pool e = let z : w - length xs ≡ 0 = omega arith in rw z (ap (λ t. take a pool ++ (xs ++ t)) (drop-drop w a pool))
-
 module _ {s n : ℕ} {sp : Span} {c : Ranges} {ms ls : List ℕ} (p : PoolReady s n sp c ms ls) where
   pub pool-sized : (a : ℕ) → a ≡ 128 → (n ≤ 128) × Sized 128 (midRanges (128 * s) a c) × Ordered (mid (128 * s) a (c .node)) (mid (128 * s) a (c .start)) (mid (128 * s) a (c .end)) n
   pool-sized a e = rw e (p .few, ranges-sized (128 * s) c (p .lent) (omega (arith, p .placed .store)), p .placed .order)
@@ -223,12 +218,12 @@ module _ {s n : ℕ} {sp : Span} {c : Ranges} {ms ls : List ℕ} (p : PoolReady 
         let f : p .fits .need ≡ remove x next sp .need = p .fits .are (mid (128 * s) 128 (c .id)) (mid (128 * s) 128 (c .stamp)) (mid (128 * s) 128 (c .write)) (mid (128 * s) 128 (c .touched)) x next e in
         omega (arith, p .fits .records)
 
-    freed-at : {q : Ranges} {ms₂ ls₂ : List ℕ} {r : Removing} (w : Removed) → n + w .need ≤ 128 → length ms₂ ≡ 256 → x .ranges ≡ ranges (midRanges (128 * s) 128 c) 0 n
+    freed-at : {q : Ranges} {ms₂ ls₂ : List ℕ} {r : Removing} (w : Removed) → n + w .need ≤ 128 → length ms₂ ≡ length (mid (256 * s) 256 ms) → x .ranges ≡ ranges (midRanges (128 * s) 128 c) 0 n
         → Freed x w (midRanges (128 * s) 128 c) q ms₂ ls ls₂ n r → FreedAt s n x w c ms ls (backRanges (128 * s) 128 q c) (back (256 * s) 256 ms₂ ms) ls₂ r
-    freed-at {ms₂ = ms₂} w room long e u =
+    freed-at w room long e u =
         record {
           cols = ap (λ (y : Ranges). backRanges (128 * s) 128 y c) (u .columns) ∙ ranges-back (128 * s) 128 (n + w .need) (w .store .ranges) c room;
-          marks = full (256 * s) 256 ms₂ ms long ∙ ap (λ (y : List ℕ). lay 0 (256 * s) 256 y ms) (u .marks);
+          marks = marks-back (p .placed .store) ms (p .marks) long (u .marks);
           list = u .list;
           records = u .records;
           need = u .need;
@@ -242,7 +237,7 @@ module _ {s n : ℕ} {sp : Span} {c : Ranges} {ms ls : List ℕ} (p : PoolReady 
         → x .ranges ≡ ranges c (128 * s) n → x .marks ≡ mid (256 * s) 256 ms
         → FreedAt s n x (remove x next sp) c ms ls (backRanges (128 * s) a q c) (back (256 * s) b ms₂ ms) ls₂ r
     pool-freed {q} {ms₂} {ls₂} {r} a b ea eb kept f e d =
-        let long : length ms₂ ≡ 256 = kept ∙ ap (λ (y : ℕ). length (mid (256 * s) y ms)) eb ∙ mid-long (256 * s) 256 ms (omega (arith, p .marks, p .placed .store)) in
+        let long : length ms₂ ≡ length (mid (256 * s) 256 ms) = rw eb at kept in
         let g : x .ranges ≡ ranges (midRanges (128 * s) 128 c) 0 n = e ∙ sym (ranges-part c (128 * s) 128 n (p .few)) in
         let u : Freed x (remove x next sp) (midRanges (128 * s) 128 c) q ms₂ ls ls₂ n r = subst (λ (y : ℕ). Freed x (remove x next sp) (midRanges (128 * s) y c) q ms₂ ls ls₂ n r) ea
         (f x (subst (λ (y : ℕ). x .ranges ≡ ranges (midRanges (128 * s) y c) 0 n) (sym ea) g) (subst (λ (y : ℕ). x .marks ≡ mid (256 * s) y ms) (sym eb) d)) in
@@ -270,19 +265,10 @@ book-left {x} f stamp records held version =
 abbrev answer : ℕ → RemoveAnswer
 answer n = record { writes = n }
 
-module _ {L A : Type 0} (st : State) (l : L) (o : Outcome L A) where
-  unless-none : (n : ℕ) → n ≡ 0 → unless n st l o ≡ o
-  unless-none zero e = refl
-  unless-none (suc n) e = absurd (omega arith)
-
-  unless-some : (n : ℕ) → (n ≡ 0 → ⊥) → unless n st l o ≡ outcome st l (refused n)
-  unless-some zero e = absurd (e refl)
-  unless-some (suc n) e = refl
-
 module _ (st : State) (l : List ℕ) (s : ℕ) (sp : Span) where
   pub call-refused : (n : ℕ) → n ≡ firstOf (storeRemoveRefusals st l s sp) → (n ≡ 0 → ⊥) → outcome st l (refused n) ≡ storeRemove st l s sp
   unfolding storeRemove
-  call-refused n e d = ap (λ (k : ℕ). outcome st l (refused k)) e ∙ sym (unless-some st l _ (firstOf (storeRemoveRefusals st l s sp)) (λ z. d (e ∙ z)))
+  call-refused n e d = sym (unless-some st l _ (firstOf (storeRemoveRefusals st l s sp)) n (sym e) d)
 
   module _ (h : Sound st) (long : outPlaces ≤ length l) (n : ℕ) (number : n ≡ firstOf (storeRemoveRefusals st l s sp)) (zero : n ≡ 0) where
     none : firstOf (storeRemoveRefusals st l s sp) ≡ 0
@@ -290,7 +276,7 @@ module _ (st : State) (l : List ℕ) (s : ℕ) (sp : Span) where
 
     none-holds : NoneHolds (storeRemoveRefusals st l s sp)
     unfolding storeRemove
-    none-holds = unless-done _ _ _ (storeRemove-kept st l s sp) _ (ap (λ o. o .answer) (unless-none st l _ (firstOf (storeRemoveRefusals st l s sp)) none)) .none
+    none-holds = none-where _ _ _ (storeRemove-kept st l s sp) none
 
     less : s < storesOf st
     less = let f = none-holds .1 .1 .0 in omega arith

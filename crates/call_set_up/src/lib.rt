@@ -7,10 +7,10 @@ ghost use lib.ListN.{length, set, replicate};
 ghost use Rattle.model.specs.Words.{Says, Each};
 ghost use Rattle.model.specs.Sizes.{maxNumbers};
 ghost use Rattle.model.specs.State.{at, bookFrom};
-ghost use Rattle.model.specs.Sound.{TreeLent, RangesLent, PinsLent};
+ghost use Rattle.model.specs.Sound.{TreeLent};
 ghost use Rattle.model.specs.SetUp.{SetUpFits, policy, newBook};
 ghost use Rattle.model.specs.Calls.{front, setUp};
-ghost use Rattle.shape_state.specs.Lent.{treeOf, rangesOf, pinsOf};
+ghost use Rattle.shape_state.specs.Lent.{treeOf};
 ghost use Rattle.call_set_up.specs.Fresh.{freshBooks};
 ghost use Rattle.shape_answer.specs.Answers.{stateFrom, outcome, plainOf};
 
@@ -35,64 +35,6 @@ fn tree_lent(parent: &[usize], depth: &[usize], len: &[usize], run: &[usize], wo
         return false;
     }
     if words.len() < 4096 {
-        return false;
-    }
-    true
-}
-
-fn ranges_lent(
-    node: &[usize],
-    start: &[usize],
-    end: &[usize],
-    id: &[u64],
-    stamp: &[u64],
-    touched: &[f64],
-    write: &[u32],
-) -> bool
-    ensures { λ r. ⌜
-        Says r
-        (RangesLent
-        (rangesOf (now (node .entry)) (now (start .entry)) (now (end .entry)) (now (id .entry)) (now (stamp .entry)) (now (touched .entry))
-        (now (write .entry))))
-        ⌝ }
-{
-    if node.len() < 1024 {
-        return false;
-    }
-    if start.len() < 1024 {
-        return false;
-    }
-    if end.len() < 1024 {
-        return false;
-    }
-    if id.len() < 1024 {
-        return false;
-    }
-    if stamp.len() < 1024 {
-        return false;
-    }
-    if touched.len() < 1024 {
-        return false;
-    }
-    if write.len() < 1024 {
-        return false;
-    }
-    true
-}
-
-fn pins_lent(node: &[usize], start: &[usize], end: &[usize], count: &[u64]) -> bool
-    ensures { λ r. ⌜ Says r (PinsLent (pinsOf (now (node .entry)) (now (start .entry)) (now (end .entry)) (now (count .entry)))) ⌝ }
-{
-    if node.len() < 256 {
-        return false;
-    }
-    if start.len() < 256 {
-        return false;
-    }
-    if end.len() < 256 {
-        return false;
-    }
-    if count.len() < 256 {
         return false;
     }
     true
@@ -167,10 +109,10 @@ fn fits(
     if !tree_lent(parent, depth, len, run, words) {
         return false;
     }
-    if !ranges_lent(node, start, end, id, stamp, touched, write) {
+    if !test_tree::ranges_lent(node, start, end, id, stamp, touched, write) {
         return false;
     }
-    if !pins_lent(pin_node, pin_start, pin_end, pin_count) {
+    if !test_tree::pins_lent(pin_node, pin_start, pin_end, pin_count) {
         return false;
     }
     if marks.len() < 2048 {

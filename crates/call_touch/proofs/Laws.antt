@@ -16,7 +16,7 @@ use borrow.Author.Tests.{ltb-false, leb-false}
 use Rattle.model.specs.declared.Span.{Span}
 use Rattle.model.specs.declared.TouchAnswer.{TouchAnswer}
 use Rattle.model.specs.Sizes.{maxStamp, maxBytes, maxSpans}
-use Rattle.model.specs.Words.{any}
+use Rattle.model.specs.Words.{any, pick}
 use Rattle.model.specs.State.{Tree, Ranges, State, Range, storesOf, nextIdOf, recordsOf, stampOf}
 use Rattle.model.specs.Sound.{Sound, RangesLent, Finite}
 use Rattle.model.specs.SoundTest
@@ -27,6 +27,7 @@ use Rattle.model.specs.Calls.{Outcome, refused, done, unless, touchSpans, bytes
 use Rattle.theory_refuse.proofs.Says.{says-true, says-false, true-says}
 use Rattle.theory_refuse.proofs.Sound.{sound-says, finite-sure}
 use Rattle.theory_refuse.proofs.Refusals.{storeUsed-exact}
+use Rattle.theory_refuse.proofs.Unless.{unless-none, unless-some}
 use Rattle.theory_touch.proofs.Touch.{touch-length}
 use Rattle.theory_calls.proofs.Accepted.{span-in}
 use Rattle.theory_calls.proofs.Stores.{store-sound, touchSpan-sound}
@@ -42,7 +43,7 @@ use Rattle.pool_undo.specs.declared.Old.{Old}
 use Rattle.pool_undo.specs.Old.{oldRanges, oldFrom}
 use Rattle.call_touch_span.specs.declared.Turn.{Turn}
 use Rattle.call_touch_span.specs.declared.Run.{Run}
-use Rattle.call_touch_span.specs.Turn.{Others, whole, booksWith, Stands, pick, firstNumber, Begun, four, refusing, looked, turnNumber, RunAt, keptOld, TurnAt, Ready, Gone, Turned, Writes, read, Finished}
+use Rattle.call_touch_span.specs.Turn.{Others, whole, booksWith, Stands, firstNumber, Begun, four, refusing, looked, turnNumber, RunAt, keptOld, TurnAt, Ready, Gone, Turned, Writes, read, Finished}
 use Rattle.call_touch.specs.Going.{number, On, Off, Carries, Going, AtFirst, Turns}
 use Rattle.call_touch.specs.Looking.{bad, lookedAt, refusedBy, Looking, Looks}
 use Rattle.call_touch_span.proofs.Laws.{number-fits, touch-marks-long, touch-bytes-most}
@@ -531,13 +532,9 @@ module _ (o : Others) (depth bytes : List ℕ) (c : Ranges) (ms x : List ℕ) (s
 
 -- ---- after the last turn
 
-pub outcome-refused : (n : ℕ) (st : State) (o : Outcome (Unit {0}) TouchAnswer) → (n ≡ 0 → ⊥) → outcome st tt (refused n) ≡ unless n st tt o
-outcome-refused zero st o n = absurd (n refl)
-outcome-refused (suc k) st o n = refl
-
 pub outcome-done : (n : ℕ) (st st′ : State) (a a′ : ℕ) → n ≡ 0 → st′ ≡ st → a ≡ a′ → (st₀ : State) (o : Outcome (Unit {0}) TouchAnswer)
     → o ≡ record { state = st; lists = tt; answer = done (read a′) } → _≡_ {A = Outcome (Unit {0}) TouchAnswer} (outcome st′ tt (done (read a))) (unless n st₀ tt o)
-outcome-done n st st′ a a′ e f g st₀ o h = (λ i. outcome (f i) tt (done (read (g i)))) ∙ sym h ∙ ap (λ (k : ℕ). unless k st₀ tt o) (sym e)
+outcome-done n st st′ a a′ e f g st₀ o h = (λ i. outcome (f i) tt (done (read (g i)))) ∙ sym h ∙ sym (unless-none st₀ tt o n e)
 
 pub none-left : (sps : List Span) (i : ℕ) → length sps ≤ i → i ≤ length sps → drop i sps ≡ []
 none-left sps i a b = let e : i ≡ length sps = omega arith in ap (λ (k : ℕ). drop k sps) e ∙ drop-length sps
@@ -589,7 +586,7 @@ module _ (o : Others) (depth bytes : List ℕ) (c₀ : Ranges) (ms₀ x : List �
             let w = f .refused some in
             (λ j. outcome (whole o depth bytes c ms (w .0 j)) tt (storeUsedOf (w .1 j)))
             ∙ (λ j. outcome (whole o depth bytes (v .ranges j) (v .marks j) x) tt (refused (v .first j)))
-            ∙ outcome-refused (number began s sps time counted) began all (λ (a : number began s sps time counted ≡ 0). omega (arith, v .first))
+            ∙ sym (unless-some began tt all (number began s sps time counted) _ refl (λ (a : number began s sps time counted ≡ 0). omega (arith, v .first)))
 
 -- ---- the first spans of an array
 

@@ -18,6 +18,7 @@ use Rattle.model.specs.State.{Tree, Ranges, State, nodesIn, storesIn, nextIdIn,
 use Rattle.model.specs.Sound.{Sound, RangesLent}
 use Rattle.model.specs.Refusals.{firstOf, spanIn, noSpan, turnRefusals}
 use Rattle.model.specs.Calls.{Outcome, done, refused, touchSpans, bytesTouched, storeUsed}
+use Rattle.theory_refuse.proofs.Unless.{unless-some}
 use Rattle.pool_part.specs.Parts.{back, backRanges}
 use Rattle.shape_answer.specs.declared.StoreUsed.the-variants.{Refused, Done}
 use Rattle.shape_answer.specs.Answers.{outcome}
@@ -29,7 +30,7 @@ use Rattle.call_touch.specs.Looking.{bad, refusedBy}
 use Rattle.call_touch.specs.Going.{number, On}
 use Rattle.call_touch.specs.Running.{Starts, Went, Roomy, Outcomes}
 use Rattle.call_touch.proofs.Books.{books-same}
-use Rattle.call_touch.proofs.Laws.{on-at, first-stop, on-next, start-off, start-less, start-on, none-left, no-bytes, no-spans, outcome-refused, outcome-done}
+use Rattle.call_touch.proofs.Laws.{on-at, first-stop, on-next, start-off, start-less, start-on, none-left, no-bytes, no-spans, outcome-done}
 use Rattle.call_touch.proofs.Room.{turns-fine}
 
 -- before span i, with no turn refused
@@ -134,7 +135,7 @@ module _ (o : Others) (x : List ℕ) (sps : List Span) (depth bytes : List ℕ) 
         let a = ec ∙ ap (λ (p : Old). backRanges (128 * s) 128 (oldRanges p) c) k ∙ w .ranges in
         let b = em ∙ ap (λ (p : Old). back (256 * s) 256 (p .marks) ms) k ∙ w .marks in
         (λ j. outcome (whole o depth bytes (a j) (b j) x) tt (refused (w .first j)))
-        ∙ outcome-refused (number began s sps time counted) began all (λ (e : number began s sps time counted ≡ 0). n (w .first ∙ e))
+        ∙ sym (unless-some began tt all (number began s sps time counted) _ refl (λ (e : number began s sps time counted ≡ 0). n (w .first ∙ e)))
 
     -- with room for all, none is refused
     pub roomy-none : Roomy (y .n) (y .top) (y .next) (length sps) → r .number ≡ 0
@@ -202,9 +203,7 @@ module _ (o : Others) (x : List ℕ) (sps : List Span) (depth bytes : List ℕ) 
   pub start-refused : (k ≡ 0 → ⊥) → Outcomes st₀ s sps time counted st₀ (Refused k)
   unfolding storeUsed
   start-refused n =
-      let e = start-off st₀ s sps time counted h k number-is n in
-      ap (λ (j : ℕ). outcome st₀ tt (refused j)) e
-      ∙ outcome-refused (number st₀ s sps time counted) st₀ _ (λ (a : number st₀ s sps time counted ≡ 0). n (e ∙ a))
+      sym (unless-some st₀ tt _ (number st₀ s sps time counted) k (sym (start-off st₀ s sps time counted h k number-is n)) n)
 
   module _ (none : k ≡ 0) where
     less : s < storesIn x

@@ -3,29 +3,26 @@
 use Prim.Native.Nat.{ℕ, zero, suc, _+_, _-_, _*_, _≤_, _<_, min, max}
 use mathlib.Core.Path.{_≡_, refl, sym, ap, subst, _∙_}
 use mathlib.Core.Bool.{Bool, true, false, _||_}
-use mathlib.Core.List.{List, [], _∷_, _++_}
+use mathlib.Core.List.{List, [], _∷_}
 use native.Mathlib.Nat.{min-le-left}
 use native.Mathlib.Omega.{arith}
-use lib.ListN.{length, take, length-set}
-use lib.Seq.{drop-drop}
-use lib.Dec.{ltb, leb, eqb}
+use lib.ListN.{length, length-set}
+use lib.Dec.{ltb, leb}
 use lib.Ieee.{Float}
-use mir.Val.{Fits}
-use mir.Syntax.{w64}
 use borrow.Author.Tests.{lt-ltb, le-ltb, le-leb, lt-leb, eq-eqb, ne-eqb, ltb-false, leb-false}
 use Rattle.model.specs.declared.Span.{Span}
 use Rattle.model.specs.declared.Book.{Book}
-use Rattle.model.specs.Sizes.{storeRecords, storeMarks, maxStamp, maxSpans, maxBytes}
+use Rattle.model.specs.Sizes.{maxStamp, maxBytes}
 use Rattle.model.specs.State.{Tree, Ranges, Pins, State, Range, nodesIn, storesIn, nextIdIn, stallsIn, bookIn, storesOf, nextIdOf, recordsOf, stampOf, refreshes as renews}
-use Rattle.model.specs.Words.{Says}
+use Rattle.model.specs.Words.{Says, pick}
 use Rattle.model.specs.Sound.{Sound, RangesLent, Finite}
 use Rattle.model.specs.SoundTest.{finite}
-use Rattle.model.specs.Store.{Store, storeOf, ranges, lay, layRanges, layBook, layNext, ranged, withRanges, withNext, meets, put}
+use Rattle.model.specs.Store.{Store, storeOf, ranges, layBook, layNext, ranged, withRanges, withNext, meets, put}
 use Rattle.model.specs.Touch.{Touched, overlapped, heldBytes, oneInside, markRead, bytesRead, renew, split, refresh, touchHits, touch}
 use Rattle.model.specs.Refusals.{SpanIn, touchedBy, touchSpan}
 use Rattle.test_arguments.proofs.Laws.{finite-is}
 use Rattle.pool_part.specs.Parts.{mid, back, midRanges, backRanges}
-use Rattle.pool_part.proofs.Parts.{mid-long, ranges-part, ranges-back, ranges-sized}
+use Rattle.pool_part.proofs.Parts.{mid-long, ranges-part, ranges-back, ranges-sized, back-full}
 use Rattle.theory_sound.specs.StoreSound.{RangesSound, StoreSound}
 use Rattle.theory_bring.proofs.Facts.{Steady}
 use Rattle.theory_touch.proofs.Touch.{touch-steady, touch-counted, touch-held, touch-version, touch-stamp}
@@ -44,7 +41,7 @@ use Rattle.pool_undo.specs.declared.Old.{Old}
 use Rattle.pool_undo.specs.Old.{oldRanges, oldFrom}
 use Rattle.call_touch_span.specs.declared.Turn.{Turn}
 use Rattle.call_touch_span.specs.declared.Run.{Run}
-use Rattle.call_touch_span.specs.Turn.{Others, whole, renumbered, booksWith, Stands, pick, firstNumber, Fresh, Begun, four, stopRun, looked, refusing, turnNumber, Placed, Judged, PoolReady, TouchedAt, runOn, RunAt, Ran, keptOld, TurnAt, Turned}
+use Rattle.call_touch_span.specs.Turn.{Others, whole, renumbered, booksWith, Stands, firstNumber, Fresh, Begun, four, stopRun, looked, refusing, turnNumber, Placed, Judged, PoolReady, TouchedAt, runOn, RunAt, Ran, keptOld, TurnAt, Turned}
 
 -- ---- the small numbers
 
@@ -87,7 +84,7 @@ module _ (stores s n : ℕ) (time : Float) where
 pub first-less : (stores s n : ℕ) (time : Float) (r : ℕ) → r ≡ firstNumber stores s n time → r ≡ 0 → s < stores
 first-less stores s n time r e z = go (leb stores s) refl (sym e ∙ z)
   where
-    go : (b : Bool) → leb stores s ≡ b → pick b 2 (pick (ltb 64 n) 3 (pick (finite time) 0 5)) ≡ 0 → s < stores
+    go : (b : Bool) → leb stores s ≡ b → pick {A = ℕ} b 2 (pick (ltb 64 n) 3 (pick (finite time) 0 5)) ≡ 0 → s < stores
     go true f g = absurd (omega arith)
     go false f g = leb-false stores s f
 
@@ -169,7 +166,7 @@ module _ (n need top stamps next : ℕ) where
   number-fits = go (ltb 128 (n + need)) (ltb maxStamp (top + stamps)) (ltb maxStamp (next + need)) refl refl refl
     where
       go : (a b c : Bool) → ltb 128 (n + need) ≡ a → ltb maxStamp (top + stamps) ≡ b → ltb maxStamp (next + need) ≡ c
-          → 0 ≡ pick a 8 (pick (b || c) 11 0) → (n + need ≤ 128) × (top + stamps ≤ maxStamp) × (next + need ≤ maxStamp)
+          → 0 ≡ pick {A = ℕ} a 8 (pick (b || c) 11 0) → (n + need ≤ 128) × (top + stamps ≤ maxStamp) × (next + need ≤ maxStamp)
       go true b c p q r e = absurd (omega arith)
       go false true c p q r e = absurd (omega arith)
       go false false true p q r e = absurd (omega arith)
@@ -177,25 +174,6 @@ module _ (n need top stamps next : ℕ) where
           (omega (arith, ltb-false 128 (n + need) p), omega (arith, ltb-false maxStamp (top + stamps) q), omega (arith, ltb-false maxStamp (next + need) r))
 
 -- ---- the parts of store s
-
-pub width : (a w : ℕ) → (a + w) - a ≡ w
-width a w = omega arith
-
-module _ {s : ℕ} (h : s < 8) where
-  pub rec-end-fits : Fits w64 (128 * s + 128)
-  rec-end-fits = omega arith
-
-  pub rec-fits8 : Fits w64 (128 * s * 8)
-  rec-fits8 = omega arith
-
-  pub rec-fits4 : Fits w64 (128 * s * 4)
-  rec-fits4 = omega arith
-
-  pub mark-end-fits : Fits w64 (256 * s + 256)
-  mark-end-fits = omega arith
-
-  pub mark-fits8 : Fits w64 (256 * s * 8)
-  mark-fits8 = omega arith
 
 -- the part of store s, w places long
 module _ (s n : ℕ) (node start end : List ℕ) (w : ℕ) (e : w ≡ 128) where
@@ -409,10 +387,6 @@ books-touched s used w x l e k counted held version stamp n need stamps =
     let g = ap (λ (b : Book). renumbered b (used .n) (b .stamp + used .stamps)) (sym e) ∙ f in
     (λ i. layNext (nextIdIn l + need i) (stallsIn l) (layBook s (g i) l))
 
-full : (a w : ℕ) (xs pool : List ℕ) → length xs ≡ w → back a w xs pool ≡ lay 0 a w xs pool
-unfolding lay
-full a w xs pool e = let z : w - length xs ≡ 0 = omega arith in rw z (ap (λ t. take a pool ++ (xs ++ t)) (drop-drop w a pool))
-
 -- ---- a turn with no part kept
 
 module _ (o : Others) (x : List ℕ) (sp : Span) (depth bytes : List ℕ) (c : Ranges) (ms : List ℕ) (s : ℕ) (refreshes : Bool) (y : Run) (time : Float) (counted : Bool)
@@ -517,7 +491,7 @@ module _ (o : Others) (x : List ℕ) (sp : Span) (depth bytes : List ℕ) (c : R
     unfolding touchSpan withRanges withNext layNext layBook
     state-here =
         state-eq (u .cols)
-        (u .marks ∙ full (256 * s) 256 (w .store .marks) ms (touch-marks-long (st .tree) bytes x₀ next₀ sp time counted ∙ marks-here))
+        (u .marks ∙ back-full 0 (256 * s) 256 (w .store .marks) ms (touch-marks-long (st .tree) bytes x₀ next₀ sp time counted ∙ marks-here))
         books-here
 
   pub run-taken : (k : ℕ) (c′ : Ranges) (ms′ : List ℕ) (used : Used) (r : Run) → r ≡ runOn y used → k ≡ 0 → JudgedRun k → TouchedRun c′ ms′ used

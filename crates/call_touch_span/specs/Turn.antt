@@ -6,6 +6,7 @@ use mathlib.Core.List.{List}
 use lib.ListN.{length}
 use lib.Dec.{ltb, leb, eqb}
 use lib.Ieee.{Float}
+use Rattle.model.specs.Words.{pick}
 use Rattle.model.specs.declared.Span.{Span}
 use Rattle.model.specs.declared.Book.{Book}
 use Rattle.model.specs.declared.TouchAnswer.{TouchAnswer}
@@ -65,11 +66,6 @@ pub record Stands (s : ℕ) (refreshes : Bool) (x : List ℕ) (y : Run) : Type 0
   pub next : y .next ≡ nextIdIn x
 
 -- ---- before the turns: 2, 3, 5 and, over all spans, 4
-
--- the first number where the test holds, else the second
-abbrev pub pick : Bool → ℕ → ℕ → ℕ
-pick true m n = m
-pick false m n = n
 
 -- what n spans at a time are refused for before any span is looked at
 abbrev pub firstNumber : ℕ → ℕ → ℕ → Float → ℕ

@@ -1,19 +1,18 @@
 -- The slips that no example shows: a cut's head keeps its id and the tail gets the new one, an unpin leaves everything but the pins alone, expiry
 -- doesn't look at pins, the stall count stays at its end and the version wraps.
 use Prim.Native.Nat.{ℕ, zero, suc, _-_}
-use mathlib.Core.Bool.{Bool, true, false}
+use mathlib.Core.Bool.{true}
 use mathlib.Core.List.{List, [], _∷_}
-use mathlib.Core.Path.{_≡_, refl, sym, ap, _∙_}
+use mathlib.Core.Path.{_≡_, refl}
 use lib.Dec.{ltb}
-use lib.ListN.{length}
 use lib.Ieee.{Float}
 use Rattle.model.specs.declared.Span.{Span}
 use Rattle.model.specs.Sizes.{maxStalls, versions}
-use Rattle.model.specs.State.{Tree, State, Ranges, Range, Pin}
+use Rattle.model.specs.State.{Tree, State, Range, Pin}
 use Rattle.model.specs.Store.{Store, part, withPins}
 use Rattle.model.specs.Trim.{Out, stallsAfter, versionAfter}
 use Rattle.model.specs.Pins.{repinned, unpin}
-use Rattle.model.specs.Expire.{Expired, expire}
+use Rattle.model.specs.Expire.{expire}
 use Rattle.model.specs.Insert.{across, beyond, heads, tails, placed, cutStore}
 use Rattle.model.specs.Refusals.{firstOf, unpinRefusals}
 use Rattle.model.specs.Calls.{Outcome, NoList, NoValue, unless, unpinSource}

@@ -7,8 +7,8 @@ use lib.Dec.{ltb, eqb}
 use lib.Ieee.{Float}
 use Rattle.model.specs.declared.Span.{Span}
 use Rattle.model.specs.State.{Tree, Range}
-use Rattle.model.specs.Store.{Store, ranged, total, insert, onNode}
-use Rattle.model.specs.Trim.{Out, bytesOf, Trimmed, trim, versionAfter}
+use Rattle.model.specs.Store.{Store, ranged, total, insert}
+use Rattle.model.specs.Trim.{Out, bytesOf, trim, versionAfter}
 
 -- ---- gaps
 

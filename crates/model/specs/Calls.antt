@@ -1,9 +1,9 @@
 -- Each public call as one function from the state, the lent answer lists and the arguments to its outcome: a refusal's number with state and lists as
 -- they were, or the new state, the lists with the answer in front, and the answer. Names as in the Rust. Assumes nothing.
 use Prim.Native.Nat.{ℕ, zero, suc, _+_, _-_}
-use mathlib.Core.Bool.{Bool, true, false}
+use mathlib.Core.Bool.{Bool}
 use mathlib.Core.List.{List, [], _∷_, _++_, map}
-use lib.ListN.{length, drop, replicate}
+use lib.ListN.{length, drop}
 use lib.Ieee.{Float}
 use Rattle.model.specs.declared.Span.{Span}
 use Rattle.model.specs.declared.Path.{Path}
@@ -15,17 +15,16 @@ use Rattle.model.specs.declared.RemoveAnswer.{RemoveAnswer}
 use Rattle.model.specs.declared.ExpireAnswer.{ExpireAnswer}
 use Rattle.model.specs.declared.LookupAnswer.{LookupAnswer}
 use Rattle.model.specs.Sizes.{maxTiers}
-use Rattle.model.specs.State.{State, at, nextIdOf, stallsOf, capacityOf, heldOf, versionOf, pinnedOf}
+use Rattle.model.specs.State.{State, nextIdOf, stallsOf, capacityOf, heldOf, versionOf, pinnedOf}
 use Rattle.model.specs.Tree.{Seg, resolve, blocks}
-use Rattle.model.specs.Store.{Store, storeOf, withRanges, withPins, withNext}
+use Rattle.model.specs.Store.{storeOf, withRanges, withPins, withNext}
 use Rattle.model.specs.Trim.{Out, stallsAfter}
 use Rattle.model.specs.Bring.{Brought, bring, bringNeed}
-use Rattle.model.specs.Touch.{touch}
-use Rattle.model.specs.Remove.{Removed, remove}
-use Rattle.model.specs.Expire.{Expired, expire}
+use Rattle.model.specs.Remove.{remove}
+use Rattle.model.specs.Expire.{expire}
 use Rattle.model.specs.Pins.{pin, pinNeed, unpin}
 use Rattle.model.specs.Lookup.{TierSpan, lookupPath, spanBlocks, spanBytes, tierSums, eachTier}
-use Rattle.model.specs.Insert.{Inserted, insertPath}
+use Rattle.model.specs.Insert.{insertPath}
 use Rattle.model.specs.SetUp.{setUpState}
 use Rattle.model.specs.Refusals
 

@@ -1,10 +1,10 @@
 -- Document 01, "Examples to be kept": each run on the public calls, as numbers, beside what 01 prints. `proofs/Table.antt` has the one statement.
 -- Assumes nothing.
-use Prim.Native.Nat.{ℕ, zero, suc, _+_, _*_}
-use mathlib.Core.Bool.{Bool, true, false}
+use Prim.Native.Nat.{ℕ, zero, suc, _+_}
+use mathlib.Core.Bool.{true, false}
 use mathlib.Core.List.{List, [], _∷_, _++_, map}
 use mathlib.Core.Path.{_≡_}
-use lib.ListN.{length, take, replicate}
+use lib.ListN.{take, replicate}
 use lib.IntN.{pos}
 use lib.Ieee.{Float, binary64, ofInt}
 use Rattle.model.specs.declared.Span.{Span}
@@ -18,11 +18,11 @@ use Rattle.model.specs.declared.RemoveAnswer.{RemoveAnswer}
 use Rattle.model.specs.declared.ExpireAnswer.{ExpireAnswer}
 use Rattle.model.specs.declared.LookupAnswer.{LookupAnswer}
 use Rattle.model.specs.Sizes.{maxNodes, maxWords, maxRecords, maxPins, maxMarks, maxNumbers, tableLength, pathPlaces, outPlaces, tierPlaces}
-use Rattle.model.specs.State.{State, Range, at, stallsOf, heldOf, versionOf}
-use Rattle.model.specs.Store.{Store, storeOf, noTime}
+use Rattle.model.specs.State.{State, at, stallsOf, heldOf, versionOf}
+use Rattle.model.specs.Store.{storeOf, noTime}
 use Rattle.model.specs.Lookup.{sumsIn}
 use Rattle.model.specs.Refusals.{PathList, OutList, TierList}
-use Rattle.model.specs.Calls.{Answer, refused, done, Outcome, LookupLists, setUp, resolveCall, insert, storeInsert, storeUsed, storeRemove, storeExpire, pinSource, lookup}
+use Rattle.model.specs.Calls.{refused, done, Outcome, LookupLists, setUp, resolveCall, insert, storeInsert, storeUsed, storeRemove, storeExpire, pinSource, lookup}
 
 -- ---- pools as they are lent: all zero
 

@@ -1,9 +1,9 @@
 -- Document 01, "Insert" and "Cut at k". Assumes nothing.
-use Prim.Native.Nat.{ℕ, zero, suc, _+_, _-_, min, max}
+use Prim.Native.Nat.{ℕ, zero, suc, _+_, _-_, min}
 use mathlib.Core.Bool.{Bool, true, false, not, _&&_, _||_}
 use mathlib.Core.List.{List, [], _∷_, _++_, map}
 use lib.ListN.{length, take, drop, set}
-use lib.Dec.{ltb, leb, eqb}
+use lib.Dec.{ltb, eqb}
 use Rattle.model.specs.declared.Split.{Split}
 use Rattle.model.specs.declared.Split.the-variants as S
 use Rattle.model.specs.State.{Tree, State, Range, Pin, at, changed, storesOf, nextIdOf, stallsOf}

@@ -6,19 +6,19 @@ use mathlib.Core.Logic.{_⊎_}
 use mathlib.Core.Bool.{Bool, true, false, not, _&&_, _||_}
 use mathlib.Core.List.{List, [], _∷_}
 use lib.ListN.{length, getD}
-use lib.Dec.{leb, ltb, eqb}
+use lib.Dec.{leb, ltb}
 use lib.Ieee.{Float}
 use Rattle.model.specs.declared.Span.{Span}
-use Rattle.model.specs.Words.{Says, Each, Some, all, any}
+use Rattle.model.specs.Words.{Says, Each, Some, any}
 use Rattle.model.specs.Sizes.{maxNodes, maxWords, maxHashes, storeRecords, storePins, maxPinned, maxStamp, maxSpans, maxTiers, pathPlaces, outPlaces, tierPlaces}
 use Rattle.model.specs.State.{Tree, State, Pin, at, entryOf, storesOf, nextIdOf, stallsOf, recordsOf, stampOf, entriesOf, pinnedOf}
 use Rattle.model.specs.Sound.{Sound, Finite}
 use Rattle.model.specs.SoundTest.{sound, finite}
-use Rattle.model.specs.Tree.{Seg, resolve, blocks}
-use Rattle.model.specs.Store.{Store, storeOf, withRanges, withNext, plus}
+use Rattle.model.specs.Tree.{resolve, blocks}
+use Rattle.model.specs.Store.{storeOf, withRanges, withNext, plus}
 use Rattle.model.specs.Bring.{bringNeed}
 use Rattle.model.specs.Touch.{Touched, touch}
-use Rattle.model.specs.Remove.{Removed, remove}
+use Rattle.model.specs.Remove.{remove}
 use Rattle.model.specs.Pins.{pinOf, hasPin, pinNeed}
 use Rattle.model.specs.Insert.{adds, endsInside, matchEnd, rangesAcross, pinsAcross}
 use Rattle.model.specs.SetUp.{SetUpFits, setUpFits}

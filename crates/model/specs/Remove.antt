@@ -1,9 +1,8 @@
 -- Document 01, "Remove". Assumes nothing.
-use Prim.Native.Nat.{ℕ, zero, suc, _+_, _%_}
+use Prim.Native.Nat.{ℕ, zero, suc, _%_}
 use mathlib.Core.Bool.{Bool, true, false, _&&_}
 use mathlib.Core.List.{List, [], _∷_}
 use lib.ListN.{length}
-use lib.Dec.{ltb}
 use Rattle.model.specs.declared.Span.{Span}
 use Rattle.model.specs.Sizes.{versions}
 use Rattle.model.specs.State.{Range}

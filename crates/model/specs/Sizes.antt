@@ -1,5 +1,5 @@
 -- Document 01, "Sizes". Assumes nothing.
-use Prim.Native.Nat.{ℕ, _+_, _-_, _*_, _^_}
+use Prim.Native.Nat.{ℕ, _+_, _*_}
 
 -- nodes 0 to 255, 0 is the root
 abbrev pub maxNodes : ℕ

@@ -1,13 +1,12 @@
 -- Document 01, "A sound state": a record of facts, one for each clause, in its order. Each is stated over positions and counts. Assumes nothing.
 use Prim.Native.Nat.{ℕ, zero, suc, _+_, _-_, _*_, _≤_, _<_}
 use mathlib.Core.Path.{_≡_}
-use mathlib.Core.Bool.{Bool}
 use mathlib.Core.List.{List}
 use lib.ListN.{length}
 use lib.Ieee.{Float, nan, inf, fin}
 use Rattle.model.specs.declared.Book.{Book}
 use Rattle.model.specs.Words.{Each, Pairs}
-use Rattle.model.specs.Sizes.{maxNodes, maxWords, maxHashes, maxStores, maxCapacity, storeRecords, storePins, storeMarks, maxRecords, maxPins, maxMarks, maxNumbers, maxPinned, maxStamp, tableLength, maxBytes, maxStalls}
+use Rattle.model.specs.Sizes.{maxNodes, maxWords, maxHashes, maxStores, maxCapacity, storeRecords, storePins, maxRecords, maxPins, maxMarks, maxNumbers, maxPinned, maxStamp, tableLength, maxBytes, maxStalls}
 use Rattle.model.specs.State.{Tree, Ranges, Pins, State, Range, Pin, at, recordOf, entryOf, markOf, firstHash, endOf, storesOf, nextIdOf, stallsOf, bookOf, capacityOf, recordsOf, heldOf, stampOf, entriesOf, pinnedOf}
 
 -- ---- "Counts and the byte table are as under Sizes; no lent pool is shorter."

@@ -1,6 +1,6 @@
 -- The sound state as a test that computes: one for each fact of `Sound`, under its name. `theory_refuse` proves that each says exactly its fact.
 -- Assumes nothing.
-use Prim.Native.Nat.{ℕ, zero, suc, _+_, _-_, _*_, min, max}
+use Prim.Native.Nat.{ℕ, zero, suc, _+_, min, max}
 use mathlib.Core.Bool.{Bool, true, false, not, _&&_, _||_}
 use mathlib.Core.List.{List, [], _∷_}
 use lib.ListN.{length}

@@ -1,8 +1,8 @@
 -- The state: lent pools, and the small numbers in one lent list. A pool is the list of what stands in it, of whatever length it was lent. Assumes nothing.
-use Prim.Native.Nat.{ℕ, zero, suc, _+_, _*_}
-use mathlib.Core.Bool.{Bool, true, false}
+use Prim.Native.Nat.{ℕ, _+_, _*_}
+use mathlib.Core.Bool.{Bool}
 use mathlib.Core.List.{List, [], _∷_}
-use lib.ListN.{length, getD, take, drop}
+use lib.ListN.{getD, take, drop}
 use lib.Dec.{eqb}
 use lib.Ieee.{Float, nan}
 use Rattle.model.specs.declared.Book.{Book}

@@ -2,13 +2,13 @@
 use Prim.Native.Nat.{ℕ, zero, suc, _+_, _-_, _*_}
 use mathlib.Core.Bool.{Bool, true, false, _&&_, _||_}
 use mathlib.Core.List.{List, [], _∷_, _++_, map}
-use lib.ListN.{length, getD, take, drop, set, replicate}
+use lib.ListN.{length, take, drop, set, replicate}
 use lib.Dec.{ltb, leb, eqb}
 use lib.IntN.{pos}
-use lib.Ieee.{Float, nan, fin}
+use lib.Ieee.{Float, fin}
 use Rattle.model.specs.declared.Book.{Book}
 use Rattle.model.specs.Sizes.{storeRecords, storePins, storeMarks, storeNumbers}
-use Rattle.model.specs.State.{Ranges, Pins, State, Range, Pin, at, rangeAt, pinAt, whole, nodesIn, usedIn, storesIn, nextIdIn, stallsIn, partsIn, numbers, changed, bookOf, recordsOf, entriesOf}
+use Rattle.model.specs.State.{Ranges, Pins, State, Range, Pin, rangeAt, pinAt, whole, nodesIn, usedIn, storesIn, nextIdIn, stallsIn, partsIn, numbers, changed, bookOf, recordsOf, entriesOf}
 
 pub record Store : Type 0 where
   pub book : Book

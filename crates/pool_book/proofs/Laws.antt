@@ -5,11 +5,11 @@ use mathlib.Core.List.{List, [], _∷_, _++_, append-nil, append-assoc}
 use native.Mathlib.Omega.{arith}
 use native.Mathlib.Nat.{zero-add}
 use native.Mathlib.Numerals.{add-one}
-use lib.ListN.{length, getD, set, take, drop, replicate, length-set, length-drop}
+use lib.ListN.{length, set, take, drop, replicate, length-set, length-drop}
 use lib.Seq.{paste, paste-zero, paste-suc, getD-drop, drop-drop}
 use Rattle.model.specs.declared.Book.{Book}
 use Rattle.model.specs.Sizes.{maxStores, maxNumbers, storeNumbers}
-use Rattle.model.specs.State.{at, whole, partsIn, numbers, bookFrom, bookIn}
+use Rattle.model.specs.State.{at, whole, numbers, bookFrom, bookIn}
 use Rattle.model.specs.Store.{lay, layBook, layNext, layCounts}
 use Rattle.pool_book.specs.Books.{eachStore, recordsIn, entriesIn}
 

@@ -1,10 +1,10 @@
 -- One span more, stored behind the others, is the longer answer: the list is laid from the front.
 use mathlib.Core.Path.{_≡_, refl, sym, ap, _∙_}
 use mathlib.Core.List.{List, [], _∷_, _++_, map, append-assoc}
-use Prim.Native.Nat.{ℕ, zero, suc, _+_, _≤_, _<_}
+use Prim.Native.Nat.{ℕ, zero, suc, _+_, _<_}
 use native.Mathlib.Numerals.{add-one}
 use native.Mathlib.Omega.{arith}
-use lib.ListN.{length, drop, set, length-append, length-map, length-drop}
+use lib.ListN.{length, drop, set, length-append, length-map}
 use lib.Seq.{drop-cons, set-append-seam}
 use Rattle.model.specs.Trim.{Out}
 use Rattle.model.specs.Refusals.{OutList, OutFits}

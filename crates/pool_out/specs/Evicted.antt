@@ -1,5 +1,4 @@
 -- A given-out span by value, and the lent columns that store it. Assumes nothing.
-use mathlib.Core.List.{List}
 use Prim.Native.Nat.{ℕ, zero, suc}
 use lib.ListN.{set}
 use Rattle.shape_answer.specs.Lists.{outList}

@@ -1,7 +1,6 @@
 use model::Span;
 ghost use mathlib.Core.Path.{_≡_};
-ghost use Prim.Native.Nat.{_<_, _≤_};
-ghost use lib.ListN.{length};
+ghost use Prim.Native.Nat.{_<_};
 ghost use Rattle.model.specs.Refusals.{OutFits};
 ghost use Rattle.pool_out.specs.Evicted.{writeNumber, writeOf, outOf, setOut};
 ghost use Rattle.shape_answer.specs.Lists.{outList};

@@ -1,21 +1,21 @@
 -- A list laid into a store's part, and the part given back, is the list laid into the pool at the part's place; and reading the part from its front is
 -- reading the pool from there.
-use mathlib.Core.Path.{_≡_, refl, sym, ap, _∙_}
+use mathlib.Core.Path.{_≡_, refl, ap, _∙_}
 use mathlib.Core.List.{List, [], _∷_, _++_, map, append-assoc}
 use Prim.Native.Nat.{ℕ, zero, suc, _+_, _-_, _*_, _≤_, _<_}
-use native.Mathlib.Nat.{zero-add}
 use native.Mathlib.Omega.{arith}
 use lib.ListN.{length, getD, take, drop, replicate, length-take, length-drop}
 use lib.Seq.{drop-drop, getD-take, getD-drop}
-use lib.Ieee.{Float, nan}
-use Rattle.model.specs.Sizes.{maxRecords, maxPins}
+use lib.Ieee.{nan}
+use Rattle.model.specs.Sizes.{maxRecords}
 use Rattle.model.specs.State.{Ranges, Pins, Range, Pin, rangeAt, pinAt}
-use Rattle.model.specs.Sound.{RangesLent, PinsLent}
+use Rattle.model.specs.Sound.{RangesLent}
 use Rattle.model.specs.Store.{lay, layRanges, layPins, ranges, pins, noTime}
-use Rattle.shape_state.specs.Lent.{rangesOf, pinsOf}
+use Rattle.shape_state.specs.Lent.{pinsOf}
 use Rattle.pool_range.proofs.Laid.{lay-front}
 use Rattle.pool_range.specs.Part.{Sized}
 use Rattle.pool_range.proofs.Records.{ranges-eq}
+use Rattle.pool_part.proofs.Bounds.{mark-ends}
 use Rattle.pool_part.specs.Parts.{mid, back, midRanges, backRanges, midPins, backPins}
 
 -- ---- one column
@@ -35,6 +35,13 @@ back-lay blank a w k xs pool h =
     ∙ ap (λ t. xs ++ t)
     (append-assoc (replicate (k - length xs) blank) (drop k (mid a w pool)) (drop w (drop a pool))
     ∙ ap (λ t. replicate (k - length xs) blank ++ t) (drop-take k w (drop a pool) h ∙ drop-drop k a pool)))
+
+-- a list as long as the part, given back
+pub back-full : {A : Type 0} (blank : A) (a w : ℕ) (xs pool : List A) → length xs ≡ w → back a w xs pool ≡ lay blank a w xs pool
+unfolding lay
+back-full blank a w xs pool e =
+    let z : w - length xs ≡ 0 = omega arith in
+    rw z (ap (λ t. take a pool ++ (xs ++ t)) (drop-drop w a pool))
 
 pub mid-at : {A : Type 0} (a w i : ℕ) (l : List A) (d : A) → i < w → getD (mid a w l) i d ≡ getD l (a + i) d
 mid-at a w i l d h = getD-take w (drop a l) i d h ∙ getD-drop a l i d
@@ -96,7 +103,7 @@ pin-part-from c a w i (suc m) h =
 pub pins-part : (c : Pins) (a w n : ℕ) → n ≤ w → pins (midPins a w c) 0 n ≡ pins c a n
 pins-part c a w n h = let z : a + 0 ≡ a = omega arith in pin-part-from c a w 0 n (omega arith) ∙ ap (λ t. pins c t n) z
 
-pins-eq : {a a′ b b′ c c′ d d′ : List ℕ} → a ≡ a′ → b ≡ b′ → c ≡ c′ → d ≡ d′ → pinsOf a b c d ≡ pinsOf a′ b′ c′ d′
+pub pins-eq : {a a′ b b′ c c′ d d′ : List ℕ} → a ≡ a′ → b ≡ b′ → c ≡ c′ → d ≡ d′ → pinsOf a b c d ≡ pinsOf a′ b′ c′ d′
 pins-eq p q r s = cc
 
 pub pins-back : (a w k : ℕ) (ps : List Pin) (c : Pins) → k ≤ w → backPins a w (layPins 0 k ps (midPins a w c)) c ≡ layPins a k ps c
@@ -104,3 +111,11 @@ unfolding backPins layPins midPins
 pins-back a w k ps c h =
     pins-eq (back-lay 0 a w k (map (λ p. p .node) ps) (c .node) h) (back-lay 0 a w k (map (λ p. p .start) ps) (c .start) h)
     (back-lay 0 a w k (map (λ p. p .end) ps) (c .end) h) (back-lay 0 a w k (map (λ p. p .count) ps) (c .count) h)
+
+-- ---- marks
+
+-- the marks of store s, changed in place
+pub marks-back : {s : ℕ} → s < 8 → (ms : List ℕ) {part xs : List ℕ} → 2048 ≤ length ms → length part ≡ length (mid (256 * s) 256 ms) → part ≡ xs
+    → back (256 * s) 256 part ms ≡ lay 0 (256 * s) 256 xs ms
+marks-back {s} h ms {part} many kept e =
+    back-full 0 (256 * s) 256 part ms (kept ∙ mid-long (256 * s) 256 ms (mark-ends h many)) ∙ ap (λ (x : List ℕ). lay 0 (256 * s) 256 x ms) e

@@ -1,8 +1,7 @@
 -- A store's part of each pool: w places from a on, and the pool with another list in their place. Assumes nothing.
-use Prim.Native.Nat.{ℕ, _*_}
+use Prim.Native.Nat.{ℕ}
 use mathlib.Core.List.{List, _++_}
 use lib.ListN.{take, drop}
-use Rattle.model.specs.Sizes.{storeRecords, storePins, storeMarks}
 use Rattle.model.specs.State.{Ranges, Pins}
 use Rattle.shape_state.specs.Lent.{rangesOf, pinsOf}
 

@@ -5,7 +5,7 @@ use Prim.Native.Nat.{ℕ, suc, _+_, _-_, _≤_, _<_}
 use native.Mathlib.Numerals.{add-one}
 use native.Mathlib.Omega.{arith}
 use lib.ListN.{length, take, drop, getD, set, length-append, length-set, length-take, length-drop, take-append-drop, List·getD-append}
-use lib.Seq.{drop-cons, take-append-le, drop-at, take-take, take-suc, set-at, getD-append-add, getD-drop, append-snoc, set-split, length-take-le, getD-take}
+use lib.Seq.{drop-cons, take-append-le, drop-at, take-take, take-suc, set-at, getD-append-add, getD-drop, set-split, length-take-le, getD-take}
 use Rattle.pool_range.specs.Cols.{putAt, cutAt}
 
 module _ {A : Type 0} where
@@ -58,14 +58,6 @@ module _ {A : Type 0} where
       let z : (at + 1) - (at + 1) ≡ 0 = omega arith in
       let y : (at + 1) - 1 ≡ at = omega arith in
       rw (z, y) (take-append-drop at l)
-
-  pub length-closed : (at n : ℕ) (l : List A) → at < n → n ≤ length l → length (closed at n l) ≡ length l
-  unfolding closed
-  length-closed at n l h k = simp (length-append, length-take, length-drop) (omega arith)
-
-  pub length-put : (at : ℕ) (x : A) (n : ℕ) (l : List A) → at ≤ n → n < length l → length (putAt at x n l) ≡ length l
-  unfolding putAt
-  length-put at x n l h k = simp (length-append, length-take, length-drop) (omega arith)
 
   -- what is moved down already
   unfoldable front : ℕ → ℕ → List A → List A

@@ -1,12 +1,11 @@
 -- Putting into, cutting out of and setting a column that a list was laid into does the same to the list: the column stays laid.
-use mathlib.Core.Path.{_≡_, refl, sym, ap, _∙_}
-use mathlib.Core.List.{List, [], _∷_, _++_, append-assoc}
-use Prim.Native.Nat.{ℕ, zero, suc, _+_, _-_, _≤_, _<_}
+use mathlib.Core.Path.{_≡_, sym, ap, _∙_}
+use mathlib.Core.List.{List, _∷_, _++_, append-assoc}
+use Prim.Native.Nat.{ℕ, suc, _+_, _-_, _≤_, _<_}
 use native.Mathlib.Nat.{zero-add}
-use native.Mathlib.Numerals.{add-one}
 use native.Mathlib.Omega.{arith}
-use lib.ListN.{length, take, drop, set, replicate, length-append, length-take, length-drop, take-append-drop}
-use lib.Seq.{take-append-le, drop-append-le, take-all, drop-append-seam, take-append-add, drop-append-add, drop-drop, set-append-left, length-take-le, take-at, drop-at}
+use lib.ListN.{length, take, drop, set, replicate, length-append, length-take, length-drop}
+use lib.Seq.{take-append-le, drop-append-le, drop-append-add, drop-drop, set-append-left, take-at, drop-at}
 use Rattle.model.specs.Store.{lay}
 use Rattle.pool_range.specs.Cols.{putAt, cutAt, insertAt, removeAt}
 

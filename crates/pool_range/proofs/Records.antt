@@ -3,14 +3,14 @@ use mathlib.Core.Path.{_≡_, refl, sym, ap, _∙_}
 use mathlib.Core.List.{List, [], _∷_, _++_, map}
 use Prim.Native.Nat.{ℕ, zero, suc, _+_, _-_, _≤_, _<_}
 use native.Mathlib.Omega.{arith}
-use lib.ListN.{length, take, drop, length-map}
+use lib.ListN.{length, take, drop, set, length-map}
 use lib.Ieee.{Float}
 use Rattle.model.specs.State.{Ranges, Range}
 use Rattle.model.specs.Store.{lay, layRanges, noTime}
 use Rattle.shape_state.specs.Lent.{rangesOf}
 use Rattle.pool_range.specs.Cols.{putAt, cutAt, insertAt, removeAt}
 use Rattle.pool_range.proofs.Laid.{put-lay, cut-lay}
-use Rattle.pool_range.specs.Part.{Sized, putRange, cutRange}
+use Rattle.pool_range.specs.Part.{putRange, cutRange}
 
 pub ranges-eq : {a a′ b b′ c c′ d d′ e e′ : List ℕ} {f f′ : List Float} {g g′ : List ℕ}
     → a ≡ a′ → b ≡ b′ → c ≡ c′ → d ≡ d′ → e ≡ e′ → f ≡ f′ → g ≡ g′ → rangesOf a b c d e f g ≡ rangesOf a′ b′ c′ d′ e′ f′ g′
@@ -39,13 +39,18 @@ map-append : {A B : Type 0} (f : A → B) (xs ys : List A) → map f (xs ++ ys) 
 map-append f [] ys = refl
 map-append f (x ∷ xs) ys = ap (λ t. f x ∷ t) (map-append f xs ys)
 
-map-insertAt : {A B : Type 0} (f : A → B) (at : ℕ) (x : A) (xs : List A) → map f (insertAt at x xs) ≡ insertAt at (f x) (map f xs)
+pub map-insertAt : {A B : Type 0} (f : A → B) (at : ℕ) (x : A) (xs : List A) → map f (insertAt at x xs) ≡ insertAt at (f x) (map f xs)
 unfolding insertAt
 map-insertAt f at x xs = rw (map-append f (take at xs) (x ∷ drop at xs), map-take f at xs, map-drop f at xs)
 
-map-removeAt : {A B : Type 0} (f : A → B) (at : ℕ) (xs : List A) → map f (removeAt at xs) ≡ removeAt at (map f xs)
+pub map-removeAt : {A B : Type 0} (f : A → B) (at : ℕ) (xs : List A) → map f (removeAt at xs) ≡ removeAt at (map f xs)
 unfolding removeAt
 map-removeAt f at xs = rw (map-append f (take at xs) (drop (at + 1) xs), map-take f at xs, map-drop f (at + 1) xs)
+
+pub map-set : {A B : Type 0} (f : A → B) (xs : List A) (at : ℕ) (x : A) → map f (set xs at x) ≡ set (map f xs) at (f x)
+map-set f [] at x = refl
+map-set f (y ∷ xs) zero x = refl
+map-set f (y ∷ xs) (suc at) x = ap (λ t. f y ∷ t) (map-set f xs at x)
 
 -- one column of a put, of a cut
 put-col : {B : Type 0} (f : Range → B) (blank : B) (at n : ℕ) (r : Range) (rs : List Range) (l : List B) → length rs ≡ n → at ≤ n

@@ -1,5 +1,4 @@
 -- A store's part of the pool of ranges: seven columns, a record put in, a record cut out. Assumes nothing.
-use mathlib.Core.List.{List}
 use mathlib.Core.Path.{_≡_}
 use Prim.Native.Nat.{ℕ}
 use lib.ListN.{length}

@@ -7,15 +7,12 @@ use native.Mathlib.Omega.{arith}
 use lib.ListN.{length, take, drop, getD, set}
 use lib.Seq.{take-all, drop-length, drop-drop}
 use lib.Ieee.{Float}
-use mir.Val.{Fits}
-use mir.Syntax.{w64}
-use Rattle.shape_state.specs.Lent.{rangesOf, pinsOf}
+use Rattle.shape_state.specs.Lent.{rangesOf}
 use Rattle.pool_range.proofs.Copied.{Copying, copy-turn, copy-end}
-use Rattle.pool_part.specs.Parts.{mid, back, backRanges, backPins}
+use Rattle.pool_part.specs.Parts.{mid, back, backRanges}
 use Rattle.pool_part.proofs.Parts.{mid-at, mid-long}
 use Rattle.pool_undo.specs.declared.Old.{Old}
-use Rattle.pool_undo.specs.declared.OldPins.{OldPins}
-use Rattle.pool_undo.specs.Old.{oldRanges, oldPins}
+use Rattle.pool_undo.specs.Old.{oldRanges}
 
 -- ---- a part copied, and put back
 
@@ -46,27 +43,6 @@ module _ {A : Type 0} where
       ∙ append-assoc (take a col) from (drop (a + k) col)
       ∙ ap (λ (t : List A). take a col ++ (from ++ t)) (sym (drop-drop k a col))
 
--- ---- where the parts of store s are
-
-module _ {s : ℕ} (h : s < 8) where
-  pub rec-fits : Fits w64 (128 * s)
-  rec-fits = omega arith
-
-  pub rec-ends : {m : ℕ} → 1024 ≤ m → 128 * s + 128 ≤ m
-  rec-ends l = omega arith
-
-  pub mark-fits : Fits w64 (256 * s)
-  mark-fits = omega arith
-
-  pub mark-ends : {m : ℕ} → 2048 ≤ m → 256 * s + 256 ≤ m
-  mark-ends l = omega arith
-
-  pub pin-fits : Fits w64 (32 * s)
-  pin-fits = omega arith
-
-  pub pin-ends : {m : ℕ} → 256 ≤ m → 32 * s + 32 ≤ m
-  pin-ends l = omega arith
-
 -- ---- column by column
 
 pub old-eq : {a a′ b b′ c c′ d d′ e e′ : List ℕ} {f f′ : List Float} {g g′ h h′ : List ℕ} → a ≡ a′ → b ≡ b′ → c ≡ c′ → d ≡ d′ → e ≡ e′ → f ≡ f′ → g ≡ g′ → h ≡ h′
@@ -81,13 +57,3 @@ pub undone-eq : (s : ℕ) (old : Old) (node start end id stamp : List ℕ) (touc
     → rangesOf a b d e f g h ≡ backRanges (128 * s) 128 (oldRanges old) (rangesOf node start end id stamp touched write)
 unfolding backRanges
 undone-eq s old node start end id stamp touched write p q r t u v w = cc
-
-pub old-pins-eq : {a a′ b b′ c c′ d d′ : List ℕ} → a ≡ a′ → b ≡ b′ → c ≡ c′ → d ≡ d′
-    → _≡_ {A = OldPins} (record { node = a; start = b; end = c; count = d }) (record { node = a′; start = b′; end = c′; count = d′ })
-old-pins-eq p q r s = cc
-
-pub undone-pins-eq : (s : ℕ) (old : OldPins) (node start end count : List ℕ) {a b d e : List ℕ}
-    → a ≡ back (32 * s) 32 (old .node) node → b ≡ back (32 * s) 32 (old .start) start → d ≡ back (32 * s) 32 (old .end) end
-    → e ≡ back (32 * s) 32 (old .count) count → pinsOf a b d e ≡ backPins (32 * s) 32 (oldPins old) (pinsOf node start end count)
-unfolding backPins
-undone-pins-eq s old node start end count p q r t = cc

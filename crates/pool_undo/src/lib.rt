@@ -1,10 +1,10 @@
 ghost use mathlib.Core.Path.{_≡_};
 ghost use Prim.Native.Nat.{_+_, _*_, _≤_, _<_};
 ghost use lib.ListN.{length};
-ghost use Rattle.model.specs.Sound.{RangesLent, PinsLent};
-ghost use Rattle.shape_state.specs.Lent.{rangesOf, pinsOf};
-ghost use Rattle.pool_part.specs.Parts.{mid, back, backRanges, backPins};
-ghost use Rattle.pool_undo.specs.Old.{oldRanges, oldFrom, oldPins, oldPinsFrom};
+ghost use Rattle.model.specs.Sound.{RangesLent};
+ghost use Rattle.shape_state.specs.Lent.{rangesOf};
+ghost use Rattle.pool_part.specs.Parts.{mid, back, backRanges};
+ghost use Rattle.pool_undo.specs.Old.{oldRanges, oldFrom};
 
 // A store's part of the ranges and of the marks, as it was.
 pub struct Old {
@@ -16,14 +16,6 @@ pub struct Old {
     pub touched: [f64; 128],
     pub write: [u32; 128],
     pub marks: [usize; 256],
-}
-
-// A store's part of the pins, as it was.
-pub struct OldPins {
-    pub node: [usize; 32],
-    pub start: [usize; 32],
-    pub end: [usize; 32],
-    pub count: [u64; 32],
 }
 
 // ---- a column's part copied, and put back: the same for each type and width
@@ -148,54 +140,6 @@ fn put_marks(col: &mut [usize], a: usize, from: [usize; 256])
     }
 }
 
-fn copy_pins(col: &[usize], a: usize) -> [usize; 32]
-    requires { ⌜ a + 32 ≤ length (now col) ⌝ }
-    ensures { λ r. ⌜ r ≡ mid a 32 (now (col .entry)) ⌝ }
-{
-    let mut out = [0usize; 32];
-    let mut i = 0;
-    while i < 32 {
-        out[i] = col[a + i];
-        i += 1;
-    }
-    out
-}
-
-fn put_pins(col: &mut [usize], a: usize, from: [usize; 32])
-    requires { ⌜ a + 32 ≤ length (now col) ⌝ }
-    ensures { λ _. ⌜ now (col .exit) ≡ back a 32 from (now (col .entry)) ⌝ }
-{
-    let mut i = 0;
-    while i < 32 {
-        col[a + i] = from[i];
-        i += 1;
-    }
-}
-
-fn copy_counts(col: &[u64], a: usize) -> [u64; 32]
-    requires { ⌜ a + 32 ≤ length (now col) ⌝ }
-    ensures { λ r. ⌜ r ≡ mid a 32 (now (col .entry)) ⌝ }
-{
-    let mut out = [0u64; 32];
-    let mut i = 0;
-    while i < 32 {
-        out[i] = col[a + i];
-        i += 1;
-    }
-    out
-}
-
-fn put_counts(col: &mut [u64], a: usize, from: [u64; 32])
-    requires { ⌜ a + 32 ≤ length (now col) ⌝ }
-    ensures { λ _. ⌜ now (col .exit) ≡ back a 32 from (now (col .entry)) ⌝ }
-{
-    let mut i = 0;
-    while i < 32 {
-        col[a + i] = from[i];
-        i += 1;
-    }
-}
-
 // ---- a store's part, kept and put back
 
 // The ranges and the marks of store s, kept as they are.
@@ -279,53 +223,4 @@ pub fn undo(
     put_u32(write, a, old_write);
     let old_marks = old.marks;
     put_marks(marks, 256 * s, old_marks);
-}
-
-// The pins of store s, kept as they are.
-pub fn keep_pins(
-    pin_node: &[usize],
-    pin_start: &[usize],
-    pin_end: &[usize],
-    pin_count: &[u64],
-    s: usize,
-) -> OldPins
-    requires { ⌜ (s < 8) × PinsLent (pinsOf (now «pin_node») (now «pin_start») (now «pin_end») (now «pin_count»)) ⌝ }
-    ensures { λ r. ⌜
-        r ≡ oldPinsFrom s (pinsOf (now («pin_node» .entry)) (now («pin_start» .entry)) (now («pin_end» .entry)) (now («pin_count» .entry)))
-        ⌝ }
-{
-    let a = 32 * s;
-    OldPins {
-        node: copy_pins(pin_node, a),
-        start: copy_pins(pin_start, a),
-        end: copy_pins(pin_end, a),
-        count: copy_counts(pin_count, a),
-    }
-}
-
-// The pins of store s, put back as they were kept.
-pub fn undo_pins(
-    pin_node: &mut [usize],
-    pin_start: &mut [usize],
-    pin_end: &mut [usize],
-    pin_count: &mut [u64],
-    s: usize,
-    old: OldPins,
-)
-    requires { ⌜ (s < 8) × PinsLent (pinsOf (now «pin_node») (now «pin_start») (now «pin_end») (now «pin_count»)) ⌝ }
-    ensures { λ _. ⌜
-        pinsOf (now («pin_node» .exit)) (now («pin_start» .exit)) (now («pin_end» .exit)) (now («pin_count» .exit))
-        ≡ backPins (32 * s) 32 (oldPins old)
-        (pinsOf (now («pin_node» .entry)) (now («pin_start» .entry)) (now («pin_end» .entry)) (now («pin_count» .entry)))
-        ⌝ }
-{
-    let a = 32 * s;
-    let old_node = old.node;
-    put_pins(pin_node, a, old_node);
-    let old_start = old.start;
-    put_pins(pin_start, a, old_start);
-    let old_end = old.end;
-    put_pins(pin_end, a, old_end);
-    let old_count = old.count;
-    put_counts(pin_count, a, old_count);
 }

@@ -8,7 +8,7 @@ use Rattle.model.specs.declared.ResolveAnswer.{ResolveAnswer}
 use Rattle.model.specs.State.{State}
 use Rattle.model.specs.Tree.{resolve}
 use Rattle.model.specs.Refusals.{PathList, firstOf, resolveRefusals}
-use Rattle.model.specs.Calls.{Outcome, Answer, done, unless, layPath, pathOf, resolveCall}
+use Rattle.model.specs.Calls.{Outcome, Answer, done, unless, layPath, resolveCall}
 use Rattle.theory_refuse.proofs.Refused.{resolve-kept}
 use Rattle.theory_calls.proofs.Accepted.{unless-done, is-sound}
 use Rattle.theory_resolve.proofs.Spelt.{laid-segments, resolve-spelt}

@@ -1,29 +1,26 @@
 -- Filling a store's part and trimming what it then holds: each call's needs from what the part was ready for, and the two results as one.
-use Prim.Native.Nat.{ℕ, _+_, _-_, _*_, _≤_, _<_}
+use Prim.Native.Nat.{ℕ, _+_, _*_, _≤_, _<_}
 use mathlib.Core.Bool.{Bool}
-use mathlib.Core.Path.{_≡_, refl, sym, ap, subst, _∙_}
-use mathlib.Core.List.{List, [], _∷_, _++_}
+use mathlib.Core.Path.{_≡_, ap, subst, _∙_}
+use mathlib.Core.List.{List, [], _∷_}
 use native.Mathlib.Nat.{le-refl}
 use native.Mathlib.Omega.{arith}
-use lib.ListN.{length, take}
-use lib.Seq.{drop-drop}
+use lib.ListN.{length}
 use lib.Ieee.{Float}
 use mir.Val.{Fits}
 use mir.Syntax.{w64}
-use Rattle.model.specs.Sizes.{storeRecords}
 use Rattle.model.specs.State.{Ranges, Range, Pin}
-use Rattle.model.specs.Store.{ranges, pins, lay, layRanges, total}
+use Rattle.model.specs.Store.{ranges, pins, layRanges, total}
 use Rattle.model.specs.Bring.{fill}
 use Rattle.model.specs.Trim.{Trimmed, trim}
 use Rattle.model.specs.Refusals.{OutList}
 use Rattle.theory_sound.specs.Facts.{All}
 use Rattle.theory_bring.proofs.Fill.{fill-length}
 use Rattle.theory_lay.proofs.Rows.{ranges-length}
-use Rattle.pool_range.specs.Part.{Sized}
 use Rattle.rule_resolve.specs.Span.{onlyDepth}
 use Rattle.shape_state.specs.Lent.{pinsOf}
 use Rattle.pool_part.specs.Parts.{mid, back, midRanges, backRanges, midPins}
-use Rattle.pool_part.proofs.Parts.{mid-long, ranges-part, ranges-back, pins-part}
+use Rattle.pool_part.proofs.Parts.{mid-long, ranges-part, ranges-back, pins-part, marks-back}
 use Rattle.rule_fill.specs.declared.Gaps.{Gaps}
 use Rattle.rule_fill.specs.Gaps.{gapsOf}
 use Rattle.rule_fill.proofs.Missing.{gaps-length}
@@ -104,57 +101,24 @@ module _ {depth bytes : List ℕ} {n h : ℕ} {c : Ranges} {ms : List ℕ} {l : 
 
 -- ---- the parts of store s
 
--- the bounds of its parts
-module _ {s : ℕ} (h : s < 8) where
-  pub rec-fits : Fits w64 (128 * s)
-  rec-fits = omega arith
-
-  pub rec-end-fits : Fits w64 (128 * s + 128)
-  rec-end-fits = omega arith
-
-  pub rec-fits8 : Fits w64 (128 * s * 8)
-  rec-fits8 = omega arith
-
-  pub rec-fits4 : Fits w64 (128 * s * 4)
-  rec-fits4 = omega arith
-
-  pub rec-ends : {m : ℕ} → 1024 ≤ m → 128 * s + 128 ≤ m
-  rec-ends l = omega arith
-
-  pub mark-fits : Fits w64 (256 * s)
-  mark-fits = omega arith
-
-  pub mark-end-fits : Fits w64 (256 * s + 256)
-  mark-end-fits = omega arith
-
-  pub mark-fits8 : Fits w64 (256 * s * 8)
-  mark-fits8 = omega arith
-
-  pub mark-ends : {m : ℕ} → 2048 ≤ m → 256 * s + 256 ≤ m
-  mark-ends l = omega arith
-
-  pub pin-fits : Fits w64 (32 * s)
-  pin-fits = omega arith
-
-  pub pin-end-fits : Fits w64 (32 * s + 32)
-  pin-end-fits = omega arith
-
-  pub pin-fits8 : Fits w64 (32 * s * 8)
-  pin-fits8 = omega arith
-
-  pub pin-ends : {m : ℕ} → 256 ≤ m → 32 * s + 32 ≤ m
-  pin-ends l = omega arith
-
-pub width : (a w : ℕ) → (a + w) - a ≡ w
-width a w = omega arith
-
 pin-room : (s m : ℕ) (l : List ℕ) → s < 8 → m ≤ 32 → 256 ≤ length l → m ≤ length (mid (32 * s) 32 l)
 pin-room s m l h e k = omega (arith, mid-long (32 * s) 32 l (omega arith))
 
--- a list as long as the part, given back
-full : (a w : ℕ) (xs pool : List ℕ) → length xs ≡ w → back a w xs pool ≡ lay 0 a w xs pool
-unfolding lay
-full a w xs pool e = let z : w - length xs ≡ 0 = omega arith in rw z (ap (λ t. take a pool ++ (xs ++ t)) (drop-drop w a pool))
+-- what goes out of the part, given back
+pub given-at : {s n v₀ j k o v : ℕ} {c q : Ranges} {ms ms₂ : List ℕ} {l l₂ : OutList} {t : Bool} (x : Trimmed) → s < 8 → n ≤ 128 → 2048 ≤ length ms
+    → length ms₂ ≡ length (mid (256 * s) 256 ms) → GivenOut x n v₀ (midRanges (128 * s) 128 c) l q ms₂ l₂ j k o v t
+    → GivenOutAt s x n v₀ c ms l (backRanges (128 * s) 128 q c) (back (256 * s) 256 ms₂ ms) l₂ j k o v t
+given-at {s} {n} {c = c} {ms = ms} x store room many kept u =
+    record {
+      cols = ap (λ (y : Ranges). backRanges (128 * s) 128 y c) (u .cols) ∙ ranges-back (128 * s) 128 n (x .ranges) c room;
+      marks = marks-back store ms many kept (u .marks);
+      lists = u .lists;
+      records = u .records;
+      held = u .held;
+      outs = u .outs;
+      version = u .version;
+      stalled = u .stalled;
+    }
 
 module _ {depth bytes : List ℕ} {s n m h : ℕ} {c : Ranges} {ms : List ℕ} {l : OutList} {pn ps pe : List ℕ} {nd : ℕ} {g : Gaps} {top next : ℕ} {time : Float} {w : ℕ}
     (p : PoolReady depth bytes s n m h c ms l pn ps pe nd g top next time w) where
@@ -167,25 +131,11 @@ module _ {depth bytes : List ℕ} {s n m h : ℕ} {c : Ranges} {ms : List ℕ} {
       (pin-room s m pn (p .store) (p .entries) (p .pinNode), pin-room s m ps (p .store) (p .entries) (p .pinStart), pin-room s m pe (p .store) (p .entries) (p .pinEnd))
 
   module _ {q : Ranges} {ms₂ : List ℕ} {l₂ : OutList} {v₀ j k o v : ℕ} {t : Bool} where
-    given-at : (x : Trimmed) → length ms₂ ≡ 256 → GivenOut x (n + length (gapsOf g)) v₀ (midRanges (128 * s) 128 c) l q ms₂ l₂ j k o v t
-        → GivenOutAt s x (n + length (gapsOf g)) v₀ c ms l (backRanges (128 * s) 128 q c) (back (256 * s) 256 ms₂ ms) l₂ j k o v t
-    given-at x long u =
-        record {
-          cols = ap (λ (y : Ranges). backRanges (128 * s) 128 y c) (u .cols) ∙ ranges-back (128 * s) 128 (n + length (gapsOf g)) (x .ranges) c (few (p .part));
-          marks = full (256 * s) 256 ms₂ ms long ∙ ap (λ (y : List ℕ). lay 0 (256 * s) 256 y ms) (u .marks);
-          lists = u .lists;
-          records = u .records;
-          held = u .held;
-          outs = u .outs;
-          version = u .version;
-          stalled = u .stalled;
-        }
-
     pub pool-given : (count : List ℕ) (capacity a b d : ℕ) → a ≡ 128 → b ≡ 256 → d ≡ 32 → length ms₂ ≡ length (mid (256 * s) b ms)
         → GivenOut (trim (onlyDepth depth) bytes (pins (midPins (32 * s) d (pinsOf pn ps pe count)) 0 m) capacity (fill nd (gapsOf g) top next time w (ranges (midRanges (128 * s) a c) 0 n)) (mid (256 * s) b ms)) (n + length (gapsOf g)) v₀ (midRanges (128 * s) a c) l q ms₂ l₂ j k o v t
         → GivenOutAt s (trim (onlyDepth depth) bytes (pins (pinsOf pn ps pe count) (32 * s) m) capacity (fill nd (gapsOf g) top next time w (ranges c (128 * s) n)) (mid (256 * s) 256 ms)) (n + length (gapsOf g)) v₀ c ms l (backRanges (128 * s) a q c) (back (256 * s) b ms₂ ms) l₂ j k o v t
     pool-given count capacity a b d ea eb ed kept u =
-        let long : length ms₂ ≡ 256 = kept ∙ ap (λ (x : ℕ). length (mid (256 * s) x ms)) eb ∙ mid-long (256 * s) 256 ms (omega (arith, p .marks, p .store)) in
+        let long : length ms₂ ≡ length (mid (256 * s) 256 ms) = rw eb at kept in
         let e = pins-part (pinsOf pn ps pe count) (32 * s) 32 m (p .entries) in
         let f = ranges-part c (128 * s) 128 n (p .part .ready .few) in
-        rw (ea, eb) (given-at _ long (rw (e, f) at (rw (ea, eb, ed) at u)))
+        rw (ea, eb) (given-at _ (p .store) (few (p .part)) (p .marks) long (rw (e, f) at (rw (ea, eb, ed) at u)))

@@ -1,21 +1,16 @@
--- A place by value, and what the choice of a range says over the columns that it reads. Assumes nothing.
+-- What the choice of a range says over the columns that it reads. Assumes nothing.
 use Prim.Native.Nat.{ℕ}
 use lib.Dec.{ltb, eqb}
 use mathlib.Core.Path.{_≡_}
-use mathlib.Core.Bool.{Bool, true, false, not, _&&_, _||_}
+use mathlib.Core.Bool.{Bool, true, not, _&&_, _||_}
 use mathlib.Core.List.{List}
 use mathlib.Core.Option.{Option, none, some}
 use lib.Ieee.{Float}
+use Rattle.model.specs.Words.{pick}
 use Rattle.model.specs.State.{Range, at}
 use Rattle.model.specs.Store.{ranges, pins}
 use Rattle.model.specs.Trim.{isPinned, first}
 use Rattle.shape_state.specs.Lent.{rangesOf, pinsOf}
-use Rattle.rule_choose.specs.declared.Place.{Place}
-use Rattle.rule_choose.specs.declared.Place.the-variants.{At, Nothing}
-
-abbrev pub placeOf : Place → Option ℕ
-placeOf (At i) = some i
-placeOf Nothing = none
 
 -- `overlaps` and `sooner`, by the numbers that they look at
 abbrev pub overlapping : ℕ → ℕ → ℕ → ℕ → ℕ → ℕ → Bool
@@ -23,10 +18,6 @@ overlapping node start end pinNode pinStart pinEnd = eqb node pinNode && (ltb st
 
 abbrev pub earlier : ℕ → ℕ → ℕ → ℕ → Bool
 earlier stamp id stampʹ idʹ = ltb stamp stampʹ || (eqb stamp stampʹ && ltb id idʹ)
-
-abbrev pub pick : {A : Type 0} → Bool → A → A → A
-pick true a b = a
-pick false a b = b
 
 -- the place of the sooner of record i and of the record at `best`; at n or past it there is none
 abbrev pub betterOf : List ℕ → List ℕ → ℕ → ℕ → ℕ → ℕ

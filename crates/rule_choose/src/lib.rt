@@ -1,13 +1,9 @@
+use pool_number::Found;
 ghost use mathlib.Core.Path.{_≡_};
 ghost use Prim.Native.Nat.{_≤_, _<_};
 ghost use lib.ListN.{length};
-ghost use Rattle.rule_choose.specs.Choose.{placeOf, within, overlapping, earlier, betterOf, PinnedIs, FreeIs, OldestIs};
-
-// A range that was looked for.
-pub enum Place {
-    At(usize),
-    Nothing,
-}
+ghost use Rattle.pool_number.specs.Found.{foundOf};
+ghost use Rattle.rule_choose.specs.Choose.{within, overlapping, earlier, betterOf, PinnedIs, FreeIs, OldestIs};
 
 // Do a range and a pin have a block in common?
 fn overlaps(
@@ -79,13 +75,13 @@ fn better(id: &[u64], stamp: &[u64], n: usize, i: usize, best: usize) -> usize
     i
 }
 
-fn as_place(n: usize, best: usize) -> Place
-    ensures { λ r. ⌜ placeOf r ≡ within n best ⌝ }
+fn as_found(n: usize, best: usize) -> Found
+    ensures { λ r. ⌜ foundOf r ≡ within n best ⌝ }
 {
     if best < n {
-        return Place::At(best);
+        return Found::At(best);
     }
-    Place::Nothing
+    Found::Nothing
 }
 
 // The first range by stamp, then id, that no pin overlaps. Only a record that would be the best so far is asked for its pins.
@@ -100,14 +96,14 @@ pub fn first_free(
     pin_start: &[usize],
     pin_end: &[usize],
     m: usize,
-) -> Place
+) -> Found
     requires { ⌜
         (n ≤ length (now node)) × (n ≤ length (now start)) × (n ≤ length (now end)) × (n ≤ length (now id)) × (n ≤ length (now stamp))
         ⌝ }
     requires { ⌜ (m ≤ length (now «pin_node»)) × (m ≤ length (now «pin_start»)) × (m ≤ length (now «pin_end»)) ⌝ }
     ensures { λ r. ⌜
         FreeIs (now (node .entry)) (now (start .entry)) (now (end .entry)) (now (id .entry)) (now (stamp .entry)) n (now («pin_node» .entry))
-        (now («pin_start» .entry)) (now («pin_end» .entry)) m (placeOf r)
+        (now («pin_start» .entry)) (now («pin_end» .entry)) m (foundOf r)
         ⌝ }
 {
     let mut best = n;
@@ -121,13 +117,13 @@ pub fn first_free(
             }
         }
     }
-    as_place(n, best)
+    as_found(n, best)
 }
 
 // The first range by stamp, then id, pinned or not.
-pub fn oldest(id: &[u64], stamp: &[u64], n: usize) -> Place
+pub fn oldest(id: &[u64], stamp: &[u64], n: usize) -> Found
     requires { ⌜ (n ≤ length (now id)) × (n ≤ length (now stamp)) ⌝ }
-    ensures { λ r. ⌜ OldestIs (now (id .entry)) (now (stamp .entry)) n (placeOf r) ⌝ }
+    ensures { λ r. ⌜ OldestIs (now (id .entry)) (now (stamp .entry)) n (foundOf r) ⌝ }
 {
     let mut best = n;
     let mut i = n;
@@ -135,5 +131,5 @@ pub fn oldest(id: &[u64], stamp: &[u64], n: usize) -> Place
         i -= 1;
         best = better(id, stamp, n, i, best);
     }
-    as_place(n, best)
+    as_found(n, best)
 }

@@ -13,7 +13,7 @@ use Rattle.model.specs.State.{Ranges, Range, at, rangeAt}
 use Rattle.model.specs.Store.{ranges, lay, layRanges, noTime}
 use Rattle.model.specs.Insert.{head, tail}
 use Rattle.shape_state.specs.Lent.{rangesOf}
-use Rattle.theory_lay.proofs.Rows.{ranges-rows, ranges-length, rows-column}
+use Rattle.theory_lay.proofs.Rows.{ranges-rows, rows-column}
 use Rattle.pool_range.specs.Cols.{cutAt}
 use Rattle.pool_range.proofs.Laid.{lay-full}
 use Rattle.pool_range.specs.Part.{Sized}

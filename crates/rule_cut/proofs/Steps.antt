@@ -1,7 +1,7 @@
 -- The loop over the ranges: the columns hold the heads so far, the ranges to come and the tails so far, and what is done and what is to be done
 -- come to all heads and all tails. Assumes nothing.
 use Prim.Native.Nat.{ℕ, suc, _+_, _-_, _^_, _≤_, _<_}
-use mathlib.Core.Path.{_≡_, refl, sym, ap, subst, _∙_}
+use mathlib.Core.Path.{_≡_, refl, sym, ap, _∙_}
 use mathlib.Core.Bool.{Bool, true, false, not, _&&_, _||_}
 use mathlib.Core.List.{List, [], _∷_, _++_, append-assoc, append-nil}
 use native.Mathlib.Numerals.{add-one}
@@ -15,8 +15,8 @@ use Rattle.model.specs.Store.{ranges, plus, put}
 use Rattle.model.specs.Insert.{across, beyond, head, heads, tail, tails, rangesAcross}
 use Rattle.theory_lay.proofs.Rows.{ranges-length}
 use Rattle.pool_range.specs.Part.{Sized}
-use Rattle.rule_cut.specs.declared.Place.{Place}
-use Rattle.rule_cut.specs.Cut.{isAcross, isBeyond, splitRange, moveRange, stepRanges, stepPlace}
+use Rattle.rule_cut.specs.declared.Progress.{Progress}
+use Rattle.rule_cut.specs.Cut.{isAcross, isBeyond, splitRange, moveRange, stepRanges, stepProgress}
 use Rattle.rule_cut.proofs.Step.{across-both}
 use Rattle.rule_cut.specs.Cutting.{acrossIn, cutRanges}
 use Rattle.rule_cut.proofs.Over.{over, read-over, split-over, move-over, sized-over, back-over, laid-over}
@@ -60,7 +60,7 @@ module _ (j k : ℕ) (r : Range) (rs : List Range) (b s : Bool) (eb : beyond j k
 
 -- ---- the loop
 
-pub record Cutting (j k m next n : ℕ) (c₀ c : Ranges) (s : Place) : Type 0 where
+pub record Cutting (j k m next n : ℕ) (c₀ c : Ranges) (s : Progress) : Type 0 where
   pub done : List Range
   pub moved : List Range
   pub seen : ℕ
@@ -113,7 +113,7 @@ one-on xs x ys = sym (append-assoc xs (x ∷ []) ys)
 one-last : {A : Type 0} (xs ys zs : List A) (t : A) → (xs ++ (ys ++ zs)) ++ (t ∷ []) ≡ xs ++ (ys ++ (zs ++ (t ∷ [])))
 one-last xs ys zs t = append-assoc xs (ys ++ zs) (t ∷ []) ∙ ap (λ (l : List _). xs ++ l) (append-assoc ys zs (t ∷ []))
 
-module _ (j k m next n : ℕ) (c₀ c : Ranges) (s : Place) (few : n + acrossIn j k n c₀ ≤ 128) (sized : Sized 128 c₀) (o : Cutting j k m next n c₀ c s) where
+module _ (j k m next n : ℕ) (c₀ c : Ranges) (s : Progress) (few : n + acrossIn j k n c₀ ≤ 128) (sized : Sized 128 c₀) (o : Cutting j k m next n c₀ c s) where
   long : length (o .done ++ (ranges c₀ (o .seen) (n - o .seen) ++ o .moved)) ≡ s .n
   long =
       omega (
@@ -200,7 +200,7 @@ module _ (j k m next n : ℕ) (c₀ c : Ranges) (s : Place) (few : n + acrossIn 
     cut-id h = omega (arith, o .ids)
 
     columns-are : (b a : Bool) → s .n + plus (b && a) (rangesAcross j k rest) ≡ n + acrossIn j k n c₀
-        → stepRanges b a s k m c ≡ over (stepPlace b a s .n) ((o .done ++ headIf b a k r) ++ (rest ++ (o .moved ++ tailIf b a k m (s .next) r))) c₀
+        → stepRanges b a s k m c ≡ over (stepProgress b a s .n) ((o .done ++ headIf b a k r) ++ (rest ++ (o .moved ++ tailIf b a k m (s .next) r))) c₀
     columns-are false a e =
         at-hand
         ∙ ap (λ (l : List Range). over (s .n) l c₀)
@@ -233,7 +233,7 @@ module _ (j k m next n : ℕ) (c₀ c : Ranges) (s : Place) (few : n + acrossIn 
         (o .todo)
 
     go : (b a : Bool) → beyond j k r ≡ b → ltb (r .start) k ≡ a → s .n + plus (b && a) (rangesAcross j k rest) ≡ n + acrossIn j k n c₀
-        → s .next + plus (b && a) (rangesAcross j k rest) ≡ next + acrossIn j k n c₀ → Cutting j k m next n c₀ (stepRanges b a s k m c) (stepPlace b a s)
+        → s .next + plus (b && a) (rangesAcross j k rest) ≡ next + acrossIn j k n c₀ → Cutting j k m next n c₀ (stepRanges b a s k m c) (stepProgress b a s)
     go false a eb ea cnt idn =
         record {
           done = o .done ++ (r ∷ []);
@@ -279,14 +279,14 @@ module _ (j k m next n : ℕ) (c₀ c : Ranges) (s : Place) (few : n + acrossIn 
           ids = idn;
         }
 
-    pub cut-turn : (c′ : Ranges) (s′ : Place) → (c′ ≡ stepRanges isB isS s k m c) × (s′ ≡ stepPlace isB isS s) → Cutting j k m next n c₀ c′ s′
+    pub cut-turn : (c′ : Ranges) (s′ : Progress) → (c′ ≡ stepRanges isB isS s k m c) × (s′ ≡ stepProgress isB isS s) → Cutting j k m next n c₀ c′ s′
     cut-turn c′ s′ e = rw (e .0, e .1) (go isB isS beyond-there below-there counted numbered)
 
     -- less is left to do
-    pub cut-less : (c′ : Ranges) (s′ : Place) → (c′ ≡ stepRanges isB isS s k m c) × (s′ ≡ stepPlace isB isS s) → s′ .top - s′ .at < s .top - s .at
+    pub cut-less : (c′ : Ranges) (s′ : Progress) → (c′ ≡ stepRanges isB isS s k m c) × (s′ ≡ stepProgress isB isS s) → s′ .top - s′ .at < s .top - s .at
     cut-less c′ s′ e = rw (e .1) (less isB isS)
       where
-        less : (b a : Bool) → stepPlace b a s .top - stepPlace b a s .at < s .top - s .at
+        less : (b a : Bool) → stepProgress b a s .top - stepProgress b a s .at < s .top - s .at
         less false a = omega arith
         less true true = omega arith
         less true false = omega arith

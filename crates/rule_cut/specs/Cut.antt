@@ -9,7 +9,7 @@ use Rattle.model.specs.State.{Ranges, at}
 use Rattle.model.specs.Store.{plus}
 use Rattle.shape_state.specs.Lent.{rangesOf}
 use Rattle.pool_range.specs.Cols.{cutAt}
-use Rattle.rule_cut.specs.declared.Place.{Place}
+use Rattle.rule_cut.specs.declared.Progress.{Progress}
 
 -- `across` and `pinAcross` of what stands on this node, with this start and end
 abbrev pub isAcross : ℕ → ℕ → ℕ → ℕ → ℕ → Bool
@@ -50,12 +50,12 @@ abbrev pub isBeyond : ℕ → ℕ → ℕ → ℕ → Bool
 isBeyond j k node end = eqb node j && ltb k end
 
 -- by whether the range at hand has blocks beyond, and whether it begins below: it stays, it is in two, or it moves
-abbrev pub stepRanges : Bool → Bool → Place → ℕ → ℕ → Ranges → Ranges
+abbrev pub stepRanges : Bool → Bool → Progress → ℕ → ℕ → Ranges → Ranges
 stepRanges false below s k m c = c
 stepRanges true true s k m c = splitRange (s .n) (s .at) k m (s .next) c
 stepRanges true false s k m c = moveRange (s .n) (s .at) k m c
 
-abbrev pub stepPlace : Bool → Bool → Place → Place
-stepPlace false below s = record { at = s .at + 1; top = s .top; n = s .n; next = s .next }
-stepPlace true true s = record { at = s .at + 1; top = s .top; n = s .n + 1; next = s .next + 1 }
-stepPlace true false s = record { at = s .at; top = s .top - 1; n = s .n; next = s .next }
+abbrev pub stepProgress : Bool → Bool → Progress → Progress
+stepProgress false below s = record { at = s .at + 1; top = s .top; n = s .n; next = s .next }
+stepProgress true true s = record { at = s .at + 1; top = s .top; n = s .n + 1; next = s .next + 1 }
+stepProgress true false s = record { at = s .at; top = s .top - 1; n = s .n; next = s .next }

@@ -7,9 +7,9 @@ ghost use lib.Dec.{ltb};
 ghost use Rattle.model.specs.State.{at, Ranges};
 ghost use Rattle.shape_state.specs.Lent.{rangesOf};
 ghost use Rattle.pool_range.specs.Part.{Sized};
-ghost use Rattle.rule_cut.specs.Cut.{isAcross, acrossBefore, isBeyond, splitRange, moveRange, stepRanges, stepPlace};
+ghost use Rattle.rule_cut.specs.Cut.{isAcross, acrossBefore, isBeyond, splitRange, moveRange, stepRanges, stepProgress};
 ghost use Rattle.model.specs.Sizes.{maxStamp};
-ghost use Rattle.model.specs.Store.{ranges, onNode};
+ghost use Rattle.model.specs.Store.{ranges};
 ghost use Rattle.model.specs.Insert.{ifHeld, cutMarks};
 ghost use Rattle.rule_cut.specs.Cutting.{acrossIn, cutRanges};
 
@@ -157,7 +157,7 @@ fn is_beyond(node: &[usize], end: &[usize], i: usize, j: usize, k: usize) -> boo
 }
 
 // How far a cut is: the place of the range at hand, the end of those still to come, how many ranges there are, and the next id.
-pub struct Place {
+pub struct Progress {
     pub at: usize,
     pub top: usize,
     pub n: usize,
@@ -173,11 +173,11 @@ pub fn cut_next(
     stamp: &mut [u64],
     touched: &mut [f64],
     write: &mut [u32],
-    s: Place,
+    s: Progress,
     j: usize,
     k: usize,
     m: usize,
-) -> Place
+) -> Progress
     requires { ⌜
         (s .at < s .top)
         × (s .top ≤ s .n)
@@ -191,13 +191,13 @@ pub fn cut_next(
         ≡ stepRanges (isBeyond j k (at (now (node .entry)) (s .at)) (at (now (end .entry)) (s .at))) (ltb (at (now (start .entry)) (s .at)) k) s k m
         (rangesOf (now (node .entry)) (now (start .entry)) (now (end .entry)) (now (id .entry)) (now (stamp .entry)) (now (touched .entry))
         (now (write .entry))))
-        × (r ≡ stepPlace (isBeyond j k (at (now (node .entry)) (s .at)) (at (now (end .entry)) (s .at))) (ltb (at (now (start .entry)) (s .at)) k) s)
+        × (r ≡ stepProgress (isBeyond j k (at (now (node .entry)) (s .at)) (at (now (end .entry)) (s .at))) (ltb (at (now (start .entry)) (s .at)) k) s)
         ⌝ }
 {
     let p = s.at;
     let n = s.n;
     if !is_beyond(node, end, p, j, k) {
-        return Place {
+        return Progress {
             at: p + 1,
             top: s.top,
             n,
@@ -219,7 +219,7 @@ pub fn cut_next(
             m,
             s.next,
         );
-        return Place {
+        return Progress {
             at: p + 1,
             top: s.top,
             n: n + 1,
@@ -227,7 +227,7 @@ pub fn cut_next(
         };
     }
     move_range(node, start, end, id, stamp, touched, write, n, p, k, m);
-    Place {
+    Progress {
         at: p,
         top: s.top - 1,
         n,
@@ -295,7 +295,7 @@ pub fn cut_ranges(
         (now (write .entry))))
         ⌝ }
 {
-    let mut s = Place {
+    let mut s = Progress {
         at: 0,
         top: n,
         n,
@@ -320,21 +320,6 @@ pub fn cut_ranges(
         n: s.n,
         next: s.next,
     }
-}
-
-// Is any of the first `n` ranges on node `v`?
-pub fn on_node(node: &[usize], n: usize, v: usize) -> bool
-    requires { ⌜ n ≤ length (now node) ⌝ }
-    ensures { λ r. ⌜ ((c : Ranges) → c .node ≡ now (node .entry) → r ≡ onNode v (ranges c 0 n)) ⌝ }
-{
-    let mut i = 0;
-    while i < n {
-        if node[i] == v {
-            return true;
-        }
-        i += 1;
-    }
-    false
 }
 
 // What becomes of a read mark on the node that is cut, and on the new one: 0 where nothing is held.
@@ -368,8 +353,8 @@ pub fn cut_marks(marks: &mut [usize], node: &[usize], n: usize, j: usize, k: usi
     ensures { λ _. ⌜ ((c : Ranges) → c .node ≡ now (node .entry) → now (marks .exit) ≡ cutMarks j k m (ranges c 0 n) (now (marks .entry))) ⌝ }
 {
     let mark = marks[j];
-    let head = head_mark(on_node(node, n, j), mark, k);
-    let tail = tail_mark(on_node(node, n, m), mark, k);
+    let head = head_mark(pool_mark::on_node(node, n, j), mark, k);
+    let tail = tail_mark(pool_mark::on_node(node, n, m), mark, k);
     marks[j] = head;
     marks[m] = tail;
 }

@@ -1,27 +1,30 @@
 -- To add an entry makes a list no shorter and adds its count to the counts: so what can be held after an entry is added could be held before.
 -- Assumes nothing.
-use Prim.Native.Nat.{ℕ, zero, suc, _+_, _-_, _≤_, _<_, min}
+use Prim.Native.Nat.{ℕ, zero, suc, _+_, _-_, _^_, _≤_, _<_, min}
 use mathlib.Core.Path.{_≡_, refl, sym, ap, subst, _∙_}
-use mathlib.Core.Bool.{Bool, true, false, _&&_}
+use mathlib.Core.Bool.{Bool, true, false, not, _&&_}
 use mathlib.Core.List.{List, [], _∷_}
-use native.Mathlib.Nat.{zero-add, sub-zero}
+use native.Mathlib.Nat.{sub-zero}
 use native.Mathlib.Omega.{arith}
 use lib.Dec.{ltb, eqb}
 use borrow.Author.Tests.{eq-eqb, ne-eqb}
-use lib.ListN.{length, getD, set}
+use lib.ListN.{length, getD}
 use mir.Val.{Fits}
 use mir.Syntax.{w64}
-use Rattle.model.specs.State.{Pins, Pin, pinAt}
-use Rattle.model.specs.Store.{pins, plus}
-use Rattle.model.specs.Pins.{sameSpan, pinAhead, counted, addPin}
+use Rattle.model.specs.declared.Span.{Span}
+use Rattle.model.specs.State.{Pins, Pin, at, pinAt}
+use Rattle.model.specs.Store.{pins, layPins, plus}
+use Rattle.model.specs.Pins.{pinOf, sameSpan, pinAhead, addPin}
 use Rattle.model.specs.Insert.{putPin, pinHead, pinTail, pinPieces, cutPins, pinAcross, pinsAcross}
 use Rattle.model.specs.Sizes.{maxPinned}
-use Rattle.pool_range.specs.Cols.{insertAt}
-use Rattle.pool_range.proofs.Laid.{length-insertAt}
-use Rattle.theory_lay.proofs.Rows.{pins-at, pins-length}
-use Rattle.rule_cut_pins.specs.Entries.{columnsOf, pinsIn, counts, Small, Found, pinsAcrossIn}
+use Rattle.theory_lay.proofs.Rows.{pins-length}
+use Rattle.pool_pin.specs.declared.EntryPlace.{EntryPlace}
+use Rattle.pool_pin.specs.EntryPlace.{PinsFrom, Placed}
+use Rattle.pool_pin.proofs.Entries.{added, add-is}
+use Rattle.pool_pin.proofs.Columns.{laid-read}
+use Rattle.pool_pin.proofs.Placed.{in-list, count-there, add-long}
+use Rattle.rule_cut_pins.specs.Entries.{PinsSized, columnsOf, pinsIn, counts, Small, pinsAcrossIn}
 use Rattle.rule_cut_pins.specs.declared.Entries.{Entries}
-use Rattle.rule_cut_pins.proofs.Placed.{added, add-is}
 
 -- the list with one more entry: no shorter, at most one longer, and with its count
 pub record Added (p : Pin) (ps qs : List Pin) : Type 0 where
@@ -50,43 +53,37 @@ count-least [] i d h = absurd (omega arith)
 count-least (p ∷ ps) zero d h = omega arith
 count-least (p ∷ ps) (suc i) d h = omega (arith, count-least ps i d (omega arith))
 
--- ---- the entry added at the place that was found
+-- ---- an entry of k pins, added at the place that was found
 
-module _ (c : Pins) (n at : ℕ) (p : Pin) (found : Found p (pins c 0 n) at) where
-  pub at-most : at ≤ n
-  at-most = rw pins-length at (found .high)
+pub from-front : (c : Pins) → PinsSized 32 c → PinsFrom 0 c
+from-front c s =
+    record { node = omega (arith, s .node); start = omega (arith, s .start); end = omega (arith, s .end); count = omega (arith, s .count) }
 
-  read : at < n → getD (pins c 0 n) at p ≡ pinAt c at
-  read h = pins-at c 0 n at p h ∙ rw zero-add
+pub to-place : {n : ℕ} (c : Pins) → n ≤ 32 → PinsSized 32 c → (0 + n ≤ length (c .node)) × (0 + n ≤ length (c .start)) × (0 + n ≤ length (c .end))
+to-place c h s = (omega (arith, s .node), omega (arith, s .start), omega (arith, s .end))
 
-  -- put in, where no entry of its span stands there
-  pub entered : (at < n → sameSpan p (pinAt c at) ≡ false) → insertAt at p (pins c 0 n) ≡ addPin p (pins c 0 n)
-  entered other =
-      sym (found .enters (λ h. let l : at < n = rw pins-length at h in ap (sameSpan p) (read l) ∙ other l))
+module _ (c : Pins) (n : ℕ) (sp : Span) (k : ℕ) (r : EntryPlace) (place : Placed (c .node) (c .start) (c .end) 0 n sp r)
+    (small : Small (addPin (pinOf sp k) (pins c 0 n))) where
+  pub room : n + plus (not (r .there)) 0 ≤ 32
+  room = rw (← add-long 0 n c sp k r place) (small .few)
 
-  pub room : (at < n → sameSpan p (pinAt c at) ≡ false) → Small (addPin p (pins c 0 n)) → n < 32
-  room other s =
-      let l : at ≤ length (pins c 0 n) = found .high in
-      omega (arith, s .few, ap length (entered other), length-insertAt p at p (pins c 0 n) l, pins-length c 0 n)
+  pub sum-fits : r .there ≡ true → at (c .count) (0 + r .at) + k < 2 ^ 64
+  sum-fits e =
+      omega (
+        arith,
+        small .low,
+        adds (pinOf sp k) (pins c 0 n) .sum,
+        count-least (pins c 0 n) (r .at) (pinOf sp k) (in-list 0 n c sp k r place e),
+        count-there 0 n c sp k r place e,
+      )
 
-  -- added up, where one does
-  pub joined : (q : Pin) → at < n → q ≡ pinAt c at → sameSpan p q ≡ true
-      → set (pins c 0 n) at (counted (pinAt c at) (q .count + p .count)) ≡ addPin p (pins c 0 n)
-  joined q h e s =
-      let l : at < length (pins c 0 n) = rw pins-length h in
-      let r : getD (pins c 0 n) at p ≡ q = read h ∙ sym e in
-      ap (λ (x : Pin). set (pins c 0 n) at (counted x (q .count + p .count))) (sym e)
-      ∙ ap (λ (x : Pin). set (pins c 0 n) at (counted x (x .count + p .count))) (sym r)
-      ∙ sym (found .joins l (ap (sameSpan p) r ∙ s))
-
-  pub sum-fits : (q : Pin) → at < n → q ≡ pinAt c at → Small (addPin p (pins c 0 n)) → Fits w64 (q .count + p .count)
-  sum-fits q h e s =
-      let l : at < length (pins c 0 n) = rw pins-length h in
-      let r : getD (pins c 0 n) at p .count ≡ q .count = ap (λ (x : Pin). x .count) (read h ∙ sym e) in
-      omega (arith, s .low, adds p (pins c 0 n) .sum, count-least (pins c 0 n) at p l)
-
-pub none-there : {at n : ℕ} {P : Type 0} → n ≤ at → at < n → P
-none-there a b = absurd (omega arith)
+  -- the list is what was laid
+  pub read-back : PinsSized 32 c → (c′ : Pins) (m : ℕ)
+      → (c′ ≡ layPins 0 (n + plus (not (r .there)) 0) (addPin (pinOf sp k) (pins c 0 n)) c) × (m ≡ length (addPin (pinOf sp k) (pins c 0 n)))
+      → pins c′ 0 m ≡ addPin (pinOf sp k) (pins c 0 n)
+  read-back s c′ m e =
+      rw (e .0, e .1)
+      (laid-read 0 (n + plus (not (r .there)) 0) c room (from-front c s) (addPin (pinOf sp k) (pins c 0 n)) (omega (arith, add-long 0 n c sp k r place)))
 
 -- ---- an entry added as its parts
 

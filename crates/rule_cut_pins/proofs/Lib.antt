@@ -1,6 +1,4 @@
 -- The crate's laws that belong to no one function.
-pub mod Placed
-pub mod Listed
 pub mod Fewer
 pub mod Across
 pub mod Staying

@@ -1,26 +1,26 @@
 -- A cut leaves the entries as they are where none is on its node and each stands ahead of the next: to add an entry ahead of the first puts it
 -- in front. Then the loop that tests it. Assumes nothing.
-use Prim.Native.Nat.{ℕ, zero, suc, _+_, _-_, _≤_, _<_}
-use mathlib.Core.Path.{_≡_, refl, sym, ap, _∙_}
+use Prim.Native.Nat.{ℕ, suc, _+_, _-_, _≤_, _<_}
+use mathlib.Core.Path.{_≡_, refl, sym, _∙_}
 use mathlib.Core.Bool.{Bool, true, false, not, _&&_, _||_, false≢true}
-use mathlib.Core.List.{List, [], _∷_, map}
+use mathlib.Core.List.{List, [], _∷_}
 use native.Mathlib.Numerals.{add-one}
 use native.Mathlib.Nat.{sub-zero, add-zero}
 use native.Mathlib.Omega.{arith}
 use lib.Dec.{ltb, eqb}
-use lib.ListN.{length, take, drop, take-append-drop}
-use lib.Seq.{length-take-le}
-use borrow.Author.Tests.{ne-eqb, lt-ltb, ltb-true, ltb-false}
+use lib.ListN.{length}
+use borrow.Author.Tests.{not-true, not-false, ne-eqb, lt-ltb, ltb-true, ltb-false}
 use Rattle.model.specs.State.{Pins, Pin, at, pinAt}
-use Rattle.model.specs.Store.{pins, lay, layPins}
+use Rattle.model.specs.Store.{pins}
 use Rattle.model.specs.Pins.{sameSpan, pinAhead, addPin}
 use Rattle.model.specs.Insert.{cutPins, pinsAcross}
 use Rattle.shape_state.specs.Lent.{pinsOf}
 use Rattle.theory_lay.proofs.Rows.{pins-length}
-use Rattle.pool_range.proofs.Laid.{lay-full}
-use Rattle.rule_cut_pins.specs.Entries.{PinsSized, pinsAcrossIn, leads, leadsIf, unmoved, spanAt, staysAt, cutEntries}
-use Rattle.rule_cut_pins.proofs.Placed.{add-is}
-use Rattle.rule_cut_pins.proofs.Listed.{column, within}
+use Rattle.pool_pin.specs.EntryPlace.{spanAt, before}
+use Rattle.pool_pin.proofs.Entries.{add-is}
+use Rattle.pool_pin.proofs.Columns.{laid-same}
+use Rattle.rule_cut_pins.specs.Entries.{PinsSized, pinsAcrossIn, leads, leadsIf, unmoved, staysAt, cutEntries}
+use Rattle.rule_cut_pins.proofs.Fewer.{from-front}
 
 -- ---- tests that all hold
 
@@ -35,14 +35,6 @@ and-right false b h = absurd (false≢true h)
 and-no : (a : Bool) → (a && false) ≡ false
 and-no true = refl
 and-no false = refl
-
-not-yes : (a : Bool) → not a ≡ true → a ≡ false
-not-yes true h = absurd (false≢true h)
-not-yes false h = refl
-
-not-no : (a : Bool) → not a ≡ false → a ≡ true
-not-no true h = refl
-not-no false h = absurd (false≢true (sym h))
 
 less-differs : (u v : ℕ) → ltb u v ≡ true → eqb u v ≡ false
 less-differs u v h = ne-eqb u v (λ e. omega (arith, ltb-true u v h))
@@ -71,27 +63,9 @@ as-they-are j k m [] h = (refl, refl)
 as-they-are j k m (p ∷ ps) h =
     let on = eqb (p .node) j in
     let here : (not on && leads p ps) ≡ true = and-left (not on && leads p ps) (unmoved j ps) h in
-    let off : eqb (p .node) j ≡ false = not-yes on (and-left (not on) (leads p ps) here) in
+    let off : eqb (p .node) j ≡ false = not-true on (and-left (not on) (leads p ps) here) in
     let rest = as-they-are j k m ps (and-right (not on && leads p ps) (unmoved j ps) h) in
     (rw (off, rest .0) (in-front p ps (and-right (not on) (leads p ps) here)), rw (off, rest .1))
-
--- the first n entries laid back where they were read
-column-back : (n : ℕ) (c : Pins) (f : Pin → ℕ) (l : List ℕ) → map f (pins c 0 n) ≡ take n l → n ≤ length l → lay 0 0 n (map f (pins c 0 n)) l ≡ l
-column-back n c f l same h = rw same (lay-full 0 n (take n l) l (length-take-le n l h) ∙ take-append-drop n l)
-
-back : (n : ℕ) (c : Pins) → PinsSized 32 c → n ≤ 32 → layPins 0 n (pins c 0 n) c ≡ c
-unfolding layPins
-back n c s h =
-    let node : n ≤ length (c .node) = within h (s .node) in
-    let start : n ≤ length (c .start) = within h (s .start) in
-    let end : n ≤ length (c .end) = within h (s .end) in
-    let count : n ≤ length (c .count) = within h (s .count) in
-    λ i. record {
-      node = column-back n c (λ p. p .node) (c .node) (column c n (λ p. p .node) (c .node) (λ x. refl) node) node i;
-      start = column-back n c (λ p. p .start) (c .start) (column c n (λ p. p .start) (c .start) (λ x. refl) start) start i;
-      end = column-back n c (λ p. p .end) (c .end) (column c n (λ p. p .end) (c .end) (λ x. refl) end) end i;
-      count = column-back n c (λ p. p .count) (c .count) (column c n (λ p. p .count) (c .count) (λ x. refl) count) count i;
-    }
 
 -- what `cut_pins` gives back then
 pub left-alone : (j k m n : ℕ) (c : Pins) → PinsSized 32 c → n + pinsAcrossIn j k n c ≤ 32 → unmoved j (pins c 0 n) ≡ true
@@ -99,12 +73,12 @@ pub left-alone : (j k m n : ℕ) (c : Pins) → PinsSized 32 c → n + pinsAcros
 left-alone j k m n c s few h =
     let same = as-they-are j k m (pins c 0 n) h in
     let low : n ≤ 32 = omega arith in
-    (sym (rw (same .0, same .1, add-zero) (back n c s low)), rw (same .0, pins-length))
+    (sym (rw (same .0, same .1, add-zero) (laid-same 0 n c low (from-front c s))), rw (same .0, pins-length))
 
 -- ---- the loop
 
 -- the last test at a place
-pub stays-by : (j : ℕ) (node start end : List ℕ) (n i : ℕ) (r : Bool) → r ≡ pinAhead (spanAt node start end i) (spanAt node start end (i + 1))
+pub stays-by : (j : ℕ) (node start end : List ℕ) (n i : ℕ) (r : Bool) → r ≡ before (spanAt node start end i) (spanAt node start end (i + 1))
     → (at node i ≡ j → ⊥) → i + 1 < n → r ≡ staysAt j node start end n i
 stays-by j node start end n i r e off more = rw (ne-eqb (at node i) j off, lt-ltb (i + 1) n more) e
 
@@ -142,12 +116,12 @@ module _ {j : ℕ} {node start end : List ℕ} {n : ℕ} where
   stay-turn {i} {r} o h e t =
       record {
         high = omega arith;
-        left = λ count. rw add-one (sym (here j node start end n count i h ∙ rw (← e, not-no r t)) ∙ o .left count);
+        left = λ count. rw add-one (sym (here j node start end n count i h ∙ rw (← e, not-false r t)) ∙ o .left count);
       }
 
   pub stay-not : {i : ℕ} {r : Bool} → Staying j node start end n i → i < n → r ≡ staysAt j node start end n i → not r ≡ true
       → (count : List ℕ) → false ≡ unmoved j (pins (pinsOf node start end count) 0 n)
-  stay-not {i} {r} o h e t count = sym (here j node start end n count i h ∙ rw (← e, not-yes r t)) ∙ o .left count
+  stay-not {i} {r} o h e t count = sym (here j node start end n count i h ∙ rw (← e, not-true r t)) ∙ o .left count
 
   pub stay-end : {i : ℕ} → Staying j node start end n i → n ≤ i → (count : List ℕ) → true ≡ unmoved j (pins (pinsOf node start end count) 0 n)
   unfolding unmoved pins

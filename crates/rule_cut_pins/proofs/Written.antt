@@ -3,7 +3,7 @@
 use Prim.Native.Nat.{ℕ, _+_, _-_, _≤_, _<_}
 use mathlib.Core.Path.{_≡_, refl, sym, ap, _∙_}
 use mathlib.Core.Logic.{_⊎_, inl, inr}
-use mathlib.Core.List.{List, [], _++_, map, append-assoc}
+use mathlib.Core.List.{List, _++_, map, append-assoc}
 use native.Mathlib.Nat.{zero-add}
 use native.Mathlib.Omega.{arith}
 use lib.ListN.{length, getD, set, take, drop, replicate, length-append, length-replicate, getD-replicate, List·getD-append}
@@ -13,9 +13,9 @@ use Rattle.model.specs.Store.{lay, layPins}
 use Rattle.shape_state.specs.Lent.{pinsOf}
 use Rattle.pool_range.proofs.Laid.{lay-front}
 use Rattle.pool_range.proofs.Copied.{Copying, copy-turn, copy-end}
-use Rattle.rule_cut_pins.specs.Entries.{columnsOf, pinsIn}
+use Rattle.pool_pin.proofs.Columns.{column}
+use Rattle.rule_cut_pins.specs.Entries.{PinsSized, columnsOf, pinsIn}
 use Rattle.rule_cut_pins.specs.declared.Entries.{Entries}
-use Rattle.rule_cut_pins.proofs.Listed.{Full, within, column}
 
 -- what an `if i < n` writes at place i
 abbrev pub Put : ℕ → ℕ → List ℕ → List ℕ → List ℕ → Type 0
@@ -60,21 +60,22 @@ module _ (l from : List ℕ) (n k : ℕ) (short : n ≤ length from) (few : n �
       copy-end o h ∙ p ∙ sym q
 
 -- the four columns
-pub laid-is : (l : Entries) (k : ℕ) (c : Pins) (a b d e : List ℕ) → l .n ≤ 32 → Full l → a ≡ lay 0 0 k (take (l .n) (l .node)) (c .node)
+pub laid-is : (l : Entries) (k : ℕ) (c : Pins) (a b d e : List ℕ) → l .n ≤ k → k ≤ 32 → PinsSized 32 (columnsOf l) → a ≡ lay 0 0 k (take (l .n) (l .node)) (c .node)
     → b ≡ lay 0 0 k (take (l .n) (l .start)) (c .start) → d ≡ lay 0 0 k (take (l .n) (l .end)) (c .end)
     → e ≡ lay 0 0 k (take (l .n) (l .count)) (c .count) → pinsOf a b d e ≡ layPins 0 k (pinsIn l) c
 unfolding layPins
-laid-is l k c a b d e few full pa pb pd pe =
+laid-is l k c a b d e few most full pa pb pd pe =
     let x = columnsOf l in
     let n = l .n in
-    let node : map (λ p. p .node) (pinsIn l) ≡ take n (l .node) = column x n (λ p. p .node) (l .node) (λ i. refl) (within few (full .node)) in
-    let start : map (λ p. p .start) (pinsIn l) ≡ take n (l .start) = column x n (λ p. p .start) (l .start) (λ i. refl) (within few (full .start)) in
-    let end : map (λ p. p .end) (pinsIn l) ≡ take n (l .end) = column x n (λ p. p .end) (l .end) (λ i. refl) (within few (full .end)) in
-    let count : map (λ p. p .count) (pinsIn l) ≡ take n (l .count) = column x n (λ p. p .count) (l .count) (λ i. refl) (within few (full .count)) in
+    let node : map (λ p. p .node) (pinsIn l) ≡ take n (l .node) = column 0 n x (λ p. p .node) (l .node) (λ i. refl) (omega (arith, full .node)) in
+    let start : map (λ p. p .start) (pinsIn l) ≡ take n (l .start) = column 0 n x (λ p. p .start) (l .start) (λ i. refl) (omega (arith, full .start)) in
+    let end : map (λ p. p .end) (pinsIn l) ≡ take n (l .end) = column 0 n x (λ p. p .end) (l .end) (λ i. refl) (omega (arith, full .end)) in
+    let count : map (λ p. p .count) (pinsIn l) ≡ take n (l .count) = column 0 n x (λ p. p .count) (l .count) (λ i. refl) (omega (arith, full .count)) in
     rw (pa, pb, pd, pe, node, start, end, count)
 
-pub enough : {n k m : ℕ} → n ≤ k → k ≤ 32 → m ≡ 32 → (n ≤ 32) × (k ≤ m)
-enough h l e = (omega arith, omega arith)
+-- what a column asks
+pub to-lay : {n k f m : ℕ} → n ≤ k → k ≤ 32 → f ≡ 32 → m ≡ 32 → (n ≤ f) × (n ≤ k) × (k ≤ m)
+to-lay h l e g = (omega arith, h, omega arith)
 
 pub laid-cut : (c′ : Pins) (xs ys : List Pin) (c : Pins) (k m : ℕ) → c′ ≡ layPins 0 k xs c → xs ≡ ys → k ≡ m → c′ ≡ layPins 0 m ys c
 laid-cut c′ xs ys c k m e p q = rw (← p, ← q) e

@@ -1,16 +1,17 @@
--- A store's pin entries by value: the list that they make, and where an entry goes in it. Assumes nothing.
+-- A store's pin entries by value: the list that they make, and whether a cut moves them. Assumes nothing.
 use Prim.Native.Nat.{ℕ, _+_, _^_, _<_, _≤_}
 use mathlib.Core.Path.{_≡_}
 use mathlib.Core.Bool.{Bool, true, false, not, _&&_}
 use mathlib.Core.List.{List, [], _∷_}
-use lib.ListN.{length, getD, set}
+use lib.ListN.{length}
 use lib.Dec.{ltb, eqb}
+use Rattle.model.specs.declared.Span.{Span}
 use Rattle.model.specs.State.{Pins, Pin, at}
 use Rattle.model.specs.Store.{pins, layPins}
 use Rattle.model.specs.Insert.{cutPins, pinsAcross}
-use Rattle.model.specs.Pins.{sameSpan, pinAhead, counted, addPin}
+use Rattle.model.specs.Pins.{pinAhead}
 use Rattle.shape_state.specs.Lent.{pinsOf}
-use Rattle.pool_range.specs.Cols.{insertAt}
+use Rattle.pool_pin.specs.EntryPlace.{spanAt, before}
 use Rattle.rule_cut_pins.specs.declared.Entry.{Entry}
 use Rattle.rule_cut_pins.specs.declared.Entries.{Entries}
 
@@ -42,12 +43,6 @@ pub record Small (ps : List Pin) : Type 0 where
   pub few : length ps ≤ 32
   pub low : counts ps < 2 ^ 64
 
--- place r is where `addPin` adds p up, where an entry of its span stands there, and where it puts p in else
-pub record Found (p : Pin) (ps : List Pin) (r : ℕ) : Type 0 where
-  pub high : r ≤ length ps
-  pub joins : r < length ps → sameSpan p (getD ps r p) ≡ true → addPin p ps ≡ set ps r (counted (getD ps r p) (getD ps r p .count + p .count))
-  pub enters : (r < length ps → sameSpan p (getD ps r p) ≡ false) → addPin p ps ≡ insertAt r p ps
-
 -- how many of the first n entries are across k on node j
 abbrev pub pinsAcrossIn : ℕ → ℕ → ℕ → Pins → ℕ
 pinsAcrossIn j k n c = pinsAcross j k (pins c 0 n)
@@ -63,11 +58,8 @@ unmoved j [] = true
 unmoved j (p ∷ ps) = (not (eqb (p .node) j) && leads p ps) && unmoved j ps
 
 -- the same of one place of the columns, of which n are used
-abbrev pub spanAt : List ℕ → List ℕ → List ℕ → ℕ → Pin
-spanAt node start end i = record { node = at node i; start = at start i; end = at end i; count = 0 }
-
-abbrev pub leadsIf : Bool → Pin → Pin → Bool
-leadsIf true p q = pinAhead p q
+abbrev pub leadsIf : Bool → Span → Span → Bool
+leadsIf true p q = before p q
 leadsIf false p q = true
 
 abbrev pub staysAt : ℕ → List ℕ → List ℕ → List ℕ → ℕ → ℕ → Bool

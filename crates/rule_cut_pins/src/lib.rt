@@ -1,16 +1,16 @@
+use model::Span;
 ghost use mathlib.Core.Path.{_≡_};
 ghost use mathlib.Core.List.{List};
-ghost use Prim.Native.Nat.{ℕ, _+_, _-_, _^_, _≤_, _<_};
-ghost use lib.ListN.{length, set, take};
-ghost use Rattle.model.specs.State.{Pins, pinAt};
+ghost use Prim.Native.Nat.{ℕ, _+_, _-_, _≤_, _<_};
+ghost use lib.ListN.{length, take};
+ghost use Rattle.model.specs.State.{Pins};
 ghost use Rattle.model.specs.Store.{pins, lay, layPins};
 ghost use Rattle.model.specs.Sizes.{maxPinned};
 ghost use Rattle.shape_state.specs.Lent.{pinsOf};
-ghost use Rattle.model.specs.Pins.{sameSpan, pinAhead, counted, addPin};
+ghost use Rattle.model.specs.Pins.{addPin};
 ghost use Rattle.model.specs.Insert.{putPin, pinHead, pinTail, pinPieces, cutPins};
 ghost use lib.Dec.{eqb};
-ghost use Rattle.pool_range.specs.Cols.{insertAt};
-ghost use Rattle.rule_cut_pins.specs.Entries.{pinFrom, columnsOf, pinsIn, counts, Small, Found, pinsAcrossIn, PinsSized, unmoved, staysAt, cutEntries};
+ghost use Rattle.rule_cut_pins.specs.Entries.{pinFrom, pinsIn, counts, Small, pinsAcrossIn, PinsSized, unmoved, staysAt, cutEntries};
 
 // A pin entry; and up to 32 of them, in the first `n` places.
 pub struct Entry {
@@ -28,123 +28,39 @@ pub struct Entries {
     pub n: usize,
 }
 
-pub fn entry_at(l: Entries, i: usize) -> Entry
-    requires { ⌜ i < 32 ⌝ }
-    ensures { λ r. ⌜ pinFrom r ≡ pinAt (columnsOf l) i ⌝ }
+// An entry added: its count to that of the entry of its span, or else put in at its place.
+fn add_pin(l: Entries, p: Entry) -> Entries
+    requires { ⌜ (l .n ≤ 32) × Small (addPin (pinFrom p) (pinsIn l)) ⌝ }
+    ensures { λ r. ⌜ pinsIn r ≡ addPin (pinFrom p) (pinsIn l) ⌝ }
 {
-    Entry {
-        node: l.node[i],
-        start: l.start[i],
-        end: l.end[i],
-        count: l.count[i],
-    }
-}
-
-fn same_span(p: Entry, q: Entry) -> bool
-    ensures { λ r. ⌜ r ≡ sameSpan (pinFrom p) (pinFrom q) ⌝ }
-{
-    if p.node != q.node {
-        return false;
-    }
-    if p.start != q.start {
-        return false;
-    }
-    if p.end != q.end {
-        return false;
-    }
-    true
-}
-
-// By node, then start, then end.
-fn is_ahead(p: Entry, q: Entry) -> bool
-    ensures { λ r. ⌜ r ≡ pinAhead (pinFrom p) (pinFrom q) ⌝ }
-{
-    if p.node < q.node {
-        return true;
-    }
-    if p.node != q.node {
-        return false;
-    }
-    if p.start < q.start {
-        return true;
-    }
-    if p.start != q.start {
-        return false;
-    }
-    if p.end < q.end {
-        return true;
-    }
-    false
-}
-
-// Where an entry is added up, or put in.
-fn place_of(l: Entries, p: Entry) -> usize
-    requires { ⌜ l .n ≤ 32 ⌝ }
-    ensures { λ r. ⌜ Found (pinFrom p) (pinsIn l) r ⌝ }
-{
-    let n = l.n;
-    let mut i = 0;
-    while i < n {
-        let q = entry_at(l, i);
-        if same_span(p, q) {
-            return i;
-        }
-        if is_ahead(p, q) {
-            return i;
-        }
-        i += 1;
-    }
-    i
-}
-
-// An entry put in at a place.
-fn put_entry(l: Entries, at: usize, p: Entry) -> Entries
-    requires { ⌜ (at ≤ l .n) × (l .n < 32) ⌝ }
-    ensures { λ r. ⌜ pinsIn r ≡ insertAt at (pinFrom p) (pinsIn l) ⌝ }
-{
-    let n = l.n;
     let mut node = l.node;
-    pool_range::put_usize(&mut node, n, at, p.node);
     let mut start = l.start;
-    pool_range::put_usize(&mut start, n, at, p.start);
     let mut end = l.end;
-    pool_range::put_usize(&mut end, n, at, p.end);
     let mut count = l.count;
-    pool_range::put_u64(&mut count, n, at, p.count);
+    let sp = Span {
+        node: p.node,
+        start: p.start,
+        end: p.end,
+    };
+    let place = pool_pin::place_of(&node, &start, &end, 0, l.n, sp);
+    let n = pool_pin::add_pin(
+        &mut node,
+        &mut start,
+        &mut end,
+        &mut count,
+        0,
+        l.n,
+        place,
+        sp,
+        p.count,
+    );
     Entries {
         node,
         start,
         end,
         count,
-        n: n + 1,
+        n,
     }
-}
-
-// Another count for the entry at a place.
-fn recount(l: Entries, at: usize, count: u64) -> Entries
-    requires { ⌜ (at < l .n) × (l .n ≤ 32) ⌝ }
-    ensures { λ r. ⌜ pinsIn r ≡ set (pinsIn l) at (counted (pinAt (columnsOf l) at) count) ⌝ }
-{
-    let mut out = l;
-    out.count[at] = count;
-    out
-}
-
-// An entry added: its count to that of the entry of its span, or else put in at its place.
-pub fn add_pin(l: Entries, p: Entry) -> Entries
-    requires { ⌜ (l .n ≤ 32) × Small (addPin (pinFrom p) (pinsIn l)) ⌝ }
-    ensures { λ r. ⌜ pinsIn r ≡ addPin (pinFrom p) (pinsIn l) ⌝ }
-{
-    let n = l.n;
-    let at = place_of(l, p);
-    if n <= at {
-        return put_entry(l, at, p);
-    }
-    let q = entry_at(l, at);
-    if same_span(p, q) {
-        return recount(l, at, q.count + p.count);
-    }
-    put_entry(l, at, p)
 }
 
 // An entry added, or not.
@@ -323,19 +239,17 @@ fn stays(node: &[usize], start: &[usize], end: &[usize], n: usize, i: usize, j: 
     if n <= next {
         return true;
     }
-    let p = Entry {
+    let p = Span {
         node: node[i],
         start: start[i],
         end: end[i],
-        count: 0,
     };
-    let q = Entry {
+    let q = Span {
         node: node[next],
         start: start[next],
         end: end[next],
-        count: 0,
     };
-    is_ahead(p, q)
+    pool_pin::is_before(p, q)
 }
 
 // Does a cut of node `j` leave the first `n` entries as they are? None is on the node, and they are in order: then no two add up.

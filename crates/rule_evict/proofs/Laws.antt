@@ -1,17 +1,17 @@
--- A store's part of the columns into which a list of ranges was laid: the list is read back from it, and one eviction on the columns is one on the
--- list. And a scan for a node says what the definition says.
+-- A store's part of the columns into which a list of ranges was laid: the list is read back from it, and one eviction on the columns is one on the list.
 use Prim.Native.Nat.{ℕ, zero, suc, _+_, _-_, _%_, _≤_, _<_}
 use mathlib.Core.Path.{_≡_, refl, sym, ap, subst, _∙_}
-use mathlib.Core.Bool.{Bool, true, false, _||_}
+use mathlib.Core.Bool.{Bool, true, false}
 use mathlib.Core.List.{List, [], _∷_, map}
 use native.Mathlib.Numerals.{add-one}
 use native.Mathlib.Nat.{zero-add}
 use native.Mathlib.Omega.{arith}
 use lib.ListN.{length, getD, set, length-map, length-set, List·getD-map}
 use lib.Seq.{set-getD}
-use lib.Dec.{leb, eqb}
-use lib.Ieee.{Float, nan}
-use borrow.Author.Tests.{leb-true, eq-eqb, ne-eqb, le-leb, lt-leb}
+use lib.Dec.{leb}
+use lib.Ieee.{nan}
+use borrow.Author.Tests.{leb-true, le-leb, lt-leb}
+use Rattle.model.specs.Words.{pick}
 use Rattle.model.specs.declared.Span.{Span}
 use Rattle.model.specs.Sizes.{maxHashes, storeRecords, tableLength, versions}
 use Rattle.model.specs.State.{Tree, Ranges, Range, at, rangeAt}
@@ -30,8 +30,7 @@ use Rattle.rule_resolve.specs.Span.{Priced}
 use Rattle.pool_range.specs.Cols.{removeAt}
 use Rattle.pool_range.proofs.Laid.{set-lay}
 use Rattle.pool_range.specs.Part.{Sized, cutRange}
-use Rattle.pool_range.proofs.Records.{ranges-eq, cut-laid}
-use Rattle.rule_choose.specs.Choose.{pick}
+use Rattle.pool_range.proofs.Records.{ranges-eq, cut-laid, map-set}
 use Rattle.rule_evict.specs.Evict.{Left, left, endAt, evictCols, tailOf, Reach, Tabled}
 use Rattle.rule_evict.specs.Given.{Ready}
 
@@ -114,11 +113,6 @@ pub record-is : (c : Ranges) (n i : ℕ) (rs : List Range) → ranges c 0 n ≡ 
 record-is c n i rs e h = sym (ap (λ (l : List Range). nth l i) (sym e) ∙ ranges-at c 0 n i noRange h ∙ rw zero-add)
 
 -- ---- one eviction
-
-map-set : {A B : Type 0} (f : A → B) (xs : List A) (i : ℕ) (x : A) → map f (set xs i x) ≡ set (map f xs) i (f x)
-map-set f [] i x = refl
-map-set f (y ∷ xs) zero x = refl
-map-set f (y ∷ xs) (suc i) x = ap (λ t. f y ∷ t) (map-set f xs i x)
 
 -- a column of which the element at i is as it was
 map-kept : {B : Type 0} (f : Range → B) (rs : List Range) (i : ℕ) (x : Range) → f x ≡ f (nth rs i) → map f (set rs i x) ≡ map f rs
@@ -222,52 +216,7 @@ sound-ready {n = n} {c = c} s up long sized few rs held marks fits =
       fits = fits;
     }
 
--- ---- the scan for a node
-
--- i records are passed, and none is on node v
-pub record Off (node : List ℕ) (n v i : ℕ) : Type 0 where
-  pub todo :
-      (start end id stamp write : List ℕ) (touched : List Float)
-      → onNode v (ranges (rangesOf node start end id stamp touched write) i (n - i)) ≡ onNode v (ranges (rangesOf node start end id stamp touched write) 0 n)
-
-on-suc : (c : Ranges) (v i m : ℕ) → onNode v (ranges c i (suc m)) ≡ (eqb (at (c .node) i) v || onNode v (ranges c (i + 1) m))
-unfolding onNode ranges
-on-suc c v i m = rw add-one
-
-on-step : (c : Ranges) (n v i : ℕ) → i < n → onNode v (ranges c i (n - i)) ≡ (eqb (at (c .node) i) v || onNode v (ranges c (i + 1) (n - (i + 1))))
-on-step c n v i h = let e : n - i ≡ suc (n - (i + 1)) = omega arith in rw e (on-suc c v i (n - (i + 1)))
-
-on-none : (c : Ranges) (v i : ℕ) → onNode v (ranges c i 0) ≡ false
-unfolding onNode ranges
-on-none c v i = refl
-
-module _ {node : List ℕ} {n v : ℕ} where
-  pub off-start : Off node n v 0
-  off-start = record { todo = λ start end id stamp write touched. let z : n - 0 ≡ n = omega arith in rw z }
-
-  pub off-hit : {i : ℕ} → Off node n v i → i < n → at node i ≡ v → (start end id stamp write : List ℕ) (touched : List Float)
-      → true ≡ onNode v (ranges (rangesOf node start end id stamp touched write) 0 n)
-  off-hit {i} o h e start end id stamp write touched =
-      sym (sym (o .todo start end id stamp write touched) ∙ on-step (rangesOf node start end id stamp touched write) n v i h ∙ rw (eq-eqb (at node i) v e))
-
-  pub off-more : {i : ℕ} → Off node n v i → i < n → (at node i ≡ v → ⊥) → Off node n v (i + 1)
-  off-more {i} o h e =
-      record {
-        todo = λ start end id stamp write touched.
-            sym (on-step (rangesOf node start end id stamp touched write) n v i h ∙ rw (ne-eqb (at node i) v e)) ∙ o .todo start end id stamp write touched;
-      }
-
-  pub off-end : {i : ℕ} → Off node n v i → n ≤ i → (start end id stamp write : List ℕ) (touched : List Float)
-      → false ≡ onNode v (ranges (rangesOf node start end id stamp touched write) 0 n)
-  off-end {i} o h start end id stamp write touched =
-      let z : n - i ≡ 0 = omega arith in
-      sym (on-none (rangesOf node start end id stamp touched write) v i) ∙ (rw z at (o .todo start end id stamp write touched))
-
-pub unmark-on : (v : ℕ) (rs : List Range) (ms : List ℕ) → onNode v rs ≡ true → ms ≡ unmark v rs ms
-unmark-on v rs ms e = sym (ap (λ (b : Bool). elim b [ true ↦ ms | false ↦ set ms v 0 ]) e)
-
-pub unmark-off : (v : ℕ) (rs : List Range) (ms : List ℕ) → onNode v rs ≡ false → set ms v 0 ≡ unmark v rs ms
-unmark-off v rs ms e = sym (ap (λ (b : Bool). elim b [ true ↦ ms | false ↦ set ms v 0 ]) e)
+-- ---- the marks
 
 pub unmark-long : (v : ℕ) (rs : List Range) (ms : List ℕ) → length (unmark v rs ms) ≡ length ms
 unmark-long v rs ms = go (onNode v rs)

@@ -4,6 +4,7 @@ use mathlib.Core.Path.{_≡_}
 use mathlib.Core.List.{List}
 use lib.ListN.{length, set}
 use lib.Dec.{leb}
+use Rattle.model.specs.Words.{pick}
 use Rattle.model.specs.declared.Span.{Span}
 use Rattle.model.specs.Sizes.{maxNodes, maxHashes, storeMarks, tableLength, versions}
 use Rattle.model.specs.State.{Tree, Ranges, Range, at, rangeAt}
@@ -14,7 +15,6 @@ use Rattle.shape_state.specs.Lent.{rangesOf}
 use Rattle.rule_resolve.specs.Span.{onlyDepth}
 use Rattle.pool_range.specs.Part.{cutRange}
 use Rattle.pool_out.specs.Evicted.{outOf}
-use Rattle.rule_choose.specs.Choose.{pick}
 use Rattle.rule_evict.specs.declared.Gone.{Gone}
 
 -- columns, and how many records are in use

@@ -1,12 +1,8 @@
 use model::Span;
 use pool_out::Evicted;
 ghost use mathlib.Core.Path.{_≡_};
-ghost use mathlib.Core.List.{List};
-ghost use Prim.Native.Nat.{ℕ, _-_, _≤_, _<_, min};
-ghost use lib.ListN.{length};
-ghost use lib.Ieee.{Float};
+ghost use Prim.Native.Nat.{_-_, _≤_, _<_, min};
 ghost use Rattle.model.specs.State.{at, rangeAt};
-ghost use Rattle.model.specs.Store.{ranges, onNode, unmark as unmarked};
 ghost use Rattle.shape_state.specs.Lent.{rangesOf};
 ghost use Rattle.rule_resolve.specs.Span.{Priced, onlyDepth};
 ghost use Rattle.pool_range.specs.Part.{Sized};
@@ -63,38 +59,6 @@ pub fn told(depth: &[usize], bytes: &[u64], mark: usize, write: u32, sp: Span) -
         bytes: whole,
         dead: dead,
     }
-}
-
-// Is a record on node v?
-pub fn on_node(node: &[usize], n: usize, v: usize) -> bool
-    requires { ⌜ n ≤ length (now node) ⌝ }
-    ensures { λ r. ⌜
-        ((start end id stamp write : List ℕ) (touched : List Float)
-        → r ≡ onNode v (ranges (rangesOf (now (node .entry)) start end id stamp touched write) 0 n))
-        ⌝ }
-{
-    let mut i: usize = 0;
-    while i < n {
-        if node[i] == v {
-            return true;
-        }
-        i += 1;
-    }
-    false
-}
-
-// Where no record is left on node v, its mark becomes 0.
-pub fn unmark(marks: &mut [usize], node: &[usize], n: usize, v: usize)
-    requires { ⌜ (n ≤ length (now node)) × (v < length (now marks)) ⌝ }
-    ensures { λ _. ⌜
-        ((start end id stamp write : List ℕ) (touched : List Float)
-        → now (marks .exit) ≡ unmarked v (ranges (rangesOf (now (node .entry)) start end id stamp touched write) 0 n) (now (marks .entry)))
-        ⌝ }
-{
-    if on_node(node, n, v) {
-        return;
-    }
-    marks[v] = 0;
 }
 
 // How many blocks of a range go.
@@ -166,7 +130,7 @@ pub fn store_evict_entry(
     let k = amount(e - s, excess);
     let out = told(depth, bytes, marks[v], write[i], tail(v, s, e, k));
     let records = evict_at(&mut *node, start, end, id, stamp, touched, write, n, i, k);
-    unmark(marks, &*node, records, v);
+    pool_mark::unmark(&*node, marks, records, v);
     let next = std::num::wrapping_add_u64(version, 1);
     Gone {
         n: records,

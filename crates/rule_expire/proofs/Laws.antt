@@ -17,9 +17,9 @@ use Rattle.theory_bring.proofs.Evict.{first-some}
 use Rattle.theory_lay.proofs.Rows.{ranges-length}
 use Rattle.rule_resolve.specs.Span.{onlyDepth}
 use Rattle.pool_out.specs.Evicted.{outOf, setOut}
-use Rattle.rule_choose.specs.declared.Place.{Place}
-use Rattle.rule_choose.specs.declared.Place.the-variants.{At, Nothing}
-use Rattle.rule_choose.specs.Choose.{placeOf}
+use Rattle.pool_number.specs.declared.Found.{Found}
+use Rattle.pool_number.specs.declared.Found.the-variants.{At, Nothing}
+use Rattle.pool_number.specs.Found.{foundOf}
 use Rattle.rule_evict.specs.declared.Gone.{Gone}
 use Rattle.rule_evict.specs.Evict.{Reach, EntryGone}
 use Rattle.rule_evict.specs.Given.{Ready, GivenOut}
@@ -30,17 +30,17 @@ use Rattle.rule_expire.specs.Expire.{expired}
 -- ---- the choice
 
 module _ (now seconds : Float) (c : Ranges) (n : ℕ) where
-  place-in : {p : Place} {i : ℕ} → placeOf p ≡ first (λ r. true) (ranges c 0 n) → p ≡ At i → first (λ r. true) (ranges c 0 n) ≡ some i
-  place-in e q = sym e ∙ ap placeOf q
+  place-in : {p : Found} {i : ℕ} → foundOf p ≡ first (λ r. true) (ranges c 0 n) → p ≡ At i → first (λ r. true) (ranges c 0 n) ≡ some i
+  place-in e q = sym e ∙ ap foundOf q
 
-  pub place-less : {p : Place} {i : ℕ} → placeOf p ≡ first (λ r. true) (ranges c 0 n) → p ≡ At i → i < n
+  pub place-less : {p : Found} {i : ℕ} → foundOf p ≡ first (λ r. true) (ranges c 0 n) → p ≡ At i → i < n
   place-less {i = i} e q = omega (arith, first-some (λ r. true) (ranges c 0 n) i (place-in e q) .0, ranges-length c 0 n)
 
-  pub aged-none : {p : Place} → placeOf p ≡ first (λ r. true) (ranges c 0 n) → p ≡ Nothing → none ≡ oldest now seconds (ranges c 0 n)
+  pub aged-none : {p : Found} → foundOf p ≡ first (λ r. true) (ranges c 0 n) → p ≡ Nothing → none ≡ oldest now seconds (ranges c 0 n)
   unfolding oldest
-  aged-none e q = sym (ap (ifAged now seconds (ranges c 0 n)) (sym e ∙ ap placeOf q))
+  aged-none e q = sym (ap (ifAged now seconds (ranges c 0 n)) (sym e ∙ ap foundOf q))
 
-  module _ {p : Place} {i : ℕ} (e : placeOf p ≡ first (λ r. true) (ranges c 0 n)) (q : p ≡ At i) where
+  module _ {p : Found} {i : ℕ} (e : foundOf p ≡ first (λ r. true) (ranges c 0 n)) (q : p ≡ At i) where
     aged-is : oldest now seconds (ranges c 0 n) ≡ elim (lt seconds (sub binary64 now (rangeAt c i .touched))) [ true ↦ some i | false ↦ none ]
     unfolding oldest aged
     aged-is =
@@ -103,20 +103,20 @@ module _ {depth table : List ℕ} {n₀ h₀ : ℕ} {c₀ : Ranges} {ms₀ : Lis
   pub expire-start : {v₀ : ℕ} → v₀ < versions → Expiring depth table now seconds n₀ v₀ c₀ ms₀ l₀ n₀ c₀ ms₀ l₀ h₀ 0 v₀
   expire-start less = record { rs = ranges c₀ 0 n₀; os = []; going = going-start ready less; room = omega arith; todo = begin }
 
-  module _ {v₀ k : ℕ} {c : Ranges} {ms : List ℕ} {l : OutList} {h o v : ℕ} (s : Expiring depth table now seconds n₀ v₀ c₀ ms₀ l₀ k c ms l h o v) (p : Place)
-      (choice : placeOf p ≡ oldest now seconds (ranges c 0 k)) where
-    found : (x : Option ℕ) → placeOf p ≡ x → oldest now seconds (s .rs) ≡ x
+  module _ {v₀ k : ℕ} {c : Ranges} {ms : List ℕ} {l : OutList} {h o v : ℕ} (s : Expiring depth table now seconds n₀ v₀ c₀ ms₀ l₀ k c ms l h o v) (p : Found)
+      (choice : foundOf p ≡ oldest now seconds (ranges c 0 k)) where
+    found : (x : Option ℕ) → foundOf p ≡ x → oldest now seconds (s .rs) ≡ x
     found x e = ap (oldest now seconds) (sym (going-read ready (s .going))) ∙ sym choice ∙ e
 
     -- the oldest hasn't aged, or there is none
     pub expire-end : p ≡ Nothing → GivenOut (expired (onlyDepth depth) table now seconds (ranges c₀ 0 n₀) ms₀) n₀ v₀ c₀ l₀ c ms l k h o v false
     expire-end q =
-        let e = rw (found none (ap placeOf q), by-none (onlyDepth depth) table now seconds (n₀ - o) (s .rs) ms) at (s .todo) in
+        let e = rw (found none (ap foundOf q), by-none (onlyDepth depth) table now seconds (n₀ - o) (s .rs) ms) at (s .todo) in
         subst (λ (w : Trimmed). GivenOut w n₀ v₀ c₀ l₀ c ms l k h o v false) (before-none (s .os) (s .rs) ms false ∙ e) (going-end ready (s .going) false)
 
     module _ {i : ℕ} (here : p ≡ At i) where
       pub expire-place : i < k
-      expire-place = omega (arith, oldest-less now seconds (s .rs) i (found (some i) (ap placeOf here)), s .going .count)
+      expire-place = omega (arith, oldest-less now seconds (s .rs) i (found (some i) (ap foundOf here)), s .going .count)
 
       pub expire-room : o < storeRecords
       expire-room = omega (arith, expire-place, s .room, ready .few)
@@ -157,7 +157,7 @@ module _ {depth table : List ℕ} {n₀ h₀ : ℕ} {c₀ : Ranges} {ms₀ : Lis
                 let z : nth (s .rs) i .end - a ≡ nth (s .rs) i .start = omega (arith, whole, reached .filled) in
                 rw (before-also, going-marks ready (s .going) expire-place expire-room refl gone put)
                 (ap (before (s .os)) (sym (by-some (onlyDepth depth) table now seconds (n₀ - (o + 1)) i a (s .rs) ms whole z))
-                ∙ (rw (found (some i) (ap placeOf here), f) at (s .todo)))
+                ∙ (rw (found (some i) (ap foundOf here), f) at (s .todo)))
 
 -- ---- bytes look at the depths of a tree alone, so an expiry does
 

@@ -1,4 +1,4 @@
-use rule_choose::Place;
+use pool_number::Found;
 ghost use mathlib.Core.Path.{_≡_};
 ghost use mathlib.Core.Bool.{false};
 ghost use Prim.Native.Nat.{_≤_};
@@ -8,7 +8,7 @@ ghost use Rattle.model.specs.Store.{ranges};
 ghost use Rattle.shape_state.specs.Lent.{rangesOf};
 ghost use Rattle.rule_resolve.specs.Span.{onlyDepth};
 ghost use Rattle.shape_answer.specs.Lists.{outList};
-ghost use Rattle.rule_choose.specs.Choose.{placeOf};
+ghost use Rattle.pool_number.specs.Found.{foundOf};
 ghost use Rattle.rule_evict.specs.Given.{Ready, GivenOut};
 ghost use Rattle.rule_expire.specs.Expire.{expired, AgedIs};
 
@@ -27,17 +27,17 @@ fn oldest_aged(
     n: usize,
     time: f64,
     seconds: f64,
-) -> Place
+) -> Found
     requires { ⌜ (n ≤ length (now id)) × (n ≤ length (now stamp)) × (n ≤ length (now touched)) ⌝ }
-    ensures { λ r. ⌜ AgedIs (now (id .entry)) (now (stamp .entry)) (now (touched .entry)) n time seconds (placeOf r) ⌝ }
+    ensures { λ r. ⌜ AgedIs (now (id .entry)) (now (stamp .entry)) (now (touched .entry)) n time seconds (foundOf r) ⌝ }
 {
-    let Place::At(i) = rule_choose::oldest(id, stamp, n) else {
-        return Place::Nothing;
+    let Found::At(i) = rule_choose::oldest(id, stamp, n) else {
+        return Found::Nothing;
     };
     if is_aged(touched[i], time, seconds) {
-        return Place::At(i);
+        return Found::At(i);
     }
-    Place::Nothing
+    Found::Nothing
 }
 
 // How many records are left, how many blocks they hold, how many spans were given out, and the version.
@@ -100,7 +100,7 @@ pub fn store_expire(
     let mut v = version;
     let mut k: usize = 0;
     loop {
-        let Place::At(i) = oldest_aged(&*id, &*stamp, &*touched, left, time, seconds) else {
+        let Found::At(i) = oldest_aged(&*id, &*stamp, &*touched, left, time, seconds) else {
             return Expiring {
                 n: left,
                 held: h,

@@ -2,7 +2,7 @@
 use pool_range::Record;
 ghost use mathlib.Core.Path.{_≡_};
 ghost use mathlib.Core.List.{List, []};
-ghost use Prim.Native.Nat.{ℕ, _+_, _≤_, min, max, _<_};
+ghost use Prim.Native.Nat.{ℕ, _+_, _≤_, _<_};
 ghost use lib.ListN.{length};
 ghost use lib.Ieee.{Float};
 ghost use lib.Dec.{ltb, leb, eqb};
@@ -21,26 +21,6 @@ pub struct Gaps {
     pub from: [usize; 129],
     pub upto: [usize; 129],
     pub n: usize,
-}
-
-// The smaller of two numbers.
-fn smaller(a: usize, b: usize) -> usize
-    ensures { λ r. ⌜ r ≡ min a b ⌝ }
-{
-    if a < b {
-        return a;
-    }
-    b
-}
-
-// The larger of two numbers.
-fn larger(a: usize, b: usize) -> usize
-    ensures { λ r. ⌜ r ≡ max a b ⌝ }
-{
-    if a < b {
-        return b;
-    }
-    a
 }
 
 // How many gaps there are once p up to b stands behind k others: it counts where it has a block.
@@ -83,11 +63,11 @@ pub fn store_missing(
         if node[at] != nd {
             continue;
         }
-        let b = smaller(start[at], z);
+        let b = pool_number::smaller(start[at], z);
         g.from[k] = p;
         g.upto[k] = b;
         k = counted(k, p, b);
-        p = larger(p, end[at]);
+        p = pool_number::larger(p, end[at]);
     }
     g.from[k] = p;
     g.upto[k] = z;

@@ -1,13 +1,11 @@
 -- The children of a cut node one by one, and the words of a leaf one by one: what is done so far, and what is still as it was.
-use mathlib.Core.Path.{_≡_, refl, sym, ap, subst, _∙_}
-use mathlib.Core.Bool.{Bool, true, false}
+use mathlib.Core.Path.{_≡_, refl, sym, ap, _∙_}
 use mathlib.Core.List.{List, [], _∷_, _++_, map, append-assoc}
-use Prim.Native.Nat.{ℕ, zero, suc, _+_, _-_, _≤_, _<_}
-use native.Mathlib.Nat.{zero-add}
+use Prim.Native.Nat.{ℕ, suc, _+_, _-_, _≤_, _<_}
 use native.Mathlib.Numerals.{add-one}
 use native.Mathlib.Omega.{arith}
-use lib.ListN.{length, getD, take, drop, set, replicate, length-append, length-map, length-take, length-drop, length-set, take-append-drop}
-use lib.Seq.{drop-cons, take-suc, set-at, getD-append-add, getD-drop, getD-at, getD-take, length-take-le}
+use lib.ListN.{length, getD, take, drop, set, length-append, length-drop, length-set, take-append-drop}
+use lib.Seq.{drop-cons, take-suc, set-at, getD-append-add, getD-drop, length-take-le}
 use borrow.Author.Tests.{eq-eqb, ne-eqb}
 use Rattle.model.specs.Store.{lay}
 use Rattle.model.specs.Insert.{adopt, reparent, cutTree, addLeaf}
@@ -31,9 +29,6 @@ done-turn l c xs i x d h =
           ∙ set-at xs (getD l i 0) (drop (suc i) l) x i (d .front)
           ∙ sym (append-assoc xs (x ∷ []) (drop (i + 1) l) ∙ rw add-one);
     }
-
-pub done-long : (l c xs : List ℕ) (i : ℕ) → Done l c xs i → length c ≡ length l
-done-long l c xs i d = ap length (d .is) ∙ length-append xs (drop i l) ∙ omega (arith, length-drop i l, d .front, d .high)
 
 -- what stands at i is still the old one
 pub done-at : (l c xs : List ℕ) (i : ℕ) → Done l c xs i → getD c i 0 ≡ getD l i 0

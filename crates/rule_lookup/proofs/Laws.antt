@@ -13,8 +13,9 @@ use Rattle.model.specs.Store.{ranges}
 use Rattle.model.specs.Lookup.{holds, reach}
 use Rattle.pool_part.specs.Parts.{mid, midRanges}
 use Rattle.pool_part.proofs.Parts.{ranges-part}
-use Rattle.rule_lookup.specs.declared.RangeEnd.{RangeEnd}
-use Rattle.rule_lookup.specs.Tiers.{heldAt, rangeEnd, endOf}
+use Rattle.pool_number.specs.declared.Found.{Found}
+use Rattle.pool_number.specs.Found.{foundOf}
+use Rattle.rule_lookup.specs.Tiers.{heldAt, rangeEnd}
 
 -- what is said of these three columns is said of all ranges that have them
 abbrev pub OfColumns : List ℕ → List ℕ → List ℕ → (Ranges → Type 0) → Type 0
@@ -62,9 +63,9 @@ pub wide : (a n : ℕ) → (a + n) - a ≡ n
 wide a n = omega arith
 
 -- a callee that was lent the store's part of each column tells of the pool
-pub part-end : (a w n v o : ℕ) (r : RangeEnd) (node start end : List ℕ) → w ≡ n
-    → OfColumns (mid a w node) (mid a w start) (mid a w end) (λ c. endOf r ≡ rangeEnd v o (ranges c 0 n))
-    → OfColumns node start end (λ c. endOf r ≡ rangeEnd v o (ranges c a n))
+pub part-end : (a w n v o : ℕ) (r : Found) (node start end : List ℕ) → w ≡ n
+    → OfColumns (mid a w node) (mid a w start) (mid a w end) (λ c. foundOf r ≡ rangeEnd v o (ranges c 0 n))
+    → OfColumns node start end (λ c. foundOf r ≡ rangeEnd v o (ranges c a n))
 unfolding midRanges
 part-end a w n v o r node start end e f c p q s =
     f (midRanges a w c) (ap (mid a w) p) (ap (mid a w) q) (ap (mid a w) s) ∙ ap (rangeEnd v o) (ranges-part c a w n (omega arith))

@@ -19,8 +19,9 @@ use Rattle.theory_calls.proofs.Fits.{lookupPath-fits}
 use Rattle.rule_resolve.specs.Span.{Priced, onlyDepth}
 use Rattle.shape_answer.specs.Lists.{pathListOf}
 use Rattle.rule_resolve.proofs.Sound.{sound-priced}
-use Rattle.rule_lookup.specs.declared.RangeEnd.{RangeEnd}
-use Rattle.rule_lookup.specs.Tiers.{rangeEnd, endOf, Seen}
+use Rattle.pool_number.specs.declared.Found.{Found}
+use Rattle.pool_number.specs.Found.{foundOf}
+use Rattle.rule_lookup.specs.Tiers.{rangeEnd, Seen}
 use Rattle.rule_lookup.proofs.Laws.{OfColumns}
 use Rattle.rule_lookup.proofs.Spans.{spanAt}
 
@@ -90,9 +91,9 @@ module _ {ds ns ss es bs rs pns pls : List ℕ} {n : ℕ} {ts : List ℕ} {st : 
       )
 
   -- what it tells, in the state
-  pub tier-tells : (t v o : ℕ) (r : RangeEnd) → t < length ts
-      → OfColumns ns ss es (λ c. endOf r ≡ rangeEnd v o (ranges c (128 * at ts t) (at rs (at ts t))))
-      → endOf r ≡ rangeEnd v o (storeOf st (at ts t) .ranges)
+  pub tier-tells : (t v o : ℕ) (r : Found) → t < length ts
+      → OfColumns ns ss es (λ c. foundOf r ≡ rangeEnd v o (ranges c (128 * at ts t) (at rs (at ts t))))
+      → foundOf r ≡ rangeEnd v o (storeOf st (at ts t) .ranges)
   unfolding storeOf
   tier-tells t v o r h f =
       f (st .ranges) (w .node) (w .start) (w .end)

@@ -16,9 +16,10 @@ use Rattle.model.specs.Lookup.{TierSpan, firstTier, lookupPath}
 use Rattle.model.specs.Refusals.{TierList, TierFits}
 use Rattle.rule_resolve.specs.Span.{onlyDepth}
 use Rattle.shape_answer.specs.Lists.{pathListOf}
-use Rattle.rule_lookup.specs.declared.RangeEnd.{RangeEnd}
-use Rattle.rule_lookup.specs.declared.RangeEnd.the-variants.{At, Nothing}
-use Rattle.rule_lookup.specs.Tiers.{rangeEnd, endOf, Seen, Told}
+use Rattle.pool_number.specs.declared.Found.{Found}
+use Rattle.pool_number.specs.declared.Found.the-variants.{At, Nothing}
+use Rattle.pool_number.specs.Found.{foundOf}
+use Rattle.rule_lookup.specs.Tiers.{rangeEnd, Seen, Told}
 use Rattle.shape_answer.specs.Lists.{tierListOf}
 use Rattle.rule_lookup.proofs.Laws.{OfColumns, end-past}
 use Rattle.rule_lookup.proofs.Spans.{spanAt, tier-here, tier-more, tier-last, leftAt, left-none, left-end, left-more, path-none, path-more, Looking, look-start, look-as, look-end, look-room, look-more, look-blocks, look-bytes, Room}
@@ -112,23 +113,23 @@ Answered S ts v o z t e = Missing S ts v o z e ⊎ Holding S ts v o z t e
 pub pass-end : {S : State → List ℕ → Type 0} {ts : List ℕ} {v o z t e : ℕ} → Passing S ts v o z t → length ts ≤ t → e ≡ o → Missing S ts v o z e
 pass-end {ts = ts} {v} {o} {z} {t} p h q = record { stays = q; is = λ st hs seen. sym (p .same st hs seen) ∙ tier-last st ts t v o z h }
 
-module _ {ds ns ss es bs rs pns pls : List ℕ} {segs : ℕ} {ts : List ℕ} {v o z t : ℕ} (r : RangeEnd)
+module _ {ds ns ss es bs rs pns pls : List ℕ} {segs : ℕ} {ts : List ℕ} {v o z t : ℕ} (r : Found)
     (p : Passing (Sees ds ns ss es bs rs pns pls segs ts) ts v o z t) (l : t < length ts)
-    (tells : OfColumns ns ss es (λ c. endOf r ≡ rangeEnd v o (ranges c (128 * at ts t) (at rs (at ts t))))) where
+    (tells : OfColumns ns ss es (λ c. foundOf r ≡ rangeEnd v o (ranges c (128 * at ts t) (at rs (at ts t))))) where
   pub pass-more : r ≡ Nothing → Passing (Sees ds ns ss es bs rs pns pls segs ts) ts v o z (t + 1)
   pass-more q =
       record {
         within = omega arith;
         same =
             λ st hs seen.
-            sym (tier-more st ts t v o z l (sym (tier-tells seen t v o r l tells) ∙ ap endOf q)) ∙ p .same st hs seen;
+            sym (tier-more st ts t v o z l (sym (tier-tells seen t v o r l tells) ∙ ap foundOf q)) ∙ p .same st hs seen;
       }
 
   -- that the range ends past o is known of one state that is seen, and so of the numbers
   pub pass-here : (e m : ℕ) → r ≡ At e → m ≡ min e z → o < z → (st : State) (hs : List ℕ) → Sees ds ns ss es bs rs pns pls segs ts st hs → Holding (Sees ds ns ss es bs rs pns pls segs ts) ts v o z t m
   pass-here e m q k h st hs seen =
       let told : (st : State) (hs : List ℕ) → Sees ds ns ss es bs rs pns pls segs ts st hs → rangeEnd v o (storeOf st (at ts t) .ranges) ≡ some e =
-      λ st hs seen. sym (tier-tells seen t v o r l tells) ∙ ap endOf q in
+      λ st hs seen. sym (tier-tells seen t v o r l tells) ∙ ap foundOf q in
       record {
         past = omega (arith, end-past v o e (storeOf st (at ts t) .ranges) (told st hs seen));
         within = omega arith;

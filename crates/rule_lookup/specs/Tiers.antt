@@ -14,8 +14,6 @@ use Rattle.model.specs.Tree.{resolve}
 use Rattle.model.specs.Lookup.{holds, lookupPath, spanBlocks, spanBytes, tierSums}
 use Rattle.model.specs.Refusals.{PathList, TierList}
 use Rattle.model.specs.Calls.{layPath, layTiers}
-use Rattle.rule_lookup.specs.declared.RangeEnd.{RangeEnd}
-use Rattle.rule_lookup.specs.declared.RangeEnd.the-variants.{At, Nothing}
 use Rattle.rule_lookup.specs.declared.LookupParts.{LookupParts}
 
 -- ---- one store
@@ -28,10 +26,6 @@ heldAt node start end v o i = eqb (at node i) v && (leb (at start i) o && ltb o 
 unfoldable pub rangeEnd : ℕ → ℕ → List Range → Option ℕ
 rangeEnd v o [] = none
 rangeEnd v o (r ∷ rs) = elim (holds v o r) [ true ↦ some (r .end) | false ↦ rangeEnd v o rs ]
-
-abbrev pub endOf : RangeEnd → Option ℕ
-endOf (At e) = some e
-endOf Nothing = none
 
 -- ---- along a path
 

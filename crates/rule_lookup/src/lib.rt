@@ -1,21 +1,18 @@
 use model::Span;
+use pool_number::Found;
+use pool_number::smaller;
 use rule_resolve::span_bytes;
 ghost use mathlib.Core.Path.{_≡_};
 ghost use mathlib.Core.List.{List};
-ghost use Prim.Native.Nat.{ℕ, _+_, _*_, _≤_, _<_, min};
+ghost use Prim.Native.Nat.{ℕ, _+_, _*_, _≤_, _<_};
 ghost use lib.ListN.{length};
 ghost use Rattle.model.specs.State.{State, Ranges};
 ghost use Rattle.model.specs.Store.{ranges};
 ghost use Rattle.model.specs.Refusals.{TierFits};
 ghost use Rattle.shape_answer.specs.Lists.{pathListOf};
-ghost use Rattle.rule_lookup.specs.Tiers.{heldAt, rangeEnd, endOf, Seen, Told};
+ghost use Rattle.rule_lookup.specs.Tiers.{heldAt, rangeEnd, Seen, Told};
+ghost use Rattle.pool_number.specs.Found.{foundOf};
 ghost use Rattle.shape_answer.specs.Lists.{tierListOf};
-
-// The end of a range that holds a block, if there is one.
-pub enum RangeEnd {
-    At(usize),
-    Nothing,
-}
 
 // Does the record at place i hold block o of node v?
 fn holds_at(node: &[usize], start: &[usize], end: &[usize], v: usize, o: usize, i: usize) -> bool
@@ -32,31 +29,24 @@ fn holds_at(node: &[usize], start: &[usize], end: &[usize], v: usize, o: usize, 
 }
 
 // Where the range that holds block o of node v ends, of the first n of a store's part.
-fn range_end(
-    node: &[usize],
-    start: &[usize],
-    end: &[usize],
-    n: usize,
-    v: usize,
-    o: usize,
-) -> RangeEnd
+fn range_end(node: &[usize], start: &[usize], end: &[usize], n: usize, v: usize, o: usize) -> Found
     requires { ⌜ (n ≤ length (now node)) × (n ≤ length (now start)) × (n ≤ length (now end)) ⌝ }
     ensures { λ r. ⌜
         ((c : Ranges)
         → c .node ≡ now (node .entry)
         → c .start ≡ now (start .entry)
         → c .end ≡ now (end .entry)
-        → endOf r ≡ rangeEnd v o (ranges c 0 n))
+        → foundOf r ≡ rangeEnd v o (ranges c 0 n))
         ⌝ }
 {
     let mut i = 0;
     while i < n {
         if holds_at(node, start, end, v, o, i) {
-            return RangeEnd::At(end[i]);
+            return Found::At(end[i]);
         }
         i += 1;
     }
-    RangeEnd::Nothing
+    Found::Nothing
 }
 
 // The same of store s, which has n records: its part of each column is lent on.
@@ -68,28 +58,19 @@ fn store_end(
     n: usize,
     v: usize,
     o: usize,
-) -> RangeEnd
+) -> Found
     requires { ⌜ (s < 8) × (n ≤ 128) × (1024 ≤ length (now node)) × (1024 ≤ length (now start)) × (1024 ≤ length (now end)) ⌝ }
     ensures { λ r. ⌜
         ((c : Ranges)
         → c .node ≡ now (node .entry)
         → c .start ≡ now (start .entry)
         → c .end ≡ now (end .entry)
-        → endOf r ≡ rangeEnd v o (ranges c (128 * s) n))
+        → foundOf r ≡ rangeEnd v o (ranges c (128 * s) n))
         ⌝ }
 {
     let a = 128 * s;
     let e = a + n;
     range_end(&node[a..e], &start[a..e], &end[a..e], n, v, o)
-}
-
-fn smaller(a: usize, b: usize) -> usize
-    ensures { λ r. ⌜ r ≡ min a b ⌝ }
-{
-    if a < b {
-        return a;
-    }
-    b
 }
 
 // How many tier spans were found, and for each tier the sum of their blocks and of their bytes.
@@ -145,7 +126,7 @@ pub fn lookup_resolved(
             let mut t = 0;
             while t < tiers.len() {
                 let s = tiers[t];
-                if let RangeEnd::At(e) = store_end(node, start, end, s, records[s], v, off) {
+                if let Found::At(e) = store_end(node, start, end, s, records[s], v, off) {
                     upto = smaller(e, z);
                     break;
                 }

@@ -1,7 +1,7 @@
 -- A store's part with a list laid into it keeps its sizes and reads back as that list; and a list laid over it is laid into the part below.
 use mathlib.Core.Path.{_≡_, refl, sym, ap, _∙_}
-use mathlib.Core.List.{List, [], _∷_, _++_, map, append-assoc}
-use Prim.Native.Nat.{ℕ, zero, suc, _+_, _-_, _≤_, _<_}
+use mathlib.Core.List.{List, _∷_, _++_, map, append-assoc}
+use Prim.Native.Nat.{ℕ, _+_, _-_, _≤_, _<_}
 use native.Mathlib.Nat.{zero-add}
 use native.Mathlib.Omega.{arith}
 use lib.ListN.{length, getD, drop, set, replicate, length-map, length-append, replicate-append-replicate}
@@ -14,7 +14,7 @@ use Rattle.theory_lay.proofs.Lay.{lay-length, lay-lay, lay-same, column-in}
 use Rattle.theory_lay.proofs.Rows.{rows, rows-length, rows-list, rows-column, ranges-rows}
 use Rattle.pool_range.proofs.Laid.{lay-front, set-lay}
 use Rattle.pool_range.specs.Part.{Sized}
-use Rattle.pool_range.proofs.Records.{ranges-eq}
+use Rattle.pool_range.proofs.Records.{ranges-eq, map-set}
 
 -- what is read past a column's end
 abbrev noRange : Range
@@ -49,11 +49,6 @@ module _ {A : Type 0} (f : Range → A) (blank : A) (pool : List A) (long : leng
   col-back : (g : ℕ → Range) (d : A) (n : ℕ) → n ≤ 128 → ((i : ℕ) → f (g i) ≡ getD pool i d) → lay blank 0 n (map f (rows g 0 n)) pool ≡ pool
   col-back g d n h same =
       lay-same blank 0 n (map f (rows g 0 n)) pool (length-map (rows g 0 n) f ∙ rows-length g 0 n) (rows-column f g pool d 0 n same (omega arith))
-
-map-set : {A : Type 0} (f : Range → A) (rs : List Range) (i : ℕ) (r : Range) → map f (set rs i r) ≡ set (map f rs) i (f r)
-map-set f [] i r = refl
-map-set f (q ∷ rs) zero r = refl
-map-set f (q ∷ rs) (suc i) r = ap (λ t. f q ∷ t) (map-set f rs i r)
 
 -- a column whose element at i is set, and one that isn't
 col-set : {A : Type 0} (f : Range → A) (blank : A) (pool : List A) (k : ℕ) (rs : List Range) (i : ℕ) (r : Range) (v : A) → f r ≡ v → i < length rs

@@ -65,26 +65,6 @@ pub fn end_overlap(
     i
 }
 
-// The larger of two numbers.
-pub fn larger(a: usize, b: usize) -> usize
-    ensures { λ r. ⌜ r ≡ max a b ⌝ }
-{
-    if a < b {
-        return b;
-    }
-    a
-}
-
-// The smaller of two numbers.
-pub fn smaller(a: usize, b: usize) -> usize
-    ensures { λ r. ⌜ r ≡ min a b ⌝ }
-{
-    if a < b {
-        return a;
-    }
-    b
-}
-
 // The bytes of a span's part that the records from lo up to hi hold.
 pub fn held_bytes(
     start: &[usize],
@@ -107,8 +87,8 @@ pub fn held_bytes(
     let mut sum: u64 = 0;
     let mut i = lo;
     while i < hi {
-        let from = larger(sp.start, start[i]);
-        let upto = smaller(sp.end, end[i]);
+        let from = pool_number::larger(sp.start, start[i]);
+        let upto = pool_number::smaller(sp.end, end[i]);
         sum += rule_resolve::span_bytes(
             depth,
             bytes,

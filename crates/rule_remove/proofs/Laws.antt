@@ -1,19 +1,19 @@
 -- What the loops and the stores of a removal come to, over variables: each overlapped record gives way to the pieces that are left of it, so that the
 -- records done and those still to come are the definition's list.
 use mathlib.Core.Path.{_≡_, refl, sym, ap, subst, _∙_}
-use mathlib.Core.Bool.{Bool, true, false, _&&_, _||_, true≢false, false≢true}
+use mathlib.Core.Bool.{Bool, true, false, _&&_, true≢false, false≢true}
 use mathlib.Core.List.{List, [], _∷_, _++_, append-assoc, append-nil}
 use Prim.Native.Nat.{ℕ, zero, suc, _+_, _-_, _*_, _%_, _≤_, _<_, min, max}
 use native.Mathlib.Nat.{zero-add}
 use native.Mathlib.Omega.{arith}
 use lib.ListN.{length, set, length-append, length-set}
-use lib.Dec.{ltb, eqb}
-use borrow.Author.Tests.{lt-ltb, le-ltb, ltb-true, ltb-false, eq-eqb, ne-eqb}
+use lib.Dec.{ltb}
+use borrow.Author.Tests.{lt-ltb, le-ltb, ltb-true, ltb-false}
 use Rattle.model.specs.declared.Span.{Span}
 use Rattle.model.specs.Sizes.{versions}
 use Rattle.model.specs.Words.{Each}
 use Rattle.model.specs.State.{Ranges, Range, at, rangeAt}
-use Rattle.model.specs.Store.{Store, ranges, layRanges, total, meets, onNode, unmark, part, put, plus}
+use Rattle.model.specs.Store.{Store, ranges, layRanges, total, meets, unmark, part, put, plus}
 use Rattle.model.specs.Touch.{overlapped, hasHead, hasTail}
 use Rattle.model.specs.Remove.{middleCut, tailId, remains, cutOut, middleCuts, listed, writes, removeHits, remove}
 use Rattle.model.specs.Calls.{front}
@@ -28,7 +28,7 @@ use Rattle.rule_overlap.proofs.Laid.{back, sized-laid, laid-at, laid-read, then
 use Rattle.rule_overlap.proofs.Lists.{Miss, out-skip, middles-none, at-seam}
 use Rattle.rule_overlap.proofs.Places.{all-places, ranges-cut0, ranges-cons, ranges-none, ranges-seam, misses-before, misses-after, hits-are, no-middle, middles-first}
 use Rattle.rule_overlap.proofs.Laws.{at-here, same-here, end-here, start-here, cut-here}
-use Rattle.rule_remove.specs.Remove.{leftOf, bothEnds, gone, onlyNode, onlyWrite, CutTo, Freed, versionPast}
+use Rattle.rule_remove.specs.Remove.{leftOf, bothEnds, gone, onlyWrite, CutTo, Freed, versionPast}
 
 -- ---- the blocks that go
 
@@ -155,42 +155,6 @@ list-end write l₀ l lo hi k i s h =
     let e : s .done ≡ writes (ranges (onlyWrite write) lo (hi - lo)) =
     sym (append-nil (s .done)) ∙ ap (λ t. s .done ++ t) (sym (ap writes (ranges-none (onlyWrite write) i hi h) ∙ writes-nil)) ∙ s .todo in
     (s .list ∙ ap (λ t. front t l₀) e, sym (s .long) ∙ ap length e)
-
--- ---- the marks
-
-on-cons : (v : ℕ) (r : Range) (rs : List Range) → onNode v (r ∷ rs) ≡ (eqb (r .node) v || onNode v rs)
-unfolding onNode
-on-cons v r rs = refl
-
-on-nil : (v : ℕ) → onNode v [] ≡ false
-unfolding onNode
-on-nil v = refl
-
--- the records passed are not on the node
-abbrev pub Passed : List ℕ → ℕ → ℕ → ℕ → Type 0
-Passed node n v i = onNode v (ranges (onlyNode node) i (n - i)) ≡ onNode v (ranges (onlyNode node) 0 n)
-
-pub pass-start : (node : List ℕ) (n v : ℕ) → Passed node n v 0
-pass-start node n v = let e : n - 0 ≡ n = omega arith in rw e
-
-module _ (node : List ℕ) (n v i : ℕ) (s : Passed node n v i) where
-  pass-step : i < n → (eqb (at node i) v || onNode v (ranges (onlyNode node) (i + 1) (n - (i + 1)))) ≡ onNode v (ranges (onlyNode node) 0 n)
-  pass-step h = sym (ap (onNode v) (ranges-cons (onlyNode node) i n h) ∙ on-cons v (rangeAt (onlyNode node) i) (ranges (onlyNode node) (i + 1) (n - (i + 1)))) ∙ s
-
-  pub pass-here : i < n → at node i ≡ v → true ≡ onNode v (ranges (onlyNode node) 0 n)
-  pass-here h e = rw (eq-eqb (at node i) v e) at (pass-step h)
-
-  pub pass-turn : i < n → (at node i ≡ v → ⊥) → Passed node n v (i + 1)
-  pass-turn h d = rw (ne-eqb (at node i) v d) at (pass-step h)
-
-  pub pass-end : n ≤ i → false ≡ onNode v (ranges (onlyNode node) 0 n)
-  pass-end h = sym (ap (onNode v) (ranges-none (onlyNode node) i n h) ∙ on-nil v) ∙ s
-
-pub unmark-on : (v : ℕ) (rs : List Range) (ms : List ℕ) → true ≡ onNode v rs → ms ≡ unmark v rs ms
-unmark-on v rs ms e = rw (unmark, ← e)
-
-pub unmark-off : (v : ℕ) (rs : List Range) (ms : List ℕ) → false ≡ onNode v rs → set ms v 0 ≡ unmark v rs ms
-unmark-off v rs ms e = rw (unmark, ← e)
 
 -- ---- one record
 
@@ -546,14 +510,6 @@ unfolding writes ranges
 writes-same c i zero = refl
 writes-same c i (suc m) = ap (listed (at (c .write) i)) (writes-same c (suc i) m)
 
-on-same : (v : ℕ) (c : Ranges) (i m : ℕ) → onNode v (ranges (onlyNode (c .node)) i m) ≡ onNode v (ranges c i m)
-unfolding onNode ranges
-on-same v c i zero = refl
-on-same v c i (suc m) = ap (λ t. eqb (at (c .node) i) v || t) (on-same v c (suc i) m)
-
-unmark-same : (v : ℕ) (rs qs : List Range) (ms : List ℕ) → onNode v rs ≡ onNode v qs → unmark v rs ms ≡ unmark v qs ms
-unmark-same v rs qs ms e = rw (unmark, e)
-
 past-some : (k v : ℕ) → 1 ≤ k → suc v % versions ≡ versionPast k v
 past-some zero v h = absurd (omega arith)
 past-some (suc k) v h = refl
@@ -586,7 +542,7 @@ module _ (c : Ranges) (n lo hi : ℕ) (sp : Span) (next : ℕ) (w : Cuttable c n
   pub freed-some : (lo ≡ hi → ⊥) → sp .start < sp .end → Ordered (c .node) (c .start) (c .end) n → (c′ : Ranges) (ms ms′ ls ls′ : List ℕ) (m need removed k : ℕ) → x .marks ≡ ms
       → (removed ≡ gone (sp .start) (sp .end) (ranges (onlySpans (c .start) (c .end)) lo (hi - lo))) × (hi - lo ≤ removed)
       → (ls′ ≡ front (writes (ranges (onlyWrite (c .write)) lo (hi - lo))) ls) × (k ≡ length (writes (ranges (onlyWrite (c .write)) lo (hi - lo))))
-      → n + middleCuts (sp .node) (sp .start) (sp .end) (ranges c 0 n) ≤ 128 → CutTo next need sp c c′ n m → ms′ ≡ unmark (sp .node) (ranges (onlyNode (c′ .node)) 0 m) ms
+      → n + middleCuts (sp .node) (sp .start) (sp .end) (ranges c 0 n) ≤ 128 → CutTo next need sp c c′ n m → ms′ ≡ unmark (sp .node) (ranges c′ 0 m) ms
       → Freed x (remove x next sp) c c′ ms′ ls ls′ n (record { n = m; need = need; removed = removed; writes = k })
   freed-some d az o c′ ms ms′ ls ls′ m need removed k q g l room t u =
       let v = sp .node in
@@ -605,8 +561,7 @@ module _ (c : Ranges) (n lo hi : ℕ) (sp : Span) (next : ℕ) (w : Cuttable c n
       subst (λ s. Freed x s c c′ ms′ ls ls′ n (record { n = m; need = need; removed = removed; writes = k })) (sym (remove-is (r ∷ rest) x next sp e))
       (record {
         columns = t .columns ∙ ap (λ s. layRanges 0 (n + need) s c) out ∙ ap (λ s. layRanges 0 (n + s) (cutOut v a z next (x .ranges)) c) (t .needs ∙ mids);
-        marks = u ∙ unmark-same v (ranges (onlyNode (c′ .node)) 0 m) (cutOut v a z next (x .ranges)) ms (on-same v c′ 0 m ∙ ap (onNode v) (read ∙ out))
-            ∙ ap (unmark v (cutOut v a z next (x .ranges))) (sym q);
+        marks = u ∙ ap (λ s. unmark v s ms) (read ∙ out) ∙ ap (unmark v (cutOut v a z next (x .ranges))) (sym q);
         list = l .0 ∙ ap (λ s. front s ls) lists;
         records = t .records ∙ ap length out;
         need = t .needs ∙ mids;

@@ -26,10 +26,7 @@ unfoldable pub gone : ℕ → ℕ → List Range → ℕ
 gone a z [] = 0
 gone a z (r ∷ rs) = (min z (r .end) - max a (r .start)) + gone a z rs
 
--- the columns of which only these are looked at
-abbrev pub onlyNode : List ℕ → Ranges
-onlyNode node = rangesOf node [] [] [] [] [] []
-
+-- the columns of which only the writes are looked at
 abbrev pub onlyWrite : List ℕ → Ranges
 onlyWrite write = rangesOf [] [] [] [] [] [] write
 

@@ -1,18 +1,18 @@
 use model::Span;
 ghost use mathlib.Core.Path.{_≡_};
-ghost use mathlib.Core.Bool.{true, false, _&&_};
+ghost use mathlib.Core.Bool.{false, _&&_};
 ghost use Prim.Native.Nat.{ℕ, _+_, _-_, _≤_, _<_, min, max};
 ghost use lib.ListN.{length};
 ghost use lib.Dec.{ltb};
 ghost use Rattle.model.specs.Words.{Each};
 ghost use Rattle.model.specs.State.{at};
-ghost use Rattle.model.specs.Store.{Store, ranges, layRanges, plus, onNode, unmark};
+ghost use Rattle.model.specs.Store.{Store, ranges, layRanges, plus};
 ghost use Rattle.model.specs.Remove.{middleCuts, writes, remove};
 ghost use Rattle.model.specs.Calls.{front};
 ghost use Rattle.shape_state.specs.Lent.{rangesOf};
 ghost use Rattle.pool_range.specs.Part.{Sized};
 ghost use Rattle.rule_overlap.specs.Overlap.{Ordered, Cuttable, onlySpans, atPlace, RemoveFits};
-ghost use Rattle.rule_remove.specs.Remove.{leftOf, bothEnds, gone, onlyNode, onlyWrite, CutTo, Freed};
+ghost use Rattle.rule_remove.specs.Remove.{leftOf, bothEnds, gone, onlyWrite, CutTo, Freed};
 
 // How many records there are then and how many were needed, the blocks that went, and how many writes are listed.
 pub struct Removing {
@@ -31,8 +31,8 @@ fn removed_blocks(start: &[usize], end: &[usize], sp: Span, lo: usize, hi: usize
     let mut sum: u64 = 0;
     let mut i = lo;
     while i < hi {
-        let from = rule_overlap::larger(sp.start, start[i]);
-        let upto = rule_overlap::smaller(sp.end, end[i]);
+        let from = pool_number::larger(sp.start, start[i]);
+        let upto = pool_number::smaller(sp.end, end[i]);
         sum += (upto - from) as u64;
         i += 1;
     }
@@ -58,32 +58,6 @@ fn list_writes(write: &[u32], list: &mut [u32], lo: usize, hi: usize) -> usize
         i += 1;
     }
     k
-}
-
-// Is any of the n records on node v?
-fn on_node(node: &[usize], n: usize, v: usize) -> bool
-    requires { ⌜ n ≤ length (now node) ⌝ }
-    ensures { λ r. ⌜ r ≡ onNode v (ranges (onlyNode (now (node .entry))) 0 n) ⌝ }
-{
-    let mut i = 0;
-    while i < n {
-        if node[i] == v {
-            return true;
-        }
-        i += 1;
-    }
-    false
-}
-
-// A node without records has mark 0.
-fn unmark(node: &[usize], marks: &mut [usize], n: usize, v: usize)
-    requires { ⌜ (n ≤ length (now node)) × (v < length (now marks)) ⌝ }
-    ensures { λ _. ⌜ now (marks .exit) ≡ unmark v (ranges (onlyNode (now (node .entry))) 0 n) (now (marks .entry)) ⌝ }
-{
-    if on_node(node, n, v) {
-        return;
-    }
-    marks[v] = 0;
 }
 
 // The record at place i without the span, past one end of which it reaches at most: how many pieces stay.
@@ -334,7 +308,7 @@ pub fn store_remove(
         sp,
         next,
     );
-    unmark(node, marks, left.n, sp.node);
+    pool_mark::unmark(node, marks, left.n, sp.node);
     Removing {
         n: left.n,
         need: left.need,

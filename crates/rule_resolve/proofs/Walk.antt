@@ -17,9 +17,10 @@ use Rattle.model.specs.Insert.{lastSeg, matchEnd}
 use Rattle.model.specs.Refusals.{PathList, PathFits}
 use Rattle.model.specs.Calls.{front, layPath}
 use Rattle.rule_resolve.specs.declared.Match.{Match}
-use Rattle.rule_resolve.specs.declared.Found.{Found}
-use Rattle.rule_resolve.specs.declared.Found.the-variants.{At, Nothing}
-use Rattle.rule_resolve.specs.Walk.{Stored, Walkable, Resolved, foundOf}
+use Rattle.pool_number.specs.declared.Found.{Found}
+use Rattle.pool_number.specs.declared.Found.the-variants.{At, Nothing}
+use Rattle.pool_number.specs.Found.{foundOf}
+use Rattle.rule_resolve.specs.Walk.{Stored, Walkable, Resolved}
 use Rattle.shape_answer.specs.Lists.{pathListOf}
 use Rattle.theory_resolve.proofs.Walked.{Next, next-child}
 

@@ -2,7 +2,6 @@
 use Prim.Native.Nat.{ℕ, _+_, _≤_, _<_}
 use mathlib.Core.Path.{_≡_}
 use mathlib.Core.List.{List}
-use mathlib.Core.Option.{Option, none, some}
 use lib.ListN.{length}
 use Rattle.model.specs.Words.{Each}
 use Rattle.model.specs.Sizes.{pathPlaces}
@@ -13,8 +12,6 @@ use Rattle.model.specs.Insert.{matchEnd}
 use Rattle.model.specs.Refusals.{PathList}
 use Rattle.model.specs.Calls.{pathOf, layPath}
 use Rattle.rule_resolve.specs.declared.Match.{Match}
-use Rattle.rule_resolve.specs.declared.Found.{Found}
-use Rattle.rule_resolve.specs.declared.Found.the-variants.{At, Nothing}
 
 -- ---- asked
 
@@ -42,10 +39,6 @@ pub record Walkable (t : Tree) : Type 0 where
   pub few : (hs : List ℕ) → length (resolve t hs) ≤ pathPlaces
 
 -- ---- answered
-
-abbrev pub foundOf : Found → Option ℕ
-foundOf (At k) = some k
-foundOf Nothing = none
 
 abbrev pub matchOf : List Seg → Match
 matchOf path = record { segs = pathOf path .segs; blocks = pathOf path .blocks; node = matchEnd path .node; len = matchEnd path .len }

@@ -1,6 +1,6 @@
 ghost use mathlib.Core.Path.{_≡_};
 ghost use mathlib.Core.List.{List, []};
-ghost use Prim.Native.Nat.{ℕ, _+_, _≤_, _<_, min};
+ghost use Prim.Native.Nat.{ℕ, _+_, _≤_, _<_};
 ghost use lib.ListN.{length};
 ghost use Rattle.model.specs.State.{at};
 ghost use Rattle.model.specs.Tree.{isChild, child, matched};
@@ -8,9 +8,11 @@ ghost use Rattle.model.specs.Refusals.{PathFits};
 ghost use Rattle.model.specs.Trim.{bytesOf, deadFrom};
 ghost use Rattle.shape_state.specs.Lent.{treeOf};
 ghost use Rattle.rule_resolve.specs.Span.{Priced, onlyDepth};
-ghost use Rattle.rule_resolve.specs.Walk.{Scanned, Others, Stored, Walkable, foundOf, Resolved};
+ghost use Rattle.rule_resolve.specs.Walk.{Scanned, Others, Stored, Walkable, Resolved};
+ghost use Rattle.pool_number.specs.Found.{foundOf};
 ghost use Rattle.shape_answer.specs.Lists.{pathListOf};
 use model::Span;
+use pool_number::Found;
 
 pub fn span_bytes(depth: &[usize], bytes: &[u64], sp: Span) -> u64
     requires { ⌜ Priced (now depth) (now bytes) sp ⌝ }
@@ -51,12 +53,6 @@ pub fn dead_bytes(depth: &[usize], bytes: &[u64], mark: usize, sp: Span) -> u64
             end: sp.end,
         },
     )
-}
-
-// The node that a search ends at.
-pub enum Found {
-    At(usize),
-    Nothing,
 }
 
 fn is_child(parent: &[usize], run: &[usize], words: &[u64], p: usize, h: u64, k: usize) -> bool
@@ -122,15 +118,6 @@ pub fn child(
     Found::Nothing
 }
 
-fn smaller(a: usize, b: usize) -> usize
-    ensures { λ r. ⌜ r ≡ min a b ⌝ }
-{
-    if a < b {
-        return a;
-    }
-    b
-}
-
 // How many blocks of node k match the list from pos on. A hash stands for all blocks before it, so two runs that agree at a position agree before it:
 // one comparison tells of the whole node, and halving finds the last position that agrees.
 pub fn matched(
@@ -149,7 +136,7 @@ pub fn matched(
     ensures within { λ r. ⌜ (1 ≤ r) × (r ≤ at (now (len .entry)) k) × (pos + r ≤ length (now (hashes .entry))) ⌝ }
 {
     let from = run[k];
-    let c = smaller(hashes.len() - pos, len[k]);
+    let c = pool_number::smaller(hashes.len() - pos, len[k]);
     let last = c - 1;
     if hashes[pos + last] == words[from + last] {
         return c;

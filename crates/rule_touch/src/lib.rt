@@ -31,7 +31,7 @@ fn mark_read(marks: &mut [usize], sp: Span, counted: bool)
         return;
     }
     let v = sp.node;
-    marks[v] = rule_overlap::larger(marks[v], sp.end);
+    marks[v] = pool_number::larger(marks[v], sp.end);
 }
 
 // Do the records from lo up to hi come to one, wholly inside the span?

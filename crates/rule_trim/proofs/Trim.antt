@@ -24,9 +24,9 @@ use Rattle.rule_resolve.specs.Span.{onlyDepth}
 use Rattle.pool_range.specs.Part.{Sized}
 use Rattle.pool_out.specs.Evicted.{outOf, setOut}
 use Rattle.pool_out.proofs.Laws.{out-more}
-use Rattle.rule_choose.specs.declared.Place.{Place}
-use Rattle.rule_choose.specs.declared.Place.the-variants.{At, Nothing}
-use Rattle.rule_choose.specs.Choose.{placeOf}
+use Rattle.pool_number.specs.declared.Found.{Found}
+use Rattle.pool_number.specs.declared.Found.the-variants.{At, Nothing}
+use Rattle.pool_number.specs.Found.{foundOf}
 use Rattle.rule_evict.specs.declared.Gone.{Gone}
 use Rattle.rule_evict.specs.Evict.{Left, left, evictCols, Reach, Tabled, EntryGone}
 use Rattle.rule_evict.specs.Given.{Ready, GivenOut}
@@ -274,16 +274,16 @@ module _ {depth table : List ℕ} {n₀ h₀ : ℕ} {c₀ : Ranges} {ms₀ : Lis
       found p e = chosen-now ps (h - capacity) (s .rs) (omega arith) ∙ ap (first (λ r. not (isPinned ps r))) (sym (going-read ready (s .going))) ∙ sym e
 
       -- all is pinned
-      pub trim-stuck : {p : Place} → placeOf p ≡ first (λ r. not (isPinned ps r)) (ranges c 0 k) → p ≡ Nothing
+      pub trim-stuck : {p : Found} → foundOf p ≡ first (λ r. not (isPinned ps r)) (ranges c 0 k) → p ≡ Nothing
           → GivenOut (trim (onlyDepth depth) table ps capacity (ranges c₀ 0 n₀) ms₀) n₀ v₀ c₀ l₀ c ms l k h o v true
       trim-stuck q here =
           let z : ltb 0 (h - capacity) ≡ true = lt-ltb 0 (h - capacity) (omega arith) in
-          let e = rw (found none (sym (ap placeOf here) ∙ q), by-none (onlyDepth depth) table ps (n₀ - o) (h - capacity) (s .rs) ms, z) at (s .todo) in
+          let e = rw (found none (sym (ap foundOf here) ∙ q), by-none (onlyDepth depth) table ps (n₀ - o) (h - capacity) (s .rs) ms, z) at (s .todo) in
           subst (λ (w : Trimmed). GivenOut w n₀ v₀ c₀ l₀ c ms l k h o v true) (before-none (s .os) (s .rs) ms true ∙ e) (going-end ready (s .going) true)
 
-      module _ {p : Place} {i : ℕ} (choice : placeOf p ≡ first (λ r. not (isPinned ps r)) (ranges c 0 k)) (here : p ≡ At i) where
+      module _ {p : Found} {i : ℕ} (choice : foundOf p ≡ first (λ r. not (isPinned ps r)) (ranges c 0 k)) (here : p ≡ At i) where
         some-first : some i ≡ first (λ r. not (isPinned ps r)) (ranges c 0 k)
-        some-first = sym (ap placeOf here) ∙ choice
+        some-first = sym (ap foundOf here) ∙ choice
 
         pub trim-place : i < k
         trim-place = omega (arith, first-some (λ r. not (isPinned ps r)) (ranges c 0 k) i (sym some-first) .0, ranges-length c 0 k)

@@ -1,4 +1,4 @@
-use rule_choose::Place;
+use pool_number::Found;
 ghost use mathlib.Core.List.{List};
 ghost use Prim.Native.Nat.{ℕ, _≤_};
 ghost use lib.ListN.{length};
@@ -35,10 +35,10 @@ pub fn store_trim_capacity(
     out_bytes: &mut [u64],
     out_dead: &mut [u64],
     depth: &[usize],
-    bytes: &[u64],
     pin_node: &[usize],
     pin_start: &[usize],
     pin_end: &[usize],
+    bytes: &[u64],
     n: usize,
     m: usize,
     held: u64,
@@ -75,7 +75,7 @@ pub fn store_trim_capacity(
     let mut v = version;
     let mut k: usize = 0;
     while capacity < h {
-        let Place::At(i) = rule_choose::first_free(
+        let Found::At(i) = rule_choose::first_free(
             &*node,
             &*start,
             &*end,

@@ -6,7 +6,7 @@ use native.Mathlib.Omega.{arith}
 use Rattle.model.specs.State.{State}
 use Rattle.model.specs.Sound.{Sound}
 use Rattle.model.specs.Refusals.{firstOf, countRefusals, storeCountRefusals}
-use Rattle.model.specs.Calls.{Outcome, Answer, refused, done, unless, NoList, heldCall, capacityCall, pinnedCall, availableCall, versionCall, stallsCall}
+use Rattle.model.specs.Calls.{Answer, refused, done, unless, NoList, heldCall, capacityCall, pinnedCall, availableCall, versionCall, stallsCall}
 use Rattle.shape_answer.specs.Answers.{outcome}
 use Rattle.theory_outcome.proofs.Gates.{held-unsound, capacity-unsound, pinned-unsound, available-unsound, version-unsound, stalls-unsound}
 use Rattle.rust_values.specs.Counter.{counterCall}

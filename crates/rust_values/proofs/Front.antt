@@ -2,7 +2,7 @@
 use Prim.Native.Nat.{ℕ, zero, suc, _+_, _≤_, _<_, min}
 use mathlib.Core.Bool.{Bool, true, false}
 use mathlib.Core.List.{List, [], _∷_, _++_}
-use mathlib.Core.Logic.{_⊎_, inl, inr, ⊎-elim}
+use mathlib.Core.Logic.{inl, inr, ⊎-elim}
 use mathlib.Core.Path.{_≡_, refl, sym, ap, _∙_}
 use native.Mathlib.Omega.{arith}
 use lib.ListN.{length, take, set, getD, length-set}
@@ -17,6 +17,7 @@ use Rattle.model.specs.Sound.{Sound}
 use Rattle.model.specs.Refusals.{First, noSpan, storeUsedRefusals}
 use Rattle.model.specs.Calls.{NoList, refused, touchSpans, bytesTouched, storeUsed}
 use Rattle.theory_refuse.proofs.Refusals.{first-is, storeUsed-exact}
+use Rattle.theory_refuse.proofs.Says.{le-or-lt}
 use Rattle.shape_answer.specs.Answers.{outcome}
 use Rattle.rust_values.specs.Spans.{span, spansOf, tooMany}
 
@@ -37,11 +38,6 @@ spans-at (n ∷ on) [] upto i l = absurd (omega arith)
 spans-at (n ∷ on) (a ∷ from) [] i l = absurd (omega arith)
 spans-at (n ∷ on) (a ∷ from) (z ∷ upto) zero l = refl
 spans-at (n ∷ on) (a ∷ from) (z ∷ upto) (suc i) l = spans-at on from upto i (omega arith)
-
-le-or-lt : (a b : ℕ) → (a ≤ b) ⊎ (b < a)
-le-or-lt zero b = inl (omega arith)
-le-or-lt (suc a) zero = inr (omega arith)
-le-or-lt (suc a) (suc b) = ⊎-elim (λ (h : a ≤ b). inl (omega arith)) (λ (h : b < a). inr (omega arith)) (le-or-lt a b)
 
 -- ---- n spans are read into an array of m, the first i of them so far
 

@@ -1,6 +1,6 @@
 -- The number and the values of 01 for each case of an answer, and the state that all lent columns make. Assumes nothing.
 use Prim.Native.Nat.{ℕ}
-use mathlib.Core.List.{List, [], _∷_}
+use mathlib.Core.List.{List}
 use lib.Ieee.{Float}
 use Rattle.model.specs.declared.ResolveAnswer.{ResolveAnswer}
 use Rattle.model.specs.declared.InsertAnswer.{InsertAnswer}

@@ -1,7 +1,7 @@
 // The tests of arguments: those for 4 and 5, and for 14, whether the answer lists of a call are as long as 01 says.
 use model::Span;
 ghost use mathlib.Core.Path.{_≡_};
-ghost use Prim.Native.Nat.{_≤_, ℕ};
+ghost use Prim.Native.Nat.{_≤_};
 ghost use lib.ListN.{length};
 ghost use Rattle.model.specs.Words.{Says};
 ghost use Rattle.model.specs.State.{Tree};

@@ -5,69 +5,11 @@ ghost use lib.ListN.{length};
 ghost use Rattle.model.specs.Words.{Says, Each};
 ghost use Rattle.model.specs.Sizes.{maxNumbers};
 ghost use Rattle.model.specs.State.{at, nodesIn, usedIn, storesIn, bookIn};
-ghost use Rattle.model.specs.Sound.{RangesLent, PinsLent, StoreCounts, Sound};
+ghost use Rattle.model.specs.Sound.{StoreCounts, Sound};
 ghost use Rattle.shape_state.specs.Lent.{treeOf, rangesOf, pinsOf, stateOf};
 ghost use Rattle.test_tree.specs.Chain.{Chain};
 ghost use Rattle.test_state.specs.Ids.{Live, Differ, Fresh, idBucket};
 ghost use Rattle.test_state.specs.Stores.{NumbersFit, CountsFit, StoreRecords, StorePins, StoreMarks};
-
-fn ranges_lent(
-    node: &[usize],
-    start: &[usize],
-    end: &[usize],
-    id: &[u64],
-    stamp: &[u64],
-    touched: &[f64],
-    write: &[u32],
-) -> bool
-    ensures { λ r. ⌜
-        Says r
-        (RangesLent
-        (rangesOf (now (node .entry)) (now (start .entry)) (now (end .entry)) (now (id .entry)) (now (stamp .entry)) (now (touched .entry))
-        (now (write .entry))))
-        ⌝ }
-{
-    if node.len() < 1024 {
-        return false;
-    }
-    if start.len() < 1024 {
-        return false;
-    }
-    if end.len() < 1024 {
-        return false;
-    }
-    if id.len() < 1024 {
-        return false;
-    }
-    if stamp.len() < 1024 {
-        return false;
-    }
-    if touched.len() < 1024 {
-        return false;
-    }
-    if write.len() < 1024 {
-        return false;
-    }
-    true
-}
-
-fn pins_lent(node: &[usize], start: &[usize], end: &[usize], count: &[u64]) -> bool
-    ensures { λ r. ⌜ Says r (PinsLent (pinsOf (now (node .entry)) (now (start .entry)) (now (end .entry)) (now (count .entry)))) ⌝ }
-{
-    if node.len() < 256 {
-        return false;
-    }
-    if start.len() < 256 {
-        return false;
-    }
-    if end.len() < 256 {
-        return false;
-    }
-    if count.len() < 256 {
-        return false;
-    }
-    true
-}
 
 fn numbers_fit(books: &[u64]) -> bool
     requires { ⌜ maxNumbers ≤ length (now books) ⌝ }
@@ -359,10 +301,10 @@ pub fn sound_state(
     if !all_counts_fit(books) {
         return false;
     }
-    if !ranges_lent(node, start, end, id, stamp, touched, write) {
+    if !test_tree::ranges_lent(node, start, end, id, stamp, touched, write) {
         return false;
     }
-    if !pins_lent(pin_node, pin_start, pin_end, pin_count) {
+    if !test_tree::pins_lent(pin_node, pin_start, pin_end, pin_count) {
         return false;
     }
     if marks.len() < 2048 {

@@ -5,8 +5,8 @@ use mathlib.Core.List.{List}
 use mathlib.Core.Logic.{⊎-elim}
 use native.Mathlib.Omega.{arith}
 use lib.ListN.{length, getD, set, length-set, replicate, length-replicate}
+use Rattle.theory_refuse.proofs.Says.{le-or-lt}
 use Rattle.test_tree.specs.Chain.{Chain, Heads, Apart, New}
-use Rattle.test_tree.proofs.Each.{le-or-lt}
 use Rattle.test_tree.proofs.Chain.{lt-more, chain-none, heads-none, chain-skip, heads-skip, chain-add, heads-add}
 
 pub record Met (size : ℕ) (b : ℕ → ℕ) (U : ℕ → Type 0) (Same : ℕ → ℕ → Type 0) (last prev : List ℕ) (i : ℕ) : Type 0 where

@@ -8,8 +8,8 @@ use native.Mathlib.Decide.{ℕ-discrete}
 use native.Mathlib.Omega.{arith}
 use lib.ListN.{length, getD, set, replicate}
 use lib.Seq.{getD-set-same, getD-set-other}
+use Rattle.theory_refuse.proofs.Says.{le-or-lt}
 use Rattle.test_tree.specs.Chain.{Chain, Heads}
-use Rattle.test_tree.proofs.Each.{le-or-lt}
 use Rattle.test_tree.proofs.Runs.{zeros}
 
 pub lt-more : {k i : ℕ} → k < i + 1 → (k ≡ i) ⊎ (k < i)

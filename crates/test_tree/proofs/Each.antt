@@ -1,17 +1,9 @@
 -- Laws of `Each`: what every loop of tests cites, from nothing tested to all of it. Assumes nothing.
 use Prim.Native.Nat.{ℕ, _+_, _≤_, _<_}
-use mathlib.Core.Logic.{_⊎_, ⊎-elim, inl, inr}
-use native.Mathlib.Decide.{decLe}
+use mathlib.Core.Logic.{⊎-elim}
 use native.Mathlib.Nat.{eq-or-lt-of-le}
 use native.Mathlib.Omega.{arith}
 use Rattle.model.specs.Words.{Each}
-
-pub le-or-lt : (a b : ℕ) → (a ≤ b) ⊎ (b < a)
-le-or-lt a b = go (decLe a b)
-  where
-    go : Dec (a ≤ b) → (a ≤ b) ⊎ (b < a)
-    go (yes p) = inl p
-    go (no n) = inr (omega arith)
 
 pub each-none : (P : ℕ → Type 0) (a : ℕ) → Each a a P
 each-none P a k h l = absurd (omega arith)

@@ -9,8 +9,9 @@ use mathlib.Core.Logic.{_⊎_, ⊎-elim, inl, inr}
 use native.Mathlib.Omega.{arith}
 use lib.ListN.{length, getD, set, length-set, replicate, length-replicate}
 use lib.Seq.{getD-set-same, getD-set-other}
+use Rattle.theory_refuse.proofs.Says.{le-or-lt}
 use Rattle.test_tree.specs.Runs.{In, OneOwner, Filled, Free}
-use Rattle.test_tree.proofs.Each.{le-or-lt, each-none, each-more}
+use Rattle.test_tree.proofs.Each.{each-none, each-more}
 
 -- from a to i is done
 pub record Claiming (e x : List ℕ) (a b who i : ℕ) : Type 0 where

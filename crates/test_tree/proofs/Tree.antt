@@ -7,11 +7,11 @@ use lib.ListN.{length}
 use Rattle.model.specs.Words.{Each}
 use Rattle.model.specs.State.{Tree, at}
 use Rattle.model.specs.Sound.{ParentsInUse, DepthsAdd, EndsWithin, NodesFilled, RunsBelow, RunsApart, SiblingsDiffer}
+use Rattle.theory_refuse.proofs.Says.{le-or-lt}
 use Rattle.test_tree.specs.Nodes.{NodeFits}
 use Rattle.test_tree.specs.Runs.{OneOwner}
 use Rattle.test_tree.specs.Siblings.{NotRoot, Unlike}
 use Rattle.test_tree.specs.Tree.{TreeSized, TreeSound}
-use Rattle.test_tree.proofs.Each.{le-or-lt}
 
 abbrev pub Fits : Tree → Type 0
 Fits t = Each 1 (t .nodes) (NodeFits (t .parent) (t .depth) (t .len) (t .run) (t .nodes) (t .used))

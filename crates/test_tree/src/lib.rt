@@ -4,7 +4,8 @@ ghost use Prim.Native.Nat.{ℕ, _+_, _≤_, _<_};
 ghost use lib.ListN.{length};
 ghost use Rattle.model.specs.Words.{Says, Each};
 ghost use Rattle.model.specs.State.{at};
-ghost use Rattle.shape_state.specs.Lent.{treeOf};
+ghost use Rattle.model.specs.Sound.{RangesLent, PinsLent};
+ghost use Rattle.shape_state.specs.Lent.{treeOf, rangesOf, pinsOf};
 ghost use Rattle.test_tree.specs.Nodes.{Table, NodeFits};
 ghost use Rattle.test_tree.specs.Runs.{OneOwner, Filled, Free};
 ghost use Rattle.test_tree.specs.Chain.{Chain};
@@ -32,6 +33,66 @@ pub fn table_rises(bytes: &[u64]) -> bool
         i += 1;
     }
     if MOST_BYTES < bytes[1024] {
+        return false;
+    }
+    true
+}
+
+// The lent columns of the ranges are each as long as eight stores need, or longer.
+pub fn ranges_lent(
+    node: &[usize],
+    start: &[usize],
+    end: &[usize],
+    id: &[u64],
+    stamp: &[u64],
+    touched: &[f64],
+    write: &[u32],
+) -> bool
+    ensures { λ r. ⌜
+        Says r
+        (RangesLent
+        (rangesOf (now (node .entry)) (now (start .entry)) (now (end .entry)) (now (id .entry)) (now (stamp .entry)) (now (touched .entry))
+        (now (write .entry))))
+        ⌝ }
+{
+    if node.len() < 1024 {
+        return false;
+    }
+    if start.len() < 1024 {
+        return false;
+    }
+    if end.len() < 1024 {
+        return false;
+    }
+    if id.len() < 1024 {
+        return false;
+    }
+    if stamp.len() < 1024 {
+        return false;
+    }
+    if touched.len() < 1024 {
+        return false;
+    }
+    if write.len() < 1024 {
+        return false;
+    }
+    true
+}
+
+// The same of the pins.
+pub fn pins_lent(node: &[usize], start: &[usize], end: &[usize], count: &[u64]) -> bool
+    ensures { λ r. ⌜ Says r (PinsLent (pinsOf (now (node .entry)) (now (start .entry)) (now (end .entry)) (now (count .entry)))) ⌝ }
+{
+    if node.len() < 256 {
+        return false;
+    }
+    if start.len() < 256 {
+        return false;
+    }
+    if end.len() < 256 {
+        return false;
+    }
+    if count.len() < 256 {
         return false;
     }
     true
@@ -166,7 +227,7 @@ fn claim(own: &mut [u16], who: u16, from: usize, to: usize) -> bool
     true
 }
 
-fn runs_apart(run: &[usize], len: &[usize], nodes: usize) -> bool
+fn runs_apart(len: &[usize], run: &[usize], nodes: usize) -> bool
     requires { ⌜
         (nodes ≤ 256)
         × (nodes ≤ length (now run))
@@ -296,7 +357,7 @@ pub fn tree_sound(
     if !nodes_fit(parent, depth, len, run, nodes, used) {
         return false;
     }
-    if !runs_apart(run, len, nodes) {
+    if !runs_apart(len, run, nodes) {
         return false;
     }
     if !siblings_differ(parent, run, words, nodes) {

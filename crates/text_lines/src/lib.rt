@@ -128,17 +128,17 @@ fn take_time(s: &[u8], i: usize) -> Moment
 }
 
 // NODE START END, and the place past them.
-struct Place {
+struct TakenSpan {
     found: bool,
     span: Span,
     next: usize,
 }
 
-fn no_place(s: &[u8], i: usize) -> Place
+fn no_span(s: &[u8], i: usize) -> TakenSpan
     requires { ⌜ i ≤ length (now s) ⌝ }
     ensures { λ r. ⌜ Taking (now (s .entry)) i (r .found) (r .next) ⌝ }
 {
-    Place {
+    TakenSpan {
         found: false,
         span: Span {
             node: 0,
@@ -149,23 +149,23 @@ fn no_place(s: &[u8], i: usize) -> Place
     }
 }
 
-fn take_span(s: &[u8], i: usize) -> Place
+fn take_span(s: &[u8], i: usize) -> TakenSpan
     requires { ⌜ i ≤ length (now s) ⌝ }
     ensures { λ r. ⌜ Taking (now (s .entry)) i (r .found) (r .next) ⌝ }
 {
     let node = take_number(s, i);
     if !node.found {
-        return no_place(s, i);
+        return no_span(s, i);
     }
     let start = take_number(s, node.next);
     if !start.found {
-        return no_place(s, i);
+        return no_span(s, i);
     }
     let end = take_number(s, start.next);
     if !end.found {
-        return no_place(s, i);
+        return no_span(s, i);
     }
-    Place {
+    TakenSpan {
         found: true,
         span: Span {
             node: node.value as usize,

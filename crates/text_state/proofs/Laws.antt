@@ -1,5 +1,5 @@
 -- How long a printed time is, and what a sound state has for each of the state's printers. Assumes nothing.
-use Prim.Native.Nat.{ℕ, zero, suc, _+_, _*_, _/_, _≤_, _<_}
+use Prim.Native.Nat.{ℕ, zero, suc, _+_, _/_, _≤_, _<_}
 use mathlib.Core.Path.{_≡_}
 use mathlib.Core.Bool.{Bool, true, false, cond}
 use mathlib.Core.List.{List, _∷_}
@@ -12,11 +12,10 @@ use Rattle.text_print.proofs.Numeral.{length-digits}
 use Rattle.text_times.specs.declared.Size.{Size}
 use Rattle.text_times.specs.declared.Size.the-variants.{Whole, Other}
 use Rattle.text_times.specs.Times.{hexText, textOf, timeText}
-use Rattle.model.specs.Sizes.{storeRecords, storePins}
 use Rattle.model.specs.State.{State, at, recordOf, entryOf, storesOf, recordsOf, entriesOf}
-use Rattle.model.specs.Sound.{Sound, Inside, ParentsInUse, DepthsAdd, EndsWithin, NodesFilled, RunsBelow, RecordsInside, PinsInside}
+use Rattle.model.specs.Sound.{Sound, EndsWithin, NodesFilled, RunsBelow, RecordsInside, PinsInside}
 use Rattle.text_answer.specs.Text.{Wrote}
-use Rattle.text_state.specs.Columns.{Run, Nodes, Spot, SpotAt, Spots}
+use Rattle.text_state.specs.Columns.{Nodes, Spot, Spots}
 
 -- ---- a time
 

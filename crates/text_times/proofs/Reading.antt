@@ -12,14 +12,14 @@ use lib.Dec.{T, ltb, eqb}
 use lib.Ieee.{Float, nan, inf, binary64, round, neg, ofBits}
 use lib.ListN.{length, getD, take, drop, length-append}
 use lib.Seq.{slice, slice-cons, slice-empty, length-slice, getD-take, ext-getD, drop-drop, length-take-le}
-use Rattle.model.specs.Words.{Says}
+use Rattle.model.specs.Words.{Says, pick}
 use Rattle.text_words.specs.declared.Number.{Number}
 use Rattle.text_words.specs.declared.Number.the-variants.{Value as Read, TooLarge, NotANumber}
 use Rattle.text_words.specs.Words.{is, First, reading, valueIn, decimal, numberOf}
 use Rattle.text_words.proofs.Laws.{of-value, of-none, not-large, is-value, value-bound, value-join, value-some, reading-append, getD-slice}
 use Rattle.text_times.specs.declared.Time.{Time}
 use Rattle.text_times.specs.declared.Time.the-variants.{Value, NotATime}
-use Rattle.text_times.specs.Times.{pick, ratio, ofDigits, pointAt, ofDecimal, patternOf, ofPattern, ofWord, same, timeOf}
+use Rattle.text_times.specs.Times.{ratio, ofDigits, pointAt, ofDecimal, patternOf, ofPattern, ofWord, same, timeOf}
 
 value-none-at : NotANumber ≡ numberOf (decimal [])
 unfolding valueIn numberOf

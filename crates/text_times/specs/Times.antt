@@ -6,6 +6,7 @@ use Prim.Native.Nat.{ℕ, suc, _+_, _-_, _*_, _/_, _%_, _^_}
 use lib.Dec.{leb, ltb, eqb}
 use lib.Ieee.{Float, nan, inf, fin, binary64, round, up, down, ofBits, toBits}
 use lib.ListN.{length, take, drop}
+use Rattle.model.specs.Words.{pick}
 use Rattle.text_words.specs.Words.{valueIn, decimal}
 use Rattle.text_print.specs.Print.{numeral, pattern}
 use Rattle.text_times.specs.declared.Time.{Time}
@@ -14,10 +15,6 @@ use Rattle.text_times.specs.declared.Size.{Size}
 use Rattle.text_times.specs.declared.Size.the-variants.{Whole, Other}
 
 -- ---- what is read
-
-abbrev pub pick : Bool → Time → Time → Time
-pick true a b = a
-pick false a b = b
 
 -- the digits as a whole number, over the power of ten, rounded once; neg is its sign, of 0 too
 abbrev pub ratio : Bool → ℕ → Option ℕ → Time

@@ -6,7 +6,7 @@ use mathlib.Core.Option.{Option, none, some}
 use Prim.Native.Nat.{ℕ, _+_, _-_, _*_, _^_, _≤_, _<_}
 use lib.Dec.{leb, ltb, eqb}
 use lib.ListN.{length, getD}
-use Rattle.model.specs.Words.{Each}
+use Rattle.model.specs.Words.{Each, pick}
 use Rattle.text_words.specs.declared.Number.{Number}
 use Rattle.text_words.specs.declared.Number.the-variants.{Value, TooLarge, NotANumber}
 
@@ -67,10 +67,6 @@ valueIn base (b ∷ bs) = reading base (some 0) (b ∷ bs)
 
 abbrev pub decimal : List ℕ → Option ℕ
 decimal w = valueIn 10 w
-
-abbrev pick : Bool → Number → Number → Number
-pick true a b = a
-pick false a b = b
 
 -- a value as a u64
 unfoldable pub numberOf : Option ℕ → Number

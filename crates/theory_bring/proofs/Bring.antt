@@ -1,6 +1,5 @@
 -- A bring-in keeps a store sound: at capacity 0 the store stays as it is, else the gaps are filled and the store is trimmed. Assumes nothing.
 use Prim.Native.Nat.{ℕ, zero, suc, _+_, _≤_}
-use mathlib.Core.Bool.{false}
 use mathlib.Core.Path.{_≡_, refl}
 use mathlib.Core.List.{List}
 use native.Mathlib.Omega.{arith}
@@ -19,7 +18,7 @@ use Rattle.theory_sound.specs.Facts.{IdsFrom}
 use Rattle.theory_sound.specs.StoreSound.{RangesSound, StoreSound}
 use Rattle.theory_bring.proofs.Facts.{thin-length, ids-same, ids-trans, Steady, steady-same}
 use Rattle.theory_bring.proofs.Evict.{cut-sound, cut-ids, Evicted, evicted-cut, evicted-marks, evicted-few}
-use Rattle.theory_bring.proofs.Trim.{trim-evicted, trim-fits}
+use Rattle.theory_bring.proofs.Trim.{trim-evicted}
 use Rattle.theory_bring.proofs.Fill.{gaps-rising, gaps-clear, fill-length, fill-ids, fill-marks, fill-sound}
 
 module _ (t : Tree) (table : List ℕ) (next : ℕ) (x : Store) (sp : Span) (time : Float) (write : ℕ) where
@@ -107,19 +106,7 @@ module _ (t : Tree) (table : List ℕ) (next : ℕ) (x : Store) (sp : Span) (tim
       bring-cases (λ k b. length (x .ranges) + k ≤ storeRecords → length (b .outs) ≤ outPlaces) (λ e room. omega arith)
       (λ c room. omega (arith, evicted-few row, long))
 
-  pub bring-stamp : bring t table x next sp time write .store .book .stamp ≡ x .book .stamp + bringNeed x sp
-  unfolding giveBack keep
-  bring-stamp = bring-cases (λ k b. b .store .book .stamp ≡ x .book .stamp + k) (λ e. omega arith) (λ c. refl)
-
   pub bring-steady : Steady x (bring t table x next sp time write .store)
   unfolding giveBack keep
   bring-steady =
       bring-cases (λ k b. Steady x (b .store)) (λ e. steady-same x) (λ c. record { book = refl; pins = refl })
-
-  -- a bring-in that does not stall leaves no more than the capacity
-  pub bring-fits : StoreSound t next x → bring t table x next sp time write .stalled ≡ false
-      → bring t table x next sp time write .store .book .held ≤ x .book .capacity
-  unfolding giveBack keep
-  bring-fits h =
-      bring-cases (λ k b. b .stalled ≡ false → b .store .book .held ≤ x .book .capacity) (λ e s. omega (arith, h .heldNone e))
-      (λ c. trim-fits t table (x .pins) (x .book .capacity) filled (x .marks))

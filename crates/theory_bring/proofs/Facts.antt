@@ -173,10 +173,6 @@ pub ids-trans : (old mid rs : List Range) (next later : ℕ) → next ≤ later 
 ids-trans old mid rs next later l h =
     all-map (λ r. ⊎-elim (λ k. has-all (λ i. HasId i old ⊎ (next ≤ i)) (r .id) mid k h) (λ (n : later ≤ r .id). inr (omega arith))) rs
 
--- over more old ranges
-pub ids-more : (old more rs : List Range) (next : ℕ) → ((i : ℕ) → HasId i old → HasId i more) → IdsFrom old next rs → IdsFrom more next rs
-ids-more old more rs next f = all-map (λ r. ⊎-elim (λ h. inl (f (r .id) h)) (λ l. inr l)) rs
-
 -- ranges whose ids are old ones or new ones are apart from those that the old ones are apart from
 pub apart-kept : (old rs qs : List Range) (next : ℕ) → IdsFrom old next rs → All (IdBetween next) qs → ApartFrom old qs → ApartFrom rs qs
 apart-kept old rs qs next f b a =

@@ -67,6 +67,10 @@ module _ {L A : Type 0} {cs : List Condition} {st : State} {l : L} (st′ : Stat
       go zero k e = record { none = accepted-none k; answer = cc; state = refl }
       go (suc n) k e = let z : _≡_ {A = ℕ} 0 1 = cc in absurd (omega arith)
 
+  -- no condition holds where the first number is 0
+  pub none-where : KeptWhenRefused cs st l (outcome st l st′ l′ v (firstOf cs)) → firstOf cs ≡ 0 → NoneHolds cs
+  none-where k e = accepted-none (subst (λ (n : ℕ). KeptWhenRefused cs st l (outcome st l st′ l′ v n)) e k)
+
   -- what holds of v holds of the answer
   pub unless-answer : (P : A → Type 0) → KeptWhenRefused cs st l (outcome st l st′ l′ v (firstOf cs)) → (NoneHolds cs → P v) → (a : A)
       → outcome st l st′ l′ v (firstOf cs) .answer ≡ done a → P a

@@ -7,7 +7,7 @@ use native.Mathlib.Omega.{arith}
 use lib.Ieee.{Float}
 use Rattle.model.specs.declared.Span.{Span}
 use Rattle.model.specs.Sizes.{storeRecords, storePins}
-use Rattle.model.specs.State.{State, at, storesOf, recordsOf, heldOf, entriesOf}
+use Rattle.model.specs.State.{State, storesOf, recordsOf, heldOf, entriesOf}
 use Rattle.model.specs.Sound.{Sound}
 use Rattle.model.specs.Refusals.{PathList, OutList, SpanIn, noSpan, cutRecords, cutEntries}
 use Rattle.model.specs.Calls.{done, LookupLists, setUp, resolveCall, insert, storeInsert, storeUsed, storeRemove, storeExpire, pinSource, unpinSource, lookup, heldCall, capacityCall, pinnedCall, availableCall, versionCall, stallsCall}

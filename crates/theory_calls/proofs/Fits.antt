@@ -17,7 +17,7 @@ use Rattle.model.specs.declared.RemoveAnswer.{RemoveAnswer}
 use Rattle.model.specs.declared.ExpireAnswer.{ExpireAnswer}
 use Rattle.model.specs.declared.LookupAnswer.{LookupAnswer}
 use Rattle.model.specs.Sizes.{maxNodes, maxHashes, storeRecords, pathPlaces, outPlaces, tierPlaces}
-use Rattle.model.specs.State.{State, at, storesOf, nextIdOf, recordsOf}
+use Rattle.model.specs.State.{State, storesOf, nextIdOf, recordsOf}
 use Rattle.model.specs.Sound.{Sound}
 use Rattle.model.specs.Tree.{Seg, resolve, blocks}
 use Rattle.model.specs.Store.{storeOf, plus}

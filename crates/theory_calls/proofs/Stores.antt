@@ -39,7 +39,7 @@ stalls-most : (b : Bool) (n : ℕ) → n ≤ maxStalls → stallsAfter b n ≤ m
 stalls-most true n l = omega arith
 stalls-most false n l = l
 
-stamp-is : (st : State) (s : ℕ) → storeOf st s .book .stamp ≡ stampOf st s
+pub stamp-is : (st : State) (s : ℕ) → storeOf st s .book .stamp ≡ stampOf st s
 unfolding storeOf
 stamp-is st s = refl
 

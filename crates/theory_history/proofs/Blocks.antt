@@ -4,16 +4,16 @@ use Prim.Native.Nat.{ℕ, zero, suc, _+_, _-_, _≤_, _<_, min, max}
 use mathlib.Core.Bool.{Bool, true, false, not, _&&_, _||_, true≢false, false≢true}
 use mathlib.Core.List.{List, [], _∷_, _++_}
 use mathlib.Core.Option.{Option, none, some, Option·some-injective, Option·none-ne-some}
-use mathlib.Core.Path.{_≡_, refl, sym, ap, subst, _∙_}
+use mathlib.Core.Path.{_≡_, refl, sym, subst, _∙_}
 use mathlib.Core.Logic.{_⊎_, inl, inr, ⊎-elim}
 use native.Mathlib.Omega.{arith}
 use lib.ListN.{length}
 use lib.Dec.{leb, ltb, eqb}
 use lib.Ieee.{Float}
-use borrow.Author.Tests.{leb-true, leb-false, ltb-true, ltb-false, eqb-true, eqb-false}
+use borrow.Author.Tests.{leb-true, ltb-true, ltb-false, eqb-true, eqb-false}
 use Rattle.model.specs.State.{Tree, Range, Pin}
-use Rattle.model.specs.Sound.{Before, Inside}
-use Rattle.model.specs.Store.{lengthOf, ahead, insert, part, put, plus, unmark}
+use Rattle.model.specs.Sound.{Before}
+use Rattle.model.specs.Store.{lengthOf, ahead, insert, put, plus, unmark}
 use Rattle.model.specs.Trim.{Out, told, nth, isPinned, first, evict, shortened, Trimmed, also, amount, chosen, trimBy}
 use Rattle.model.specs.Expire.{aged, ifAged, oldest, expireBy}
 use Rattle.model.specs.Bring.{Gap, piece, gapEnd, behind, gaps, fresh, fill}

@@ -1,24 +1,21 @@
 -- After the cut of node j at k every store has its own ranges, cut: each turn cuts one store and leaves the others. Assumes nothing.
 use Prim.Native.Nat.{ℕ, zero, suc, _+_, _≤_, _<_, zero-le}
-use mathlib.Core.Path.{_≡_, refl, sym, ap, subst, _∙_}
-use mathlib.Core.Logic.{_⊎_, inl, inr, _≢_}
-use mathlib.Core.List.{List, _++_}
+use mathlib.Core.Path.{_≡_, refl, ap, subst, _∙_}
+use mathlib.Core.List.{_++_}
 use native.Mathlib.Omega.{arith}
 use native.Mathlib.Nat.{le-refl, le-of-eq, zero-add}
 use native.Mathlib.Decide.{ℕ-discrete}
-use lib.ListN.{length}
 use Rattle.model.specs.Words.{Each}
 use Rattle.model.specs.Sizes.{maxNodes, maxStamp, storeRecords, storePins}
-use Rattle.model.specs.State.{Tree, State, Range, at, storesOf, nextIdOf, stallsOf, recordsOf, entriesOf}
-use Rattle.model.specs.Store.{Store, storeOf, withRanges, withPins, withNext}
-use Rattle.model.specs.Insert.{nextNode, cutTree, heads, tails, cutStore, cutStoreIn, cutStores, rangesAcross, pinsAcross, withTree, cut}
+use Rattle.model.specs.State.{Tree, State, at, storesOf, nextIdOf, recordsOf, entriesOf}
+use Rattle.model.specs.Store.{Store, storeOf}
+use Rattle.model.specs.Insert.{nextNode, cutTree, heads, tails, cutStore, cutStoreIn, cutStores, pinsAcross, withTree, cut}
 use Rattle.theory_lay.proofs.Store.{records-length, entries-length}
 use Rattle.theory_sound.specs.Facts.{All}
 use Rattle.theory_sound.specs.StoreSound.{TreeSound, StoreSound, Parts}
 use Rattle.theory_cut.proofs.CutTree.{cutTree-sound}
 use Rattle.theory_cut.proofs.CutStore.{cut-last, below-nodes, cutStore-ids, cutStore-length, cutStore-pins, cutStore-sound}
-use Rattle.theory_calls.proofs.Laid.{Laid, laid-next, laid-both}
-use Rattle.theory_calls.proofs.Changed.{midway-sizes}
+use Rattle.theory_calls.proofs.Laid.{Laid}
 use Rattle.theory_calls.proofs.Cut.{Room, StoreCut, needs, sumTo, Cutting, first-turn, cutIn-is, laid, next-turn, inUse}
 
 -- the ranges of store q are those it had, cut; new ids begin somewhere

@@ -1,20 +1,20 @@
 -- A cut and a leaf change no name: the way down to a block goes through the same hashes, after a cut of node j by way of its two halves. Assumes nothing.
-use Prim.Native.Nat.{ℕ, zero, suc, _+_, _-_, _≤_, _<_}
-use mathlib.Core.List.{List, [], _∷_, _++_, append-assoc}
+use Prim.Native.Nat.{ℕ, suc, _+_, _-_, _≤_, _<_}
+use mathlib.Core.List.{List, _++_, append-assoc}
 use mathlib.Core.Path.{_≡_, refl, sym, ap, subst, _∙_}
-use mathlib.Core.Logic.{_⊎_, inl, inr, ⊎-elim, _≢_}
+use mathlib.Core.Logic.{inl, _≢_}
 use native.Mathlib.Omega.{arith}
 use native.Mathlib.Nat.{le-refl}
 use native.Mathlib.Decide.{ℕ-discrete}
 use lib.ListN.{length, take, drop}
 use lib.Seq.{take-append-le, take-append-add, take-add, drop-drop}
 use borrow.Author.Tests.{eq-eqb, ne-eqb}
-use Rattle.model.specs.Sizes.{maxNodes, maxWords}
+use Rattle.model.specs.Sizes.{maxWords}
 use Rattle.model.specs.State.{Tree, at}
 use Rattle.model.specs.Sound.{RunsBelow}
 use Rattle.model.specs.Chained.{hashesOf, Child}
 use Rattle.model.specs.Store.{lay}
-use Rattle.model.specs.Insert.{adopt, cutTree, addLeaf}
+use Rattle.model.specs.Insert.{adopt}
 use Rattle.theory_lay.proofs.Lay.{lay-window}
 use Rattle.theory_sound.specs.StoreSound.{TreeSound}
 use Rattle.theory_cut.proofs.CutTree.{CutTo}

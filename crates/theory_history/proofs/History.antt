@@ -17,15 +17,16 @@ use Rattle.model.specs.Refusals.{firstOf, setUpRefusals}
 use Rattle.model.specs.Calls as Calls
 use Rattle.model.specs.Calls.{done, Outcome, NoList, NoValue}
 use Rattle.theory_refuse.proofs.Refused.{setUp-kept}
+use Rattle.theory_refuse.proofs.Unless.{unless-none}
 use Rattle.theory_bring.proofs.Facts.{all-map}
-use Rattle.theory_calls.proofs.Accepted.{unless-done, set-up-fits}
+use Rattle.theory_calls.proofs.Accepted.{unless-done, set-up-fits, none-where}
 use Rattle.theory_calls.proofs.Stores.{store-sound}
 use Rattle.theory_calls.proofs.Calls as Kept
 use Rattle.model.specs.Blocks.{Holds}
 use Rattle.theory_history.specs.Names.{nameOf}
 use Rattle.theory_history.specs.History.{Call, setUp, resolve, insert, storeInsert, storeUsed, storeRemove, storeExpire, pinSource, unpinSource, lookup, storeHeld, storeCapacity, storePinned, storeAvailable, sourceVersion, pinStalls, bySetUp, replyOf, History, next, tell, since, run, nothing, Exactly, Steps, runAll, sinceAll}
 use Rattle.theory_history.proofs.Exact.{real-held, same-block, Exact, still}
-use Rattle.theory_history.proofs.Steps.{each-way, unless-at, none-where, storeInsert-exact, storeRemove-exact, storeExpire-exact, storeUsed-exact, pin-exact, unpin-exact}
+use Rattle.theory_history.proofs.Steps.{each-way, storeInsert-exact, storeRemove-exact, storeExpire-exact, storeUsed-exact, pin-exact, unpin-exact}
 use Rattle.theory_history.proofs.Insert.{insert-exact}
 use Rattle.theory_history.proofs.Number.{namesOf, names-length, names-held, held-names, names-once}
 
@@ -81,7 +82,7 @@ module _ (a : State) (table capacity : List ℕ) (refreshes : List Bool) where
   accepted-sound : n₀ ≡ 0 → Sound (made .state)
   unfolding Calls.setUp made
   accepted-sound e =
-      let is : Calls.setUp a table capacity refreshes ≡ made = unless-at n₀ 0 a tt made e in
+      let is : Calls.setUp a table capacity refreshes ≡ made = unless-none a tt made n₀ e in
       subst (λ (r : Outcome NoList NoValue). Sound (r .state)) is
       (Kept.setUp-sound a table capacity refreshes (ap (λ (r : Outcome NoList NoValue). r .answer) is))
 

@@ -26,7 +26,7 @@ use Rattle.theory_cut.proofs.Leaf.{leaf-to}
 use Rattle.theory_cut.proofs.Insert.{match-end, leaf-here, leaf-cut, cut-tree}
 use Rattle.theory_calls.proofs.Parts.{sound-parts}
 use Rattle.theory_calls.proofs.Cut.{needs, sumTo, records-counted, entries-counted, ids-counted}
-use Rattle.theory_calls.proofs.Accepted.{NoneHolds, each-fits}
+use Rattle.theory_calls.proofs.Accepted.{NoneHolds, each-fits, none-where}
 use Rattle.theory_calls.proofs.Insert.{after-cut}
 use Rattle.model.specs.Blocks.{Holds}
 use Rattle.theory_history.specs.Names.{nameOf, Stored}
@@ -35,7 +35,6 @@ use Rattle.theory_history.proofs.Grown.{leaf-name, stay-name, move-name
 use Rattle.theory_history.proofs.Blocks.{lt-or-le, cut-holds, cut-stays, cut-moves}
 use Rattle.theory_history.proofs.CutStores.{WasCut, stores-cut}
 use Rattle.theory_history.proofs.Exact.{real-parts, Exact, Renames, renames-exact}
-use Rattle.theory_history.proofs.Steps.{none-where}
 
 renames-same : (a : State) → Renames a a
 renames-same a = record { stores = refl; came = λ q w l x. x; kept = λ q w l x. x }

@@ -1,18 +1,17 @@
 -- In a sound tree every block has one name, and two blocks have two: a name read from the root goes down by the first hash of each child, and siblings
 -- differ in it. Assumes nothing.
 use Prim.Native.Nat.{ℕ, zero, suc, _+_, _-_, _≤_, _<_, min}
-use mathlib.Core.Bool.{Bool, true, false}
-use mathlib.Core.List.{List, [], _∷_, _++_, append-assoc}
+use mathlib.Core.List.{List, [], _++_, append-assoc}
 use mathlib.Core.Path.{_≡_, refl, sym, ap, subst, _∙_}
 use mathlib.Core.Logic.{_⊎_, inl, inr, ⊎-elim}
 use native.Mathlib.Omega.{arith}
 use lib.ListN.{length, take, drop, length-append, length-take, length-drop, List·getD-append}
 use lib.Seq.{getD-take, getD-drop, drop-append-seam}
 use native.Mathlib.Nat.{add-zero}
-use borrow.Author.Tests.{eq-eqb, ne-eqb}
-use Rattle.model.specs.Sizes.{maxHashes, maxWords}
-use Rattle.model.specs.State.{Tree, State, at, firstHash, endOf}
-use Rattle.model.specs.Sound.{EachNode, ParentsInUse, DepthsAdd, EndsWithin, NodesFilled, RunsBelow, SiblingsDiffer}
+use borrow.Author.Tests.{ne-eqb}
+use Rattle.model.specs.Sizes.{maxHashes}
+use Rattle.model.specs.State.{Tree, at, firstHash, endOf}
+use Rattle.model.specs.Sound.{ParentsInUse, DepthsAdd, EndsWithin, NodesFilled, RunsBelow, SiblingsDiffer}
 use Rattle.model.specs.Chained.{hashesOf, Child}
 use Rattle.theory_sound.specs.StoreSound.{TreeSound}
 use Rattle.theory_history.specs.Names.{above, nameOf}

@@ -22,11 +22,11 @@ use Rattle.model.specs.Store.{Store, ranges, storeOf, layBook, layNext, withRan
 use Rattle.model.specs.Remove.{Removed}
 use Rattle.model.specs.Expire.{Expired, expire}
 use Rattle.model.specs.Pins.{pinOf, addPin, takePin, repinned, pin, pinNeed, unpin}
-use Rattle.model.specs.Refusals.{Condition, firstOf, OutList, SpanIn, noSpan, touchedBy, touchSpan, turnRefusals, storeInsertRefusals, storeUsedRefusals, storeRemoveRefusals, storeExpireRefusals, pinRefusals, unpinRefusals}
+use Rattle.model.specs.Refusals.{firstOf, OutList, SpanIn, noSpan, touchedBy, touchSpan, turnRefusals, storeInsertRefusals, storeUsedRefusals, storeRemoveRefusals, storeExpireRefusals, pinRefusals, unpinRefusals}
 use Rattle.model.specs.Calls as Calls
 use Rattle.model.specs.Calls.{Outcome, done, unless, layOuts, front, brought, bringIn, touchSpans, bytesTouched}
-use Rattle.theory_refuse.specs.Refused.{KeptWhenRefused}
 use Rattle.theory_refuse.proofs.Refused.{storeInsert-kept, storeUsed-kept, storeRemove-kept, storeExpire-kept, pin-kept, unpin-kept}
+use Rattle.theory_refuse.proofs.Unless.{unless-none}
 use Rattle.theory_lay.proofs.Books.{book-read, book-other}
 use Rattle.theory_lay.proofs.Store.{Roomy, sound-roomy, RangesFit, records-length, ranges-read, ranges-other, next-store}
 use Rattle.theory_sound.specs.Facts.{All}
@@ -37,8 +37,8 @@ use Rattle.model.specs.Blocks.{Holds, InSpan}
 use Rattle.theory_touch.proofs.Touch.{touch-holds, touch-length, touch-sound, touch-steady}
 use Rattle.theory_touch.proofs.Remove.{remove-holds, remove-length, remove-sound, remove-steady}
 use Rattle.theory_calls.proofs.Changed.{ranges-fit}
-use Rattle.theory_calls.proofs.Accepted.{NoneHolds, unless-done, neither, span-in, is-finite}
-use Rattle.theory_calls.proofs.Stores.{store-sound, removedBy, touchSpan-sound}
+use Rattle.theory_calls.proofs.Accepted.{NoneHolds, neither, span-in, is-finite, none-where}
+use Rattle.theory_calls.proofs.Stores.{store-sound, removedBy, touchSpan-sound, stamp-is}
 use Rattle.theory_calls.proofs.Calls.{storeInsert-sound, storeRemove-sound, storeExpire-sound}
 use Rattle.theory_room.proofs.After.{Taken, own, others, tree-stays, stores-stay}
 use Rattle.theory_room.proofs.Room.{taken}
@@ -55,19 +55,6 @@ pub each-way : {L A : Type 0} (P : Outcome L A → Type 0) (n : ℕ) (st : State
     → ((m : ℕ) → P (unless (suc m) st l o)) → P (unless n st l o)
 each-way P zero st l o f g = f refl
 each-way P (suc n) st l o f g = g n
-
-pub unless-at : {L A : Type 0} (n m : ℕ) (x : State) (l : L) (o : Outcome L A) → n ≡ m → unless n x l o ≡ unless m x l o
-unless-at n m x l o e = ap (λ k. unless k x l o) e
-
--- no condition holds where the first number is 0
-pub none-where : {L A : Type 0} {cs : List Condition} {st : State} {l : L} (st′ : State) (l′ : L) (v : A)
-    → KeptWhenRefused cs st l (unless (firstOf cs) st l (record { state = st′; lists = l′; answer = done v })) → firstOf cs ≡ 0 → NoneHolds cs
-none-where {cs = cs} {st = st} {l = l} st′ l′ v k e =
-    unless-done st′ l′ v k v (ap (λ (o : Outcome _ _). o .answer) (unless-at (firstOf cs) 0 st l (record { state = st′; lists = l′; answer = done v }) e)) .none
-
-stamp-is : (st : State) (s : ℕ) → storeOf st s .book .stamp ≡ stampOf st s
-unfolding storeOf
-stamp-is st s = refl
 
 -- ---- a store of the state with other ranges
 
@@ -142,7 +129,7 @@ module _ (a : State) (l : OutList) (s : ℕ) (sp : Span) (time : Float) (write :
   module _ (e : n₀ ≡ 0) where
     done-is : Calls.storeInsert a l s sp time write ≡ made
     unfolding Calls.storeInsert made
-    done-is = unless-at n₀ 0 a l made e
+    done-is = unless-none a l made n₀ e
 
     took : Taken a s sp time
     unfolding Calls.storeInsert
@@ -213,7 +200,7 @@ module _ (a : State) (l : List ℕ) (s : ℕ) (sp : Span) (h : History) (sound :
   module _ (e : r₀ ≡ 0) where
     gone-is : Calls.storeRemove a l s sp ≡ unmade
     unfolding Calls.storeRemove unmade removed w
-    gone-is = unless-at r₀ 0 a l unmade e
+    gone-is = unless-none a l unmade r₀ e
 
     asks : (s < storesOf a) × (SpanIn (a .tree) sp × (recordsOf a s + w .need ≤ storeRecords))
     unfolding Calls.storeRemove
@@ -295,7 +282,7 @@ module _ (a : State) (l : OutList) (s : ℕ) (now seconds : Float) (h : History)
   module _ (e : x₀ ≡ 0) where
     aged-is : Calls.storeExpire a l s now seconds ≡ outlived
     unfolding Calls.storeExpire outlived expired aged
-    aged-is = unless-at x₀ 0 a l outlived e
+    aged-is = unless-none a l outlived x₀ e
 
     used : s < storesOf a
     unfolding Calls.storeExpire

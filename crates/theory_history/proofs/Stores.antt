@@ -1,29 +1,27 @@
 -- The blocks of one store after a bring-in and after an expiry, and the given-out spans as their answer list has them. Assumes nothing.
 use Prim.Native.Nat.{ℕ, zero, suc, _+_, _-_, _≤_, _<_}
-use mathlib.Core.Bool.{Bool, true, false}
 use mathlib.Core.List.{List, [], _∷_, _++_, map}
-use mathlib.Core.Option.{Option, none, some}
-use mathlib.Core.Path.{_≡_, refl, sym, ap, subst, _∙_}
+use mathlib.Core.Path.{_≡_, refl, sym, subst, _∙_}
 use mathlib.Core.Logic.{_⊎_, inl, inr, ⊎-elim}
 use native.Mathlib.Omega.{arith}
-use lib.ListN.{length, drop, length-map, List·getD-append}
+use lib.ListN.{length}
 use lib.Ieee.{Float}
 use Rattle.model.specs.declared.Span.{Span}
 use Rattle.model.specs.State.{Tree, Range, at}
 use Rattle.model.specs.Sound.{Finite, Inside}
-use Rattle.model.specs.Store.{Store, lengthOf, total}
-use Rattle.model.specs.Trim.{Out, Trimmed, asked, chosen, trimBy, trim}
+use Rattle.model.specs.Store.{Store, total}
+use Rattle.model.specs.Trim.{Out, asked, chosen, trim}
 use Rattle.model.specs.Bring.{Brought, gaps, fill, giveBack, keep, bring}
-use Rattle.model.specs.Expire.{oldest, expireBy, expire}
+use Rattle.model.specs.Expire.{oldest, expireBy}
 use Rattle.model.specs.Refusals.{SpanIn, OutList}
 use Rattle.model.specs.Calls.{layOuts}
 use Rattle.theory_sound.specs.Facts.{All}
-use Rattle.theory_sound.specs.StoreSound.{StoreSound, RangesSound}
+use Rattle.theory_sound.specs.StoreSound.{StoreSound}
 use Rattle.theory_bring.proofs.Bring.{bring-cases}
 use Rattle.theory_bring.proofs.Fill.{gaps-rising, gaps-clear, fill-sound}
-use Rattle.model.specs.Blocks.{In, Holds, InSpan}
+use Rattle.model.specs.Blocks.{Holds, InSpan}
 use Rattle.theory_history.specs.History.{Listed}
-use Rattle.theory_history.proofs.Blocks.{InGaps, InOut, InOuts, Split, gap-within, gap-or-held, fill-holds, holds-fill, trim-split, expire-split}
+use Rattle.theory_history.proofs.Blocks.{InGaps, InOuts, Split, gap-within, gap-or-held, fill-holds, holds-fill, trim-split, expire-split}
 
 -- ---- nothing is held where held is 0
 

@@ -1,7 +1,7 @@
 -- The small numbers: what is laid for a store is read back from its part, another store's is as it was, and to lay back what was read changes nothing.
 -- Assumes nothing.
 use Prim.Native.Nat.{ℕ, zero, suc, _+_, _-_, _*_, _≤_, _<_}
-use mathlib.Core.Path.{_≡_, refl, sym, ap, _∙_}
+use mathlib.Core.Path.{_≡_, refl, ap, _∙_}
 use mathlib.Core.Logic.{_≢_}
 use mathlib.Core.List.{List, [], _∷_}
 use native.Mathlib.Omega.{arith}
@@ -84,10 +84,6 @@ module _ (a b : ℕ) (l : List ℕ) (s : ℕ) where
   pub next-book : bookIn (layNext a b l) s ≡ bookIn l s
   unfolding layNext bookIn
   next-book = refl
-
-  pub counts-book : bookIn (layCounts a b l) s ≡ bookIn l s
-  unfolding layCounts bookIn
-  counts-book = refl
 
 module _ (l : List ℕ) (long : maxNumbers ≤ length l) where
   pub next-length : (a b : ℕ) → length (layNext a b l) ≡ length l

@@ -103,10 +103,6 @@ module _ {A : Type 0} (blank : A) (a k : ℕ) (xs pool : List A) (short : length
   pub lay-in : (i : ℕ) (d : A) → i < length xs → getD (lay blank a k xs pool) (a + i) d ≡ getD xs i d
   lay-in i d h = rw (← getD-drop, lay-from) (List·getD-append xs _ d i h)
 
-  pub lay-blank : (i : ℕ) (d : A) → length xs ≤ i → i < k → getD (lay blank a k xs pool) (a + i) d ≡ blank
-  lay-blank i d past less =
-      rw (← getD-drop, lay-from) (getD-past i xs _ d past ∙ blank-at (k - length xs) (i - length xs) blank d (drop (a + k) pool) (omega arith))
-
   pub lay-off : (i : ℕ) (d : A) → Off a k i → getD (lay blank a k xs pool) i d ≡ getD pool i d
   lay-off i d (inl h) = same-take a i _ pool d h (lay-take a (le-refl a))
   lay-off i d (inr h) = same-drop i _ pool d (lay-drop i h)

@@ -1,10 +1,10 @@
 -- The view of a store: what is laid in a store's part of the pools is read back from it, another store's is as it was, and to lay back what was read
 -- changes nothing. Assumes nothing.
-use Prim.Native.Nat.{ℕ, zero, suc, _+_, _*_, _≤_, _<_}
+use Prim.Native.Nat.{ℕ, _+_, _*_, _≤_, _<_}
 use mathlib.Core.Path.{_≡_, refl, sym, ap, subst, _∙_}
 use mathlib.Core.Logic.{_≢_}
 use mathlib.Core.Bool.{false}
-use mathlib.Core.List.{List, [], _∷_}
+use mathlib.Core.List.{List}
 use native.Mathlib.Omega.{arith}
 use native.Mathlib.Nat.{add-zero, le-refl}
 use native.Mathlib.Decide.{ℕ-discrete}
@@ -16,10 +16,10 @@ use Rattle.model.specs.State.{Ranges, Pins, State, Range, Pin, at, recordOf, en
 use Rattle.model.specs.Sound.{Sound, Lent, TreeLent, RangesLent, PinsLent, heldBy, pinnedBy, HoldsNone}
 use Rattle.model.specs.Store.{Store, ranges, pins, storeOf, lay, layRanges, layPins, layBook, layNext, withRanges, withPins, withNext, total, onNode}
 use Rattle.model.specs.Pins.{pinnedIn}
-use Rattle.theory_lay.proofs.Lay.{apart-stores, lay-length, lay-read, lay-window, lay-same}
+use Rattle.theory_lay.proofs.Lay.{apart-stores, lay-length, lay-read, lay-window}
 use Rattle.theory_lay.proofs.Books.{book-read, book-other, book-length, book-back, next-length}
 use Rattle.theory_lay.proofs.Rows.{ranges-length, ranges-at, pins-length, pins-at, held-total, pinned-sum, none-off, off-none}
-use Rattle.theory_lay.proofs.Pools.{ranges-lent, ranges-in, ranges-off, ranges-back, pins-lent, pins-in, pins-off, pins-back}
+use Rattle.theory_lay.proofs.Pools.{ranges-lent, ranges-in, ranges-off, pins-lent, pins-in, pins-off, pins-back}
 
 -- ---- the sizes with which store s is read and laid back
 
@@ -213,29 +213,6 @@ module _ (st : State) (s need : ℕ) (x : Store) (roomy : Roomy st s) (fit : Ran
   unfolding withRanges
   lent-ranges h = roomy-lent (withRanges s need x st) s (ranges-roomy s roomy) (h .tree) (h .bytes)
 
--- to lay back what was read
-module _ (st : State) (s : ℕ) (roomy : Roomy st s) where
-  back-ranges : laidRanges st s 0 (storeOf st s) ≡ st .ranges
-  unfolding laidRanges storeOf
-  back-ranges = rw add-zero (ranges-back (storeRecords * s) (recordsOf st s) (st .ranges) (roomy .ranges) (omega arith))
-
-  back-marks : laidMarks st s (storeOf st s) ≡ st .marks
-  unfolding laidMarks storeOf
-  back-marks = lay-same 0 (storeMarks * s) storeMarks (storeOf st s .marks) (st .marks) (marks-length st s (roomy .marks) (roomy .store)) refl
-
-  pub ranges-same : withRanges s 0 (storeOf st s) st ≡ st
-  unfolding withRanges storeOf laidRanges laidMarks
-  ranges-same =
-      λ j.
-      record {
-        tree = st .tree;
-        ranges = back-ranges j;
-        pins = st .pins;
-        marks = back-marks j;
-        bytes = st .bytes;
-        books = book-back s (st .books) (roomy .store) (roomy .books) j;
-      }
-
 -- ---- the pins' side
 
 laidPins : State → ℕ → ℕ → Store → Pins
@@ -334,19 +311,6 @@ module _ (next stalls : ℕ) (st : State) where
   pub next-store : (q : ℕ) → storeOf (withNext next stalls st) q ≡ storeOf st q
   unfolding storeOf withNext bookIn layNext
   next-store q = refl
-
-  pub next-roomy : (q : ℕ) → Roomy st q → Roomy (withNext next stalls st) q
-  unfolding withNext bookIn layNext
-  next-roomy q h =
-      record {
-        ranges = h .ranges;
-        pins = h .pins;
-        marks = h .marks;
-        books = rw (next-length (st .books) (h .books) next stalls) (h .books);
-        store = h .store;
-        records = h .records;
-        entries = h .entries;
-      }
 
   pub lent-next : Lent st → Lent (withNext next stalls st)
   unfolding withNext

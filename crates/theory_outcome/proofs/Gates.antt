@@ -21,14 +21,13 @@ use Rattle.model.specs.State.{State}
 use Rattle.model.specs.Sound.{Sound}
 use Rattle.model.specs.Tree.{resolve, blocks}
 use Rattle.model.specs.Store.{storeOf, withRanges, withPins, withNext}
-use Rattle.model.specs.Bring.{bringNeed}
 use Rattle.model.specs.Remove.{remove}
 use Rattle.model.specs.Expire.{expire}
 use Rattle.model.specs.Pins.{pin, pinNeed, unpin}
 use Rattle.model.specs.Lookup.{lookupPath, tierSums}
 use Rattle.model.specs.Insert.{insertPath}
-use Rattle.model.specs.Refusals.{PathList, OutList, TierList, PathFits, OutFits, TierFits, resolveRefusals, insertRefusals, storeInsertRefusals, storeUsedRefusals, storeRemoveRefusals, storeExpireRefusals, pinRefusals, unpinRefusals, lookupRefusals, countRefusals, storeCountRefusals}
-use Rattle.model.specs.Calls.{Outcome, Answer, NoList, NoValue, LookupLists, refused, resolveCall, insert, brought, bringIn, storeInsert, touchSpans, bytesTouched, storeUsed, storeRemove, storeExpire, pinSource, unpinSource, lookup, heldCall, capacityCall, pinnedCall, availableCall, versionCall, stallsCall}
+use Rattle.model.specs.Refusals.{PathList, OutList, PathFits, OutFits, TierFits, resolveRefusals, insertRefusals, storeInsertRefusals, storeUsedRefusals, storeRemoveRefusals, storeExpireRefusals, pinRefusals, unpinRefusals, lookupRefusals, countRefusals, storeCountRefusals}
+use Rattle.model.specs.Calls.{NoList, NoValue, LookupLists, refused, resolveCall, insert, brought, bringIn, storeInsert, touchSpans, bytesTouched, storeUsed, storeRemove, storeExpire, pinSource, unpinSource, lookup, heldCall, capacityCall, pinnedCall, availableCall, versionCall, stallsCall}
 use Rattle.theory_refuse.proofs.Refusals.{first-is, resolve-exact, insert-exact, storeInsert-exact, storeUsed-exact, storeRemove-exact, storeExpire-exact, pin-exact, unpin-exact, lookup-exact, count-exact, storeCount-exact}
 use Rattle.shape_answer.specs.Answers.{outcome}
 

@@ -10,7 +10,7 @@ use Rattle.model.specs.declared.TouchAnswer.{TouchAnswer}
 use Rattle.model.specs.declared.RemoveAnswer.{RemoveAnswer}
 use Rattle.model.specs.declared.ExpireAnswer.{ExpireAnswer}
 use Rattle.model.specs.declared.LookupAnswer.{LookupAnswer}
-use Rattle.model.specs.State.{State, at}
+use Rattle.model.specs.State.{State}
 use Rattle.model.specs.Refusals.{Condition}
 use Rattle.model.specs.Calls.{Outcome, Answer, refused, done, NoValue}
 use Rattle.theory_refuse.specs.Refused.{KeptWhenRefused}

@@ -18,7 +18,7 @@ use denote.Triple.Entry.{Args, Res}
 use denote.Triple.Clauses.{Ended, AtExit}
 use denote.Triple.Spec.{Spec, exits}
 use Rattle.model.specs.Refusals.{PathList}
-use Rattle.theory_outcome.specs.Settled.{Pools, World, Left}
+use Rattle.theory_outcome.specs.Settled.{Pools, Left}
 
 -- ---- the columns among the parameters
 

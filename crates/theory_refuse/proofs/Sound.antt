@@ -2,7 +2,7 @@
 -- the product of facts that comes out into the record. Assumes nothing.
 use Prim.Native.Nat.{ℕ, zero, suc, _+_, _≤_, min, max, zero-le}
 use mathlib.Core.Path.{_≡_}
-use mathlib.Core.Bool.{Bool, true, false, not, _&&_, _||_}
+use mathlib.Core.Bool.{Bool, true, false, _&&_, _||_}
 use mathlib.Core.List.{List, [], _∷_}
 use native.Mathlib.Nat.{le-of-suc-le-suc}
 use native.Mathlib.Omega.{arith}

@@ -1,29 +1,23 @@
 -- The stores of a state after an accepted bring-in: the one brought into has what `bring` leaves, every other is as it was. Assumes nothing.
-use Prim.Native.Nat.{ℕ, zero, suc, _+_, _≤_, _<_, zero-le}
+use Prim.Native.Nat.{ℕ, zero, suc, _+_, _≤_, _<_}
 use mathlib.Core.Path.{_≡_, refl, sym, ap, _∙_}
 use mathlib.Core.Logic.{_≢_}
 use mathlib.Core.List.{List}
 use native.Mathlib.Omega.{arith}
-use lib.ListN.{length}
 use lib.Ieee.{Float}
 use Rattle.model.specs.declared.Span.{Span}
-use Rattle.model.specs.Sizes.{storeRecords, storeMarks, maxStamp}
-use Rattle.model.specs.State.{Tree, State, at, storesOf, nextIdOf, stallsOf, capacityOf, recordsOf, stampOf}
+use Rattle.model.specs.Sizes.{storeRecords, maxStamp}
+use Rattle.model.specs.State.{Tree, State, storesOf, nextIdOf, stallsOf, capacityOf, recordsOf, stampOf}
 use Rattle.model.specs.Sound.{Sound, Finite}
 use Rattle.model.specs.Store.{Store, storeOf, withRanges, withNext, layBook, layNext}
 use Rattle.model.specs.Trim.{stallsAfter}
 use Rattle.model.specs.Bring.{Brought, giveBack, bring, bringNeed}
 use Rattle.model.specs.Refusals.{SpanIn}
 use Rattle.model.specs.Calls.{brought, bringIn}
-use Rattle.theory_lay.proofs.Store.{Roomy, sound-roomy, RangesFit, records-length, ranges-read, ranges-other, next-store}
-use Rattle.theory_sound.specs.StoreSound.{StoreSound}
+use Rattle.theory_lay.proofs.Store.{sound-roomy, RangesFit, records-length, ranges-read, ranges-other, next-store}
 use Rattle.theory_bring.proofs.Bring.{bring-cases, bring-sound, bring-length, bring-steady}
 use Rattle.theory_calls.proofs.Changed.{ranges-fit}
-use Rattle.theory_calls.proofs.Stores.{store-sound}
-
-stamp-is : (st : State) (s : ℕ) → storeOf st s .book .stamp ≡ stampOf st s
-unfolding storeOf
-stamp-is st s = refl
+use Rattle.theory_calls.proofs.Stores.{store-sound, stamp-is}
 
 capacity-is : (st : State) (s : ℕ) → storeOf st s .book .capacity ≡ capacityOf st s
 unfolding storeOf

@@ -5,7 +5,7 @@ use mathlib.Core.Path.{_≡_, refl}
 use mathlib.Core.List.{List, [], _∷_}
 use lib.Ieee.{lt, sub, add, neg, sum, round, size, units, span, climb, odd, ofInt}
 use lib.Count.{trailingZeros}
-use Rattle.model.specs.State.{State, at, heldOf, bookIn}
+use Rattle.model.specs.State.{State, heldOf, bookIn}
 use Rattle.model.specs.Words.{any}
 use Rattle.model.specs.SoundTest.{sound}
 use Rattle.model.specs.SetUp.{setUpFits}

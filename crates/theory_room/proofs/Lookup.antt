@@ -3,17 +3,17 @@
 use Prim.Native.Nat.{ℕ, zero, suc, _+_, _-_, _≤_, _<_, min}
 use mathlib.Core.Bool.{Bool, true, false, true≢false, _&&_}
 use mathlib.Core.List.{List, [], _∷_, _++_}
-use mathlib.Core.Option.{Option, none, some, Option·none-ne-some, Option·some-injective}
-use mathlib.Core.Path.{_≡_, refl, sym, ap, subst, _∙_}
+use mathlib.Core.Option.{Option, none, some}
+use mathlib.Core.Path.{_≡_, refl, _∙_}
 use mathlib.Core.Logic.{_⊎_, inl, inr, ⊎-elim}
 use native.Mathlib.Omega.{arith}
 use lib.ListN.{length}
 use lib.Dec.{leb, ltb, eqb}
-use borrow.Author.Tests.{leb-true, leb-false, ltb-true, ltb-false, lt-ltb, le-ltb, eqb-true, eqb-false, eq-eqb, ne-eqb}
+use borrow.Author.Tests.{leb-true, leb-false, ltb-true, ltb-false, eqb-true, eqb-false, eq-eqb, ne-eqb}
 use Rattle.model.specs.State.{State, Range}
 use Rattle.model.specs.Tree.{Seg}
 use Rattle.model.specs.Store.{storeOf}
-use Rattle.model.specs.Lookup.{TierSpan, holds, reach, firstTier, Looked, andMore, along, lookupPath, spanBlocks, ifTier, tierSum, tierSums}
+use Rattle.model.specs.Lookup.{TierSpan, holds, reach, firstTier, Looked, along, lookupPath, spanBlocks, ifTier, tierSum, tierSums}
 use Rattle.theory_sound.specs.Facts.{All}
 use Rattle.model.specs.Blocks.{In, Holds}
 use Rattle.theory_room.specs.Room.{sumOf}

@@ -1,9 +1,8 @@
 -- Demand 3 of the definitions. A bring-in tests nothing that the capacity changes, so two capacities refuse alike; the trim to the larger one keeps what
 -- the trim to the smaller keeps; and where every tier holds at least as much, a lookup reads at least as far. Assumes nothing.
-use Prim.Native.Nat.{ℕ, zero, suc, _+_, _-_, _*_, _≤_, _<_, zero-le}
+use Prim.Native.Nat.{ℕ, zero, suc, _-_, _*_, _≤_, _<_, zero-le}
 use mathlib.Core.Path.{_≡_, refl, sym, ap, subst, _∙_}
-use mathlib.Core.Logic.{_⊎_, inl, inr, _≢_}
-use mathlib.Core.Bool.{Bool, true, false}
+use mathlib.Core.Bool.{true}
 use mathlib.Core.List.{List, [], _∷_}
 use native.Mathlib.Omega.{arith}
 use native.Mathlib.Decide.{ℕ-discrete}
@@ -13,8 +12,7 @@ use Rattle.model.specs.declared.Span.{Span}
 use Rattle.model.specs.declared.Book.{Book}
 use Rattle.model.specs.declared.BringAnswer.{BringAnswer}
 use Rattle.model.specs.declared.LookupAnswer.{LookupAnswer}
-use Rattle.model.specs.Words.{Some}
-use Rattle.model.specs.Sizes.{maxStores, maxHashes, maxTiers, maxNumbers, storeRecords, storePins}
+use Rattle.model.specs.Sizes.{maxStores, maxTiers, maxNumbers, storeRecords, storePins}
 use Rattle.model.specs.State.{Tree, State, at, storesOf, nextIdOf, bookOf, capacityOf, recordsOf}
 use Rattle.model.specs.Sound.{Sound}
 use Rattle.model.specs.SoundTest.{sound}
@@ -22,17 +20,17 @@ use Rattle.model.specs.Tree.{Seg, resolve}
 use Rattle.model.specs.Store.{Store, ranges, pins, storeOf, layBook}
 use Rattle.model.specs.Trim.{trim}
 use Rattle.model.specs.Bring.{gaps, fill, keep, bring, bringNeed}
-use Rattle.model.specs.Refusals.{Condition, firstOf, OutList, PathList, TierList, storeInsertRefusals, lookupRefusals}
-use Rattle.model.specs.Calls.{Answer, refused, done, unless, brought, bringIn, storeInsert, LookupLists, lookup, pathOf, layPath, layTiers}
+use Rattle.model.specs.Refusals.{firstOf, OutList, storeInsertRefusals, lookupRefusals}
+use Rattle.model.specs.Calls.{done, unless, brought, bringIn, storeInsert, LookupLists, lookup, pathOf, layPath, layTiers}
 use Rattle.model.specs.Lookup.{lookupPath, tierSums, spanBlocks, spanBytes, eachTier}
 use Rattle.theory_refuse.proofs.Says.{true-says}
 use Rattle.theory_refuse.proofs.Sound.{sound-says}
 use Rattle.theory_refuse.proofs.Refused.{storeInsert-kept, lookup-kept}
+use Rattle.theory_refuse.proofs.Unless.{unless-none, unless-zero}
 use Rattle.theory_sound.specs.Facts.{All}
 use Rattle.theory_bring.proofs.Bring.{bring-cases}
-use Rattle.theory_calls.proofs.Accepted.{NoneHolds, Accepted, unless-done, span-in, is-finite, neither}
+use Rattle.theory_calls.proofs.Accepted.{NoneHolds, unless-done, span-in, is-finite, neither, none-where}
 use Rattle.theory_calls.proofs.Calls.{storeInsert-sound}
-use Rattle.model.specs.Blocks.{Holds}
 use Rattle.theory_lay.proofs.Books.{book-read, book-other}
 use Rattle.theory_room.specs.Room.{resized, withCapacity, ButCapacity, Alike, sumOf, blocksIn, MoreRoom}
 use Rattle.theory_room.proofs.Trim.{Sub, trim-room}
@@ -75,15 +73,6 @@ unless-alike : {L A : Type 0} (n : ℕ) (x y p q : State) (k l k′ l′ : L) (u
     → Alike (unless n x k (record { state = p; lists = k′; answer = done u }) .answer) (unless n y l (record { state = q; lists = l′; answer = done v }) .answer)
 unless-alike zero x y p q k l k′ l′ u v = tt
 unless-alike (suc n) x y p q k l k′ l′ u v = refl
-
-abbrev isDone : {A : Type 0} → Answer A → ℕ
-isDone (refused n) = 0
-isDone (done a) = 1
-
-unless-zero : {L A : Type 0} (n : ℕ) (x p : State) (k k′ : L) (u v : A)
-    → unless n x k (record { state = p; lists = k′; answer = done u }) .answer ≡ done v → n ≡ 0
-unless-zero zero x p k k′ u v e = refl
-unless-zero {L} {A} (suc n) x p k k′ u v e = let z : _≡_ {A = ℕ} 0 1 = ap (isDone {A = A}) e in absurd (omega arith)
 
 -- ---- the bring-in under two capacities
 
@@ -163,10 +152,6 @@ unfolding storeInsert
 brings st l s sp time write v h e =
     let d = unless-done _ _ _ (storeInsert-kept st l s sp time write) v e in record { took = taken st l s sp time h (d .none); left = d .state }
 
-accepts : {L A : Type 0} (n : ℕ) (x p : State) (k k′ : L) (u : A) → n ≡ 0 → unless n x k (record { state = p; lists = k′; answer = done u }) .answer ≡ done u
-accepts zero x p k k′ u e = refl
-accepts (suc n) x p k k′ u e = absurd (omega arith)
-
 -- ---- the lookup afterwards
 
 -- two sound states with one tree and one number of stores, and every store of the second holds what it holds in the first
@@ -200,7 +185,7 @@ module _ (x y : State) (h : Beside x y) (l : LookupLists) (ts hs : List ℕ) whe
 
   none-held : firstOf (lookupRefusals x (l .path) (l .spans) ts hs) ≡ 0 → NoneHolds (lookupRefusals x (l .path) (l .spans) ts hs)
   unfolding lookup
-  none-held e = unless-done _ _ _ (lookup-kept x l ts hs) _ (accepts (firstOf (lookupRefusals x (l .path) (l .spans) ts hs)) x _ l _ _ e) .none
+  none-held e = none-where _ _ _ (lookup-kept x l ts hs) e
 
   sums-over : All (Richer x y) ts → length ts ≤ maxTiers → (path : List Seg)
       → sumOf (tierSums spanBlocks 0 maxTiers (lookupPath x ts path)) ≤ sumOf (tierSums spanBlocks 0 maxTiers (lookupPath y ts path))
@@ -281,8 +266,8 @@ module _ (a : State) (s D : ℕ) (l : OutList) (sp : Span) (time : Float) (write
     second : storeInsert c l s sp time write .answer ≡ done told
     unfolding storeInsert
     second =
-        accepts (firstOf (storeInsertRefusals c l s sp time)) c _ l _ told
-        (sym first-alike ∙ unless-zero (firstOf (storeInsertRefusals a l s sp time)) a _ l _ _ v e)
+        ap (λ o. o .answer)
+        (unless-none c l _ (firstOf (storeInsertRefusals c l s sp time)) (sym first-alike ∙ unless-zero a l _ (firstOf (storeInsertRefusals a l s sp time)) e))
 
     brings-c : Brings c l s sp time write
     brings-c = brings c l s sp time write told hb second

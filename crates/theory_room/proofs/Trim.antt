@@ -1,10 +1,10 @@
 -- Over a larger capacity a trim keeps at least what it keeps over a smaller one: at each turn both choose one range or the smaller excess is met, whatever
 -- an excess asks for, so long as that is at least the excess and grows with it. Assumes nothing.
-use Prim.Native.Nat.{ℕ, zero, suc, _+_, _-_, _≤_, _<_, min}
-use mathlib.Core.Bool.{Bool, true, false, not}
+use Prim.Native.Nat.{ℕ, zero, suc, _-_, _≤_, _<_}
+use mathlib.Core.Bool.{Bool, true, false}
 use mathlib.Core.List.{List, [], _∷_}
 use mathlib.Core.Option.{Option, none, some, Option·none-ne-some, Option·some-injective}
-use mathlib.Core.Path.{_≡_, refl, sym, ap, _∙_}
+use mathlib.Core.Path.{_≡_, refl, sym, _∙_}
 use mathlib.Core.Logic.{_⊎_, inl, inr, ⊎-elim}
 use native.Mathlib.Omega.{arith}
 use lib.ListN.{length}
@@ -12,20 +12,14 @@ use lib.Dec.{leb}
 use borrow.Author.Tests.{leb-true, leb-false}
 use Rattle.model.specs.State.{Tree, Range, Pin}
 use Rattle.model.specs.Store.{lengthOf, total, unmark}
-use Rattle.model.specs.Trim.{isPinned, nth, first, evict, shortened, asked, chosen, amount, trimBy, trim}
-use Rattle.model.specs.Blocks.{In, Holds}
+use Rattle.model.specs.Trim.{nth, evict, shortened, asked, chosen, amount, trimBy, trim}
+use Rattle.model.specs.Blocks.{Holds}
+use Rattle.theory_refuse.proofs.Says.{le-or-lt}
 use Rattle.theory_room.specs.Room.{Lawful}
 
 -- what rs holds qs holds
 abbrev pub Sub : List Range → List Range → Type 0
 Sub rs qs = (n o : ℕ) → Holds rs n o → Holds qs n o
-
-le-or-lt : (a b : ℕ) → (a ≤ b) ⊎ (b < a)
-le-or-lt a b = go (leb a b) refl
-  where
-    go : (t : Bool) → leb a b ≡ t → (a ≤ b) ⊎ (b < a)
-    go true e = inl (leb-true a b e)
-    go false e = inr (leb-false a b e)
 
 -- ---- one eviction
 

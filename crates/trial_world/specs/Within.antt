@@ -1,5 +1,5 @@
 -- How much of each pool and answer list a trial lends: never more than there is. Assumes nothing.
-use Prim.Native.Nat.{ℕ, _≤_}
+use Prim.Native.Nat.{_≤_}
 use lib.ListN.{length}
 use Rattle.trial_world.specs.declared.world.World.{World}
 use Rattle.trial_world.specs.declared.world.Lists.{Lists}

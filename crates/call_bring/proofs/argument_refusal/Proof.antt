@@ -8,14 +8,8 @@ use Rattle.call_bring.proofs.argument_refusal.Tie as tie
 returns : tie.Need-returns
 returns c = λ st a b d. no-store st (c .before .before .args .s) (c .before .before .args .sp) (c .before .before .args .time) (c .before .before .args .stores) d (c .if1 .taken)
 
-span-in-requires : tie.Need-span-in-requires
-span-in-requires c κs = search needs
-
 returns-2 : tie.Need-returns-2
 returns-2 c = λ st a b d. bad-span st (c .before .before .before .before .args .s) (c .before .before .before .before .args .sp) (c .before .before .before .before .args .time) (c .before .before .before .before .args .stores) d (c .before .before .if1 .left) (c .before .span-in .result) (c .before .span-in .ensures (st .tree) a b) (c .if2 .taken)
-
-finite-requires : tie.Need-finite-requires
-finite-requires c κs = search needs
 
 returns-3 : tie.Need-returns-3
 returns-3 c =
@@ -29,4 +23,5 @@ returns-4 c =
 
 pub argument-refusal-spec : {M : Type 1} → statement M
 argument-refusal-spec =
-    tie.close (tie.spec returns span-in-requires returns-2 finite-requires returns-3 returns-4)
+    tie.close (tie.spec
+    returns (λ c κs. search needs) returns-2 (λ c κs. search needs) returns-3 returns-4)

@@ -21,9 +21,5 @@ pub need-refusal-spec : {M : Type 1} → statement M
 need-refusal-spec =
     tie.close
     (tie.spec
-    (λ c. λ st s e d. few-records st s (c .before .args .n) (c .before .args .b) (c .before .args .next) e d (omega arith))
-    returns-2
-    (λ c. search needs)
-    returns-3
-    returns-4
-    returns-5)
+    (λ c. λ st s e d. few-records st s (c .before .args .n) (c .before .args .b) (c .before .args .next) e d (omega arith)) returns-2
+    (λ c. search needs) returns-3 returns-4 returns-5)

@@ -25,114 +25,135 @@ outs z = outList (z .args .out-node .now) (z .args .out-start .now) (z .args .ou
 
 -- ---- with a capacity, once the gaps are known
 
-keeps : (c : tie.After-gaps-of) → KeepReady (state (c .before .before .before .before .before .before .before .before .before .before .before .before .before .before .before .before .before .before .before .before .before .before .before .before .before .before .before .before .before .before .before .before .before .before .before .before .before .before)) (outs (c .before .before .before .before .before .before .before .before .before .before .before .before .before .before .before .before .before .before .before .before .before .before .before .before .before .before .before .before .before .before .before .before .before .before .before .before .before .before)) (c .before .before .before .before .before .before .before .before .before .before .before .before .before .before .before .before .before .before .before .before .before .before .before .before .before .before .before .before .before .before .before .before .before .before .before .before .before .before .args .s) (c .before .before .before .before .before .before .before .before .before .before .before .before .before .before .before .before .before .before .before .before .before .before .before .before .before .before .before .before .before .before .before .before .before .before .before .before .before .before .args .sp) (c .before .before .before .before .before .before .before .before .before .before .before .before .before .before .before .before .before .before .before .before .before .before .before .before .before .before .before .before .before .before .before .before .before .before .before .before .before .before .args .time)
-keeps c =
-    let z = c .before .before .before .before .before .before .before .before .before .before .before .before .before .before .before .before .before .before .before .before .before .before .before .before .before .before .before .before .before .before .before .before .before .before .before .before .before .before in
-    keep-ready (state z) (outs z) (z .args .s) (z .args .sp) (z .args .time) (z .pre .0) (z .pre .1) (c .before .before .before .before .before .before .before .before .before .before .argument-refusal .result) (c .before .before .before .before .before .before .before .before .before .if1 .left) (c .before .before .before .before .before .before .before .before .before .before .argument-refusal .ensures (state z) refl refl refl) (some-read (c .before .before .before .before .before .before .before .book-of .ensures) (c .before .before .before .before .before .if2 .left))
+-- earlier places of the function, by name
+abbrev entry : tie.After-slice-known16 → tie.Start
+entry c = c .before .before .before .before .before .before .before .before .before .before .before .before .before .before .before .before .before .before .before .before .before .before .before .before .before .before
 
-enough : (c : tie.Else3) → InsertReady (state (c .before .before .before .before .before .before .before .before .before .before .before .before .before .before .before .before .before .before .before .before .before .before .before .before .before .before .before .before .before .before .before .before .before .before .before .before .before .before .before .before)) (outs (c .before .before .before .before .before .before .before .before .before .before .before .before .before .before .before .before .before .before .before .before .before .before .before .before .before .before .before .before .before .before .before .before .before .before .before .before .before .before .before .before)) (c .before .before .before .before .before .before .before .before .before .before .before .before .before .before .before .before .before .before .before .before .before .before .before .before .before .before .before .before .before .before .before .before .before .before .before .before .before .before .before .before .args .s) (c .before .before .before .before .before .before .before .before .before .before .before .before .before .before .before .before .before .before .before .before .before .before .before .before .before .before .before .before .before .before .before .before .before .before .before .before .before .before .before .before .args .sp) (c .before .before .gaps-of .result) (c .before .before .before .before .before .before .before .before .before .before .before .before .before .before .before .before .before .before .before .before .before .before .before .before .before .before .before .before .before .before .before .before .before .before .before .before .before .before .before .before .args .time)
+abbrev entry-2 : tie.After-gaps-of-arg3 → tie.Start
+entry-2 c = entry (c .before .before .before .before .before .before .before .before .before .before .before)
+
+abbrev after-argument-refusal : tie.After-gaps-of → tie.After-argument-refusal
+after-argument-refusal c = c .before .before .before .before .before .before .before .before .before .before
+
+abbrev else1 : tie.After-give-back-arg6 → tie.Else1
+else1 c = c .before .before .before .before .before .before .before .before .before .before
+
+abbrev entry-3 : tie.After-give-back-arg6 → tie.Start
+entry-3 c = entry (c .before .before .before .before .before .before .before .before .before .before .before .before .before)
+
+abbrev after-give-back : tie.After-slice-known23 → tie.After-give-back
+after-give-back c = c .before .before .before .before .before .before .before .before .before .before .before .before
+
+abbrev then2 : tie.After-slice-known23 → tie.Then2
+then2 c = after-give-back c .before .before .before .before .before .before .before
+
+abbrev else1-2 : tie.After-slice-known23 → tie.Else1
+else1-2 c = then2 c .before .before .before .before
+
+abbrev entry-4 : tie.After-slice-known23 → tie.Start
+entry-4 c = entry-3 (c .before .before .before .before .before .before .before .before .before .before .before .before .before)
+
+abbrev else3 : tie.After-bring-pools-arg14 → tie.Else3
+else3 c = c .before .before .before .before .before .before .before .before .before .before .before .before .before .before
+
+abbrev after-book-of-2 : tie.After-bring-pools-arg14 → tie.After-book-of
+after-book-of-2 c = else3 c .before .before .before .before .before .before .before .before .before
+
+abbrev entry-5 : tie.After-bring-pools-arg14 → tie.Start
+entry-5 c = entry-2 (c .before .before .before .before .before .before .before .before .before .before .before .before .before .before .before .before .before)
+
+abbrev else3-2 : tie.After-settle-arg → tie.Else3
+else3-2 c = else3 (c .before .before .before .before .before .before .before .before .before .before .before .before .before .before .before .before .before .before .before .before .before .before .before .before .before .before .before .before .before .before)
+
+abbrev after-book-of-3 : tie.After-settle-arg → tie.After-book-of
+after-book-of-3 c = else3-2 c .before .before .before .before .before .before .before .before .before
+
+abbrev after-bring-pools : tie.After-slice-known39 → tie.After-bring-pools
+after-bring-pools c = c .before .before .before .before .before .before .before .before .before .before .before .before .before .before .before .before .before .before .before .before .before .before .before .before .before .before .before .before .before .before .before .before
+
+abbrev after-need-refusal : tie.After-slice-known39 → tie.After-need-refusal
+after-need-refusal c = else3-2 (c .before .before .before) .before
+
+abbrev entry-6 : tie.After-slice-known39 → tie.Start
+entry-6 c = entry-5 (c .before .before .before .before .before .before .before .before .before .before .before .before .before .before .before .before .before .before .before .before .before .before .before .before .before .before .before .before .before .before .before .before .before)
+
+keeps : (c : tie.After-gaps-of) → KeepReady (state (entry-2 (c .before))) (outs (entry-2 (c .before))) (entry-2 (c .before) .args .s) (entry-2 (c .before) .args .sp) (entry-2 (c .before) .args .time)
+keeps c =
+    let z = entry-2 (c .before) in
+    keep-ready (state z) (outs z) (z .args .s) (z .args .sp) (z .args .time) (z .pre .0) (z .pre .1) (after-argument-refusal c .argument-refusal .result) (c .before .before .before .before .before .before .before .before .before .if1 .left) (after-argument-refusal c .argument-refusal .ensures (state z) refl refl refl) (some-read (c .before .before .before .before .before .before .before .book-of .ensures) (c .before .before .before .before .before .if2 .left))
+
+enough : (c : tie.Else3) → InsertReady (state (entry-2 (c .before .before .before))) (outs (entry-2 (c .before .before .before))) (entry-2 (c .before .before .before) .args .s) (entry-2 (c .before .before .before) .args .sp) (c .before .before .gaps-of .result) (entry-2 (c .before .before .before) .args .time)
 enough c =
-    let z = c .before .before .before .before .before .before .before .before .before .before .before .before .before .before .before .before .before .before .before .before .before .before .before .before .before .before .before .before .before .before .before .before .before .before .before .before .before .before .before .before in
+    let z = entry-2 (c .before .before .before) in
     insert-ready (keeps (c .before .before)) (c .before .before .gaps-of .result) (c .before .before .gaps-of .ensures .1 (state z) refl refl refl (records-read (c .before .before .before .before .before .before .before .before .before .book-of .ensures))) (is-none (c .if3 .left) (c .before .need-refusal .ensures (state z) (z .args .s) (sym (c .before .before .before .before .before .before .before .before .before .book-of .ensures)) refl))
 
 abbrev pools : (c : tie.After-slice-known39) → tie.After-bring-pools
-pools c = c .before .before .before .before .before .before .before .before .before .before .before .before .before .before .before .before .before .before .before .before .before .before .before .before .before .before .before .before .before .before .before .before
+pools c = after-bring-pools c
 
 abbrev given : (c : tie.After-slice-known23) → tie.After-give-back
-given c = c .before .before .before .before .before .before .before .before .before .before .before .before
+given c = after-give-back c
 
 -- ---- the needs
 
 returns : tie.Need-returns
 returns c =
-    let z = c .before .before .before .before .before .before .before .before .before .before .before .before .before .before .before .before .before .before .before .before .before .before .before .before .before .before .before .before .before in
+    let z = entry (c .before .before .before) in
     argument-refused (state z) (outs z) (z .args .s) (z .args .sp) (z .args .time) (z .pre .0) (z .pre .1) (z .args .w) (c .before .argument-refusal .result) (c .if1 .taken) (c .before .argument-refusal .ensures (state z) refl refl refl)
 
 book-of-requires : tie.Need-book-of-requires
 book-of-requires c κs =
-    let z = c .before .before .before .before .before .before .before .before .before .before .before .before .before .before .before .before .before .before .before .before .before .before .before .before .before .before .before .before .before .before in
+    let z = entry (c .before .before .before .before) in
     book-in (z .pre .0) (store-there (state z) (outs z) (z .args .s) (z .args .sp) (z .args .time) (z .pre .0) (z .pre .1) (c .before .before .argument-refusal .result) (c .before .if1 .left) (c .before .before .argument-refusal .ensures (state z) refl refl refl))
 
 give-back-requires : tie.Need-give-back-requires
 give-back-requires c κs =
-    let z = c .before .before .before .before .before .before .before .before .before .before .before .before .before .before .before .before .before .before .before .before .before .before .before .before .before .before .before .before .before .before .before .before .before .before .before .before .before .before .before in
-    (priced (state z) (outs z) (z .args .s) (z .args .sp) (z .args .time) (z .pre .0) (z .pre .1) (c .before .before .before .before .before .before .before .before .before .before .before .argument-refusal .result) (c .before .before .before .before .before .before .before .before .before .before .if1 .left) (c .before .before .before .before .before .before .before .before .before .before .before .argument-refusal .ensures (state z) refl refl refl), z .pre .1)
+    let z = entry-3 c in
+    (priced (state z) (outs z) (z .args .s) (z .args .sp) (z .args .time) (z .pre .0) (z .pre .1) (else1 c .before .argument-refusal .result) (else1 c .if1 .left) (else1 c .before .argument-refusal .ensures (state z) refl refl refl), z .pre .1)
 
 returns-2 : tie.Need-returns-2
 returns-2 c =
-    let z = c .before .before .before .before .before .before .before .before .before .before .before .before .before .before .before .before .before .before .before .before .before .before .before .before .before .before .before .before .before .before .before .before .before .before .before .before .before .before .before .before .before .before .before .before .before .before .before .before .before .before .before .before in
+    let z = entry-4 c in
     let k = given c .give-back in
-    given-back (state z) (outs z) (z .args .s) (z .args .sp) (z .args .time) (z .pre .0) (z .pre .1) (c .before .before .before .before .before .before .before .before .before .before .before .before .before .before .before .before .before .before .before .before .before .before .before .before .argument-refusal .result) (c .before .before .before .before .before .before .before .before .before .before .before .before .before .before .before .before .before .before .before .before .before .before .before .if1 .left) (c .before .before .before .before .before .before .before .before .before .before .before .before .before .before .before .before .before .before .before .before .before .before .before .before .argument-refusal .ensures (state z) refl refl refl) (none-read (c .before .before .before .before .before .before .before .before .before .before .before .before .before .before .before .before .before .before .before .before .before .book-of .ensures) (c .before .before .before .before .before .before .before .before .before .before .before .before .before .before .before .before .before .before .before .if2 .taken)) (z .args .w) (outList (k .last .0) (k .last .1 .0) (k .last .1 .1 .0) (k .last .1 .1 .1 .0) (k .last .1 .1 .1 .1 .0) (k .last .1 .1 .1 .1 .1 .0)) (k .ensures)
+    given-back (state z) (outs z) (z .args .s) (z .args .sp) (z .args .time) (z .pre .0) (z .pre .1) (else1-2 c .before .argument-refusal .result) (else1-2 c .if1 .left) (else1-2 c .before .argument-refusal .ensures (state z) refl refl refl) (none-read (then2 c .before .before .book-of .ensures) (then2 c .if2 .taken)) (z .args .w) (outList (k .last .0) (k .last .1 .0) (k .last .1 .1 .0) (k .last .1 .1 .1 .0) (k .last .1 .1 .1 .1 .0) (k .last .1 .1 .1 .1 .1 .0)) (k .ensures)
 
 gaps-of-requires : tie.Need-gaps-of-requires
 gaps-of-requires c κs =
-    let z = c .before .before .before .before .before .before .before .before .before .before .before .before .before .before .before .before .before .before .before .before .before .before .before .before .before .before .before .before .before .before .before .before .before .before .before .before .before in
+    let z = entry-2 c in
     gaps-asked (keep-ready (state z) (outs z) (z .args .s) (z .args .sp) (z .args .time) (z .pre .0) (z .pre .1) (c .before .before .before .before .before .before .before .before .before .argument-refusal .result) (c .before .before .before .before .before .before .before .before .if1 .left) (c .before .before .before .before .before .before .before .before .before .argument-refusal .ensures (state z) refl refl refl) (some-read (c .before .before .before .before .before .before .book-of .ensures) (c .before .before .before .before .if2 .left))) (c .before .before .before .before .before .before .book-of .result) (c .before .before .before .before .before .before .book-of .ensures)
 
 returns-3 : tie.Need-returns-3
 returns-3 c =
-    let z = c .before .before .before .before .before .before .before .before .before .before .before .before .before .before .before .before .before .before .before .before .before .before .before .before .before .before .before .before .before .before .before .before .before .before .before .before .before .before .before .before in
+    let z = entry-2 (c .before .before .before) in
     need-refused (keeps (c .before .before)) (c .before .before .gaps-of .result) (c .before .before .gaps-of .ensures .1 (state z) refl refl refl (records-read (c .before .before .before .before .before .before .before .before .before .book-of .ensures))) (z .args .w) (c .before .need-refusal .result) (c .if3 .taken) (c .before .need-refusal .ensures (state z) (z .args .s) (sym (c .before .before .before .before .before .before .before .before .before .book-of .ensures)) refl)
-
-bring-pools-requires : tie.Need-bring-pools-requires
-bring-pools-requires c κs = pool-in (enough (c .before .before .before .before .before .before .before .before .before .before .before .before .before .before)) (c .before .before .before .before .before .before .before .before .before .before .before .before .before .before .before .before .before .before .before .before .before .before .before .book-of .result) (c .before .before .before .before .before .before .before .before .before .before .before .before .before .before .before .before .before .before .before .before .before .before .before .book-of .ensures) (c .before .before .before .before .before .before .before .before .before .before .before .before .before .before .before .before .before .before .before .before .before .before .before .before .before .before .before .before .before .before .before .before .before .before .before .before .before .before .before .before .before .before .before .before .before .before .before .before .before .before .before .before .before .before .args .w)
-
-settle-requires : tie.Need-settle-requires
-settle-requires c κs = settle-in (enough (c .before .before .before .before .before .before .before .before .before .before .before .before .before .before .before .before .before .before .before .before .before .before .before .before .before .before .before .before .before .before .before .before .before .before .before .before .before .before .before .before .before .before .before .before)) (c .before .before .before .before .before .before .before .before .before .before .before .before .before .before .before .before .before .before .before .before .before .before .before .before .before .before .before .before .before .before .before .before .before .before .before .before .before .before .before .before .before .before .before .before .before .before .before .before .before .before .before .before .before .book-of .result) (c .before .before .before .before .before .before .before .before .before .before .before .before .before .before .before .before .before .before .before .before .before .before .before .before .before .before .before .before .before .before .before .before .before .before .before .before .before .before .before .before .before .before .before .before .before .before .before .before .before .before .before .before .before .book-of .ensures)
 
 returns-4 : tie.Need-returns-4
 returns-4 c =
-    let z = c .before .before .before .before .before .before .before .before .before .before .before .before .before .before .before .before .before .before .before .before .before .before .before .before .before .before .before .before .before .before .before .before .before .before .before .before .before .before .before .before .before .before .before .before .before .before .before .before .before .before .before .before .before .before .before .before .before .before .before .before .before .before .before .before .before .before .before .before .before .before .before .before .before .before .before .before .before .before .before .before .before .before .before .before .before .before .before in
-    let g = c .before .before .before .before .before .before .before .before .before .before .before .before .before .before .before .before .before .before .before .before .before .before .before .before .before .before .before .before .before .before .before .before .before .before .before .before .before .before .before .before .before .before .before .before .before .before .before .before .before .gaps-of in
-    let e = c .before .before .before .before .before .before .before .before .before .before .before .before .before .before .before .before .before .before .before .before .before .before .before .before .before .before .before .before .before .before .before .before .before .before .before .before .before .before .before .before .before .before .before .before .before .before .before .before .before .before .before .before .before .before .before .before .book-of in
+    let z = entry-6 c in
+    let g = after-need-refusal c .before .gaps-of in
+    let e = after-book-of-3 (c .before .before .before) .book-of in
     let k = pools c .bring-pools in
     let b = c .before .before .settle in
-    kept-whole (keeps (c .before .before .before .before .before .before .before .before .before .before .before .before .before .before .before .before .before .before .before .before .before .before .before .before .before .before .before .before .before .before .before .before .before .before .before .before .before .before .before .before .before .before .before .before .before .before .before .before .before)) (g .result) (g .ensures .1 (state z) refl refl refl (records-read (e .ensures))) (is-none (c .before .before .before .before .before .before .before .before .before .before .before .before .before .before .before .before .before .before .before .before .before .before .before .before .before .before .before .before .before .before .before .before .before .before .before .before .before .before .before .before .before .before .before .before .before .before .before .if3 .left) (c .before .before .before .before .before .before .before .before .before .before .before .before .before .before .before .before .before .before .before .before .before .before .before .before .before .before .before .before .before .before .before .before .before .before .before .before .before .before .before .before .before .before .before .before .before .before .before .before .need-refusal .ensures (state z) (z .args .s) (sym (e .ensures)) refl)) {w = z .args .w}
+    kept-whole (keeps (after-need-refusal c .before)) (g .result) (g .ensures .1 (state z) refl refl refl (records-read (e .ensures))) (is-none (else3-2 (c .before .before .before) .if3 .left) (after-need-refusal c .need-refusal .ensures (state z) (z .args .s) (sym (e .ensures)) refl)) {w = z .args .w}
     {stʹ = stateFrom (z .args .parent .now) (z .args .depth .now) (z .args .len .now) (z .args .run .now) (z .args .words .now) (k .last .0) (k .last .1 .0) (k .last .1 .1 .0) (k .last .1 .1 .1 .0) (k .last .1 .1 .1 .1 .0) (k .last .1 .1 .1 .1 .1 .0) (k .last .1 .1 .1 .1 .1 .1 .0) (z .args .pin-node .now) (z .args .pin-start .now) (z .args .pin-end .now) (z .args .pin-count .now) (k .last .1 .1 .1 .1 .1 .1 .1 .0) (z .args .bytes .now) (b .last .0)}
     {lʹ = outList (k .last .1 .1 .1 .1 .1 .1 .1 .1 .0) (k .last .1 .1 .1 .1 .1 .1 .1 .1 .1 .0) (k .last .1 .1 .1 .1 .1 .1 .1 .1 .1 .1 .0) (k .last .1 .1 .1 .1 .1 .1 .1 .1 .1 .1 .1 .0) (k .last .1 .1 .1 .1 .1 .1 .1 .1 .1 .1 .1 .1 .0) (k .last .1 .1 .1 .1 .1 .1 .1 .1 .1 .1 .1 .1 .1 .0)} {o = k .result .outs}
-    (brought-in (enough (c .before .before .before .before .before .before .before .before .before .before .before .before .before .before .before .before .before .before .before .before .before .before .before .before .before .before .before .before .before .before .before .before .before .before .before .before .before .before .before .before .before .before .before .before .before .before .before)) (z .args .w) {c = rangesOf (k .last .0) (k .last .1 .0) (k .last .1 .1 .0) (k .last .1 .1 .1 .0) (k .last .1 .1 .1 .1 .0) (k .last .1 .1 .1 .1 .1 .0) (k .last .1 .1 .1 .1 .1 .1 .0)} {ms = k .last .1 .1 .1 .1 .1 .1 .1 .0} {lʹ = outList (k .last .1 .1 .1 .1 .1 .1 .1 .1 .0) (k .last .1 .1 .1 .1 .1 .1 .1 .1 .1 .0) (k .last .1 .1 .1 .1 .1 .1 .1 .1 .1 .1 .0) (k .last .1 .1 .1 .1 .1 .1 .1 .1 .1 .1 .1 .0) (k .last .1 .1 .1 .1 .1 .1 .1 .1 .1 .1 .1 .1 .0) (k .last .1 .1 .1 .1 .1 .1 .1 .1 .1 .1 .1 .1 .1 .0)} (e .result) (e .ensures) (b .last .0) refl refl (b .ensures) (k .ensures (z .args .pin-count .now)))
+    (brought-in (enough (else3-2 (c .before .before .before))) (z .args .w) {c = rangesOf (k .last .0) (k .last .1 .0) (k .last .1 .1 .0) (k .last .1 .1 .1 .0) (k .last .1 .1 .1 .1 .0) (k .last .1 .1 .1 .1 .1 .0) (k .last .1 .1 .1 .1 .1 .1 .0)} {ms = k .last .1 .1 .1 .1 .1 .1 .1 .0} {lʹ = outList (k .last .1 .1 .1 .1 .1 .1 .1 .1 .0) (k .last .1 .1 .1 .1 .1 .1 .1 .1 .1 .0) (k .last .1 .1 .1 .1 .1 .1 .1 .1 .1 .1 .0) (k .last .1 .1 .1 .1 .1 .1 .1 .1 .1 .1 .1 .0) (k .last .1 .1 .1 .1 .1 .1 .1 .1 .1 .1 .1 .1 .0) (k .last .1 .1 .1 .1 .1 .1 .1 .1 .1 .1 .1 .1 .1 .0)} (e .result) (e .ensures) (b .last .0) refl refl (b .ensures) (k .ensures (z .args .pin-count .now)))
 
 pub store-insert-spec : {M : Type 1} → statement M
 store-insert-spec =
     tie.close
     (tie.spec
-    (λ c. omega (arith, c .before .before .before .before .before .before .before .before .before .before .before .before .before .before .before .before .before .before .before .before .before .before .before .before .before .before .pre .0 .lent .books))
-    (λ c. omega (arith, c .before .before .before .before .before .before .before .before .before .before .before .before .before .before .before .before .before .before .before .before .before .before .before .before .before .before .before .pre .0 .lent .books))
-    (λ c κs. nodes-lent (c .before .before .before .before .before .before .before .before .before .before .before .before .before .before .before .before .before .before .before .before .before .before .before .before .before .before .before .pre .0))
-    returns
-    book-of-requires
-    give-back-requires
-    (λ c. search needs)
-    (λ c. given c .give-back .kept .0)
-    (λ c. given c .give-back .kept .1 .0)
-    (λ c. given c .give-back .kept .1 .1 .0)
-    (λ c. given c .give-back .kept .1 .1 .1 .0)
-    (λ c. given c .give-back .kept .1 .1 .1 .1 .0)
-    (λ c. given c .give-back .kept .1 .1 .1 .1 .1 .0)
-    returns-2
-    (λ c. omega (arith, c .before .before .before .before .before .before .before .before .before .before .before .before .before .before .before .before .before .before .before .before .before .before .before .before .before .before .before .before .before .before .before .before .before .before .pre .0 .lent .books))
-    gaps-of-requires
-    (λ c κs. c .gaps-of .ensures .0)
-    (λ c. search needs)
-    (λ c. search needs)
-    (λ c. search needs)
-    (λ c. search needs)
-    returns-3
-    bring-pools-requires
-    settle-requires
-    (λ c. pools c .bring-pools .kept .0)
-    (λ c. pools c .bring-pools .kept .1 .0)
-    (λ c. pools c .bring-pools .kept .1 .1 .0)
-    (λ c. pools c .bring-pools .kept .1 .1 .1 .0)
-    (λ c. pools c .bring-pools .kept .1 .1 .1 .1 .0)
-    (λ c. pools c .bring-pools .kept .1 .1 .1 .1 .1 .0)
-    (λ c. pools c .bring-pools .kept .1 .1 .1 .1 .1 .1 .0)
-    (λ c. pools c .bring-pools .kept .1 .1 .1 .1 .1 .1 .1 .0)
-    (λ c. c .before .before .settle .kept .0)
-    (λ c. pools c .bring-pools .kept .1 .1 .1 .1 .1 .1 .1 .1 .0)
-    (λ c. pools c .bring-pools .kept .1 .1 .1 .1 .1 .1 .1 .1 .1 .0)
-    (λ c. pools c .bring-pools .kept .1 .1 .1 .1 .1 .1 .1 .1 .1 .1 .0)
-    (λ c. pools c .bring-pools .kept .1 .1 .1 .1 .1 .1 .1 .1 .1 .1 .1 .0)
-    (λ c. pools c .bring-pools .kept .1 .1 .1 .1 .1 .1 .1 .1 .1 .1 .1 .1 .0)
-    (λ c. pools c .bring-pools .kept .1 .1 .1 .1 .1 .1 .1 .1 .1 .1 .1 .1 .1 .0)
-    returns-4)
+    (λ c. omega (arith, entry c .pre .0 .lent .books)) (λ c. omega (arith, entry (c .before) .pre .0 .lent .books))
+    (λ c κs. nodes-lent (entry (c .before) .pre .0)) returns book-of-requires give-back-requires (λ c. search needs) (λ c. given c .give-back .kept .0)
+    (λ c. given c .give-back .kept .1 .0) (λ c. given c .give-back .kept .1 .1 .0) (λ c. given c .give-back .kept .1 .1 .1 .0)
+    (λ c. given c .give-back .kept .1 .1 .1 .1 .0) (λ c. given c .give-back .kept .1 .1 .1 .1 .1 .0) returns-2
+    (λ c. omega (arith, entry (c .before .before .before .before .before .before .before .before) .pre .0 .lent .books)) gaps-of-requires
+    (λ c κs. c .gaps-of .ensures .0) (λ c. search needs) (λ c. search needs) (λ c. search needs) (λ c. search needs) returns-3
+    (λ c κs. pool-in (enough (else3 c)) (after-book-of-2 c .book-of .result) (after-book-of-2 c .book-of .ensures) (entry-5 c .args .w))
+    (λ c κs. settle-in (enough (else3-2 c)) (after-book-of-3 c .book-of .result) (after-book-of-3 c .book-of .ensures))
+    (λ c. pools c .bring-pools .kept .0) (λ c. pools c .bring-pools .kept .1 .0) (λ c. pools c .bring-pools .kept .1 .1 .0)
+    (λ c. pools c .bring-pools .kept .1 .1 .1 .0) (λ c. pools c .bring-pools .kept .1 .1 .1 .1 .0) (λ c. pools c .bring-pools .kept .1 .1 .1 .1 .1 .0)
+    (λ c. pools c .bring-pools .kept .1 .1 .1 .1 .1 .1 .0) (λ c. pools c .bring-pools .kept .1 .1 .1 .1 .1 .1 .1 .0)
+    (λ c. c .before .before .settle .kept .0) (λ c. pools c .bring-pools .kept .1 .1 .1 .1 .1 .1 .1 .1 .0)
+    (λ c. pools c .bring-pools .kept .1 .1 .1 .1 .1 .1 .1 .1 .1 .0) (λ c. pools c .bring-pools .kept .1 .1 .1 .1 .1 .1 .1 .1 .1 .1 .0)
+    (λ c. pools c .bring-pools .kept .1 .1 .1 .1 .1 .1 .1 .1 .1 .1 .1 .0) (λ c. pools c .bring-pools .kept .1 .1 .1 .1 .1 .1 .1 .1 .1 .1 .1 .1 .0)
+    (λ c. pools c .bring-pools .kept .1 .1 .1 .1 .1 .1 .1 .1 .1 .1 .1 .1 .1 .0) returns-4)

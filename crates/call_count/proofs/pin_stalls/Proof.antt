@@ -4,11 +4,5 @@ use Rattle.call_count.proofs.Laws.{stalls-is}
 use Rattle.call_count.proofs.pin_stalls.Statement.{statement}
 use Rattle.call_count.proofs.pin_stalls.Tie as tie
 
-shared-slice-read-t3 : tie.Need-shared-slice-read-t3
-shared-slice-read-t3 c = search needs
-
-returns : tie.Need-returns
-returns c = stalls-is (c .before .args .books .now)
-
 pub pin-stalls-spec : {M : Type 1} → statement M
-pin-stalls-spec = tie.close (tie.spec shared-slice-read-t3 returns)
+pin-stalls-spec = tie.close (tie.spec (λ c. search needs) (λ c. stalls-is (c .before .args .books .now)))

@@ -7,15 +7,9 @@ use Rattle.call_count.proofs.Laws.{missing, counted, none-left}
 use Rattle.call_count.proofs.store_available_for_stage.Statement.{statement}
 use Rattle.call_count.proofs.store_available_for_stage.Tie as tie
 
-shared-slice-read-if1 : tie.Need-shared-slice-read-if1
-shared-slice-read-if1 c = search needs
-
 returns : tie.Need-returns
 unfolding availableCall
 returns c = missing (λ b. b .capacity - b .pinned) (c .before .before .before .args .books .now) (c .before .before .before .args .s) (c .if1 .taken)
-
-book-of-requires : tie.Need-book-of-requires
-book-of-requires c κs = search needs
 
 returns-2 : tie.Need-returns-2
 unfolding availableCall
@@ -23,9 +17,6 @@ returns-2 c =
     let k = c .before .before in
     let a = k .before .before .before .before .args in
     counted (λ b. b .capacity - b .pinned) (a .books .now) (a .s) (k .before .if1 .left) (k .book-of .ensures) (none-left (c .if2 .taken))
-
-sub-t5 : tie.Need-sub-t5
-sub-t5 c = search needs
 
 returns-3 : tie.Need-returns-3
 unfolding availableCall
@@ -35,4 +26,5 @@ returns-3 c =
     counted (λ b. b .capacity - b .pinned) (a .books .now) (a .s) (k .before .if1 .left) (k .book-of .ensures) refl
 
 pub store-available-for-stage-spec : {M : Type 1} → statement M
-store-available-for-stage-spec = tie.close (tie.spec shared-slice-read-if1 returns book-of-requires returns-2 sub-t5 returns-3)
+store-available-for-stage-spec = tie.close (tie.spec
+    (λ c. search needs) returns (λ c κs. search needs) returns-2 (λ c. search needs) returns-3)

@@ -15,15 +15,6 @@ pub copy-front-spec : {M : Type 1} → statement M
 copy-front-spec =
     tie.close
     (tie.spec
-    Inv-loop
-    μ-loop
-    (λ c. copy-start _ _ _ (c .pre .0) (c .pre .1))
-    (λ c. search needs)
-    (λ c. search needs)
-    (λ c. search needs)
-    (λ c. search needs)
-    (λ c. search needs)
-    (λ c. search needs)
-    (λ c. copy-turn _ _ _ _ _ (c .before .before .loop .inv) (c .before .loop-test .taken))
-    (λ c. search needs)
+    Inv-loop μ-loop (λ c. copy-start _ _ _ (c .pre .0) (c .pre .1)) (λ c. search needs) (λ c. search needs) (λ c. search needs) (λ c. search needs)
+    (λ c. search needs) (λ c. search needs) (λ c. copy-turn _ _ _ _ _ (c .before .before .loop .inv) (c .before .loop-test .taken)) (λ c. search needs)
     (λ c. copy-end _ _ _ _ _ (c .before .loop .inv) (c .loop-test .left)))

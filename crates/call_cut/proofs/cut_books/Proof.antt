@@ -5,22 +5,17 @@ use Rattle.call_cut.proofs.Halves.{books-are}
 use Rattle.call_cut.proofs.cut_books.Statement.{statement}
 use Rattle.call_cut.proofs.cut_books.Tie as tie
 
-slice-read-stalls : tie.Need-slice-read-stalls
-slice-read-stalls c = omega (arith, c .before .before .pre .1)
-
-put-book-requires : tie.Need-put-book-requires
-put-book-requires c κs = c .before .before .before .pre
-
-put-next-requires : tie.Need-put-next-requires
-put-next-requires c κs = omega (arith, c .before .before .before .put-book .kept .0, c .before .before .before .before .before .before .before .pre .1)
-
-same-length : tie.Need-same-length
-same-length c = c .before .before .put-next .kept .0 ∙ c .before .before .before .before .before .before .put-book .kept .0
+-- earlier places of the function, by name
+abbrev entry : tie.After-slice-known4 → tie.Start
+entry c = c .before .before .before .before .before .before .before .before .before .before
 
 returns : tie.Need-returns
 returns c =
-    let a = c .before .before .before .before .before .before .before .before .before .before .args in
+    let a = entry c .args in
     books-are (a .s) (a .b) (a .cut) (a .entries) (a .books .now) (c .before .before .before .before .before .before .put-book .last .0) (c .before .before .put-next .last .0) (c .before .before .before .before .before .before .put-book .ensures) (c .before .before .put-next .ensures)
 
 pub cut-books-spec : {M : Type 1} → statement M
-cut-books-spec = tie.close (tie.spec slice-read-stalls put-book-requires put-next-requires same-length returns)
+cut-books-spec = tie.close (tie.spec
+    (λ c. omega (arith, c .before .before .pre .1)) (λ c κs. c .before .before .before .pre)
+    (λ c κs. omega (arith, c .before .before .before .put-book .kept .0, c .before .before .before .before .before .before .before .pre .1))
+    (λ c. c .before .before .put-next .kept .0 ∙ c .before .before .before .before .before .before .put-book .kept .0) returns)

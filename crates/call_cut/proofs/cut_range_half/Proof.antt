@@ -7,20 +7,27 @@ use Rattle.call_cut.proofs.Halves.{half-is}
 use Rattle.call_cut.proofs.cut_range_half.Statement.{statement}
 use Rattle.call_cut.proofs.cut_range_half.Tie as tie
 
-cut-ranges-requires : tie.Need-cut-ranges-requires
-cut-ranges-requires c κs = let r = c .before .before .before .before .before .before .before .before .before .before .before .before .before .before .before .pre in (r .store, r .records, r .high, r .lent)
+-- earlier places of the function, by name
+abbrev entry : tie.After-cut-ranges-arg7 → tie.Start
+entry c = c .before .before .before .before .before .before .before .before .before .before .before .before .before .before .before
+
+abbrev after-cut-ranges : tie.After-cut-marks-arg2 → tie.After-cut-ranges
+after-cut-ranges c = c .before .before .before .before .before .before .before .before .before .before .before .before .before .before .before .before
+
+abbrev entry-2 : tie.After-cut-marks-arg2 → tie.Start
+entry-2 c = after-cut-ranges c .before .before .before .before .before .before .before .before .before .before .before .before .before .before .before .before
 
 cut-marks-requires : tie.Need-cut-marks-requires
 cut-marks-requires c κs =
-    let r = c .before .before .before .before .before .before .before .before .before .before .before .before .before .before .before .before .before .before .before .before .before .before .before .before .before .before .before .before .before .before .before .before .pre in
-    let f = c .before .before .before .before .before .before .before .before .before .before .before .before .before .before .before .before .cut-ranges in
+    let r = entry-2 c .pre in
+    let f = after-cut-ranges c .cut-ranges in
     (r .store, omega (arith, f .ensures .1, r .records), r .node, r .new, r .marks, omega (arith, f .kept .0, r .lent .node))
 
 returns : tie.Need-returns
 returns c =
-    let z = c .before .before .before .before .before .before .before .before .before .before .before .before .before .before .before .before .before .before .before .before .before .before .before .before .before .before .before .before .before .before .before .before .before .before .before in
+    let z = entry-2 (c .before .before .before) in
     let a = z .args in
-    let f = c .before .before .before .before .before .before .before .before .before .before .before .before .before .before .before .before .before .before .before .cut-ranges in
+    let f = after-cut-ranges (c .before .before .before) .cut-ranges in
     let g = c .before .before .cut-marks in
     let new = rangesOf (f .last .0) (f .last .1 .0) (f .last .1 .1 .0) (f .last .1 .1 .1 .0) (f .last .1 .1 .1 .1 .0) (f .last .1 .1 .1 .1 .1 .0) (f .last .1 .1 .1 .1 .1 .1 .0) in
     half-is (a .j) (a .k) (a .m) (a .s) (a .n) (a .next)
@@ -31,14 +38,5 @@ pub cut-range-half-spec : {M : Type 1} → statement M
 cut-range-half-spec =
     tie.close
     (tie.spec
-    cut-ranges-requires
-    cut-marks-requires
-    (λ c. search needs)
-    (λ c. search needs)
-    (λ c. search needs)
-    (λ c. search needs)
-    (λ c. search needs)
-    (λ c. search needs)
-    (λ c. search needs)
-    (λ c. search needs)
-    returns)
+    (λ c κs. let r = entry c .pre in (r .store, r .records, r .high, r .lent)) cut-marks-requires (λ c. search needs) (λ c. search needs)
+    (λ c. search needs) (λ c. search needs) (λ c. search needs) (λ c. search needs) (λ c. search needs) (λ c. search needs) returns)

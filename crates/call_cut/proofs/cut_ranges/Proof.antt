@@ -3,9 +3,10 @@ use Prim.Native.Nat.{_+_, _-_, _*_}
 use Rattle.model.specs.State.{Ranges}
 use Rattle.shape_state.specs.Lent.{rangesOf}
 use Rattle.pool_part.specs.Parts.{midRanges, backRanges}
-use Rattle.call_cut.proofs.Stores.{asked, given-back, counted, width, start-fits, end-fits, fit4, fit8, ends}
+use Rattle.pool_part.proofs.Bounds.{rec-fits, rec-end-fits, rec-fits4, rec-fits8, rec-ends}
+use Rattle.call_cut.proofs.Stores.{asked, given-back, counted}
 use borrow.Rule.Slice.PartMut.{same-len-mid}
-use native.Mathlib.Nat.{le-add-right}
+use native.Mathlib.Nat.{le-add-right, add-sub-cancel-left}
 use Rattle.call_cut.proofs.cut_ranges.Statement.{statement}
 use Rattle.call_cut.proofs.cut_ranges.Tie as tie
 
@@ -14,127 +15,107 @@ abbrev orig : tie.Start → Ranges
 orig z = rangesOf (z .args .node .now) (z .args .start .now) (z .args .end .now) (z .args .id .now) (z .args .stamp .now) (z .args .touched .now) (z .args .write .now)
 
 part-cut-ranges-end : tie.Need-part-cut-ranges-end
-part-cut-ranges-end c = ends (c .before .before .before .before .before .before .before .pre .0) (c .before .before .before .before .before .before .before .pre .3 .node)
+part-cut-ranges-end c = rec-ends (c .before .before .before .before .before .before .before .pre .0) (c .before .before .before .before .before .before .before .pre .3 .node)
 
 part-cut-ranges-end-2 : tie.Need-part-cut-ranges-end-2
-part-cut-ranges-end-2 c = ends (c .before .before .before .before .before .before .before .before .pre .0) (c .before .before .before .before .before .before .before .before .pre .3 .start)
+part-cut-ranges-end-2 c = rec-ends (c .before .before .before .before .before .before .before .before .pre .0) (c .before .before .before .before .before .before .before .before .pre .3 .start)
 
 part-cut-ranges-end-3 : tie.Need-part-cut-ranges-end-3
-part-cut-ranges-end-3 c = ends (c .before .before .before .before .before .before .before .before .before .pre .0) (c .before .before .before .before .before .before .before .before .before .pre .3 .end)
+part-cut-ranges-end-3 c = rec-ends (c .before .before .before .before .before .before .before .before .before .pre .0) (c .before .before .before .before .before .before .before .before .before .pre .3 .end)
 
-part-cut-ranges-end-4 : tie.Need-part-cut-ranges-end-4
-part-cut-ranges-end-4 c = ends (c .before .before .before .before .before .before .before .before .before .before .pre .0) (c .before .before .before .before .before .before .before .before .before .before .pre .3 .id)
+-- earlier places of the function, by name
+abbrev entry′ : tie.After-cut-ranges-arg3 → tie.Start
+entry′ c = c .before .before .before .before .before .before .before .before .before .before
 
-part-cut-ranges-end-5 : tie.Need-part-cut-ranges-end-5
-part-cut-ranges-end-5 c = ends (c .before .before .before .before .before .before .before .before .before .before .before .pre .0) (c .before .before .before .before .before .before .before .before .before .before .before .pre .3 .stamp)
+abbrev after-cut-ranges : tie.After-slice-known14 → tie.After-cut-ranges
+after-cut-ranges c = c .before .before .before .before .before .before .before .before .before .before .before .before .before .before
 
-part-cut-ranges-end-6 : tie.Need-part-cut-ranges-end-6
-part-cut-ranges-end-6 c = ends (c .before .before .before .before .before .before .before .before .before .before .before .before .pre .0) (c .before .before .before .before .before .before .before .before .before .before .before .before .pre .3 .touched)
-
-part-cut-ranges-end-7 : tie.Need-part-cut-ranges-end-7
-part-cut-ranges-end-7 c = ends (c .before .before .before .before .before .before .before .before .before .before .before .before .before .pre .0) (c .before .before .before .before .before .before .before .before .before .before .before .before .before .pre .3 .write)
+abbrev entry-2 : tie.After-slice-known14 → tie.Start
+entry-2 c = after-cut-ranges c .before .before .before .before .before .before .before .before .before .before .before .before .before .before .before
 
 cut-ranges-requires : tie.Need-cut-ranges-requires
 unfolding midRanges
 cut-ranges-requires c κs =
-    let z = c .before .before .before .before .before .before .before .before .before .before .before .before .before .before in
+    let z = entry′ (c .before .before .before .before) in
     let p = z .pre in
-    asked (z .args .s) _ (z .args .n) (z .args .j) (z .args .k) (z .args .next) (orig z) (width (z .args .s)) (p .0) (p .1) (p .2) (p .3)
+    asked (z .args .s) _ (z .args .n) (z .args .j) (z .args .k) (z .args .next) (orig z) (add-sub-cancel-left (128 * z .args .s) 128) (p .0) (p .1) (p .2) (p .3)
 
 same-length : tie.Need-same-length
 same-length c =
-    let z = c .before .before .before .before .before .before .before .before .before .before .before .before .before .before .before .before .before .before .before .before .before .before .before .before .before .before .before .before .before in
-    let k = c .before .before .before .before .before .before .before .before .before .before .before .before .before .before .cut-ranges in
+    let z = entry-2 c in
+    let k = after-cut-ranges c .cut-ranges in
     same-len-mid (128 * z .args .s) ((128 * z .args .s + 128) - 128 * z .args .s) (z .args .node .now) (k .last .0) (k .kept .0)
 
 same-length-2 : tie.Need-same-length-2
 same-length-2 c =
-    let z = c .before .before .before .before .before .before .before .before .before .before .before .before .before .before .before .before .before .before .before .before .before .before .before .before .before .before .before .before .before in
-    let k = c .before .before .before .before .before .before .before .before .before .before .before .before .before .before .cut-ranges in
+    let z = entry-2 c in
+    let k = after-cut-ranges c .cut-ranges in
     same-len-mid (128 * z .args .s) ((128 * z .args .s + 128) - 128 * z .args .s) (z .args .start .now) (k .last .1 .0) (k .kept .1 .0)
 
 same-length-3 : tie.Need-same-length-3
 same-length-3 c =
-    let z = c .before .before .before .before .before .before .before .before .before .before .before .before .before .before .before .before .before .before .before .before .before .before .before .before .before .before .before .before .before in
-    let k = c .before .before .before .before .before .before .before .before .before .before .before .before .before .before .cut-ranges in
+    let z = entry-2 c in
+    let k = after-cut-ranges c .cut-ranges in
     same-len-mid (128 * z .args .s) ((128 * z .args .s + 128) - 128 * z .args .s) (z .args .end .now) (k .last .1 .1 .0) (k .kept .1 .1 .0)
 
 same-length-4 : tie.Need-same-length-4
 same-length-4 c =
-    let z = c .before .before .before .before .before .before .before .before .before .before .before .before .before .before .before .before .before .before .before .before .before .before .before .before .before .before .before .before .before in
-    let k = c .before .before .before .before .before .before .before .before .before .before .before .before .before .before .cut-ranges in
+    let z = entry-2 c in
+    let k = after-cut-ranges c .cut-ranges in
     same-len-mid (128 * z .args .s) ((128 * z .args .s + 128) - 128 * z .args .s) (z .args .id .now) (k .last .1 .1 .1 .0) (k .kept .1 .1 .1 .0)
 
 same-length-5 : tie.Need-same-length-5
 same-length-5 c =
-    let z = c .before .before .before .before .before .before .before .before .before .before .before .before .before .before .before .before .before .before .before .before .before .before .before .before .before .before .before .before .before in
-    let k = c .before .before .before .before .before .before .before .before .before .before .before .before .before .before .cut-ranges in
+    let z = entry-2 c in
+    let k = after-cut-ranges c .cut-ranges in
     same-len-mid (128 * z .args .s) ((128 * z .args .s + 128) - 128 * z .args .s) (z .args .stamp .now) (k .last .1 .1 .1 .1 .0) (k .kept .1 .1 .1 .1 .0)
 
 same-length-6 : tie.Need-same-length-6
 same-length-6 c =
-    let z = c .before .before .before .before .before .before .before .before .before .before .before .before .before .before .before .before .before .before .before .before .before .before .before .before .before .before .before .before .before in
-    let k = c .before .before .before .before .before .before .before .before .before .before .before .before .before .before .cut-ranges in
+    let z = entry-2 c in
+    let k = after-cut-ranges c .cut-ranges in
     same-len-mid (128 * z .args .s) ((128 * z .args .s + 128) - 128 * z .args .s) (z .args .touched .now) (k .last .1 .1 .1 .1 .1 .0) (k .kept .1 .1 .1 .1 .1 .0)
 
 same-length-7 : tie.Need-same-length-7
 same-length-7 c =
-    let z = c .before .before .before .before .before .before .before .before .before .before .before .before .before .before .before .before .before .before .before .before .before .before .before .before .before .before .before .before .before in
-    let k = c .before .before .before .before .before .before .before .before .before .before .before .before .before .before .cut-ranges in
+    let z = entry-2 c in
+    let k = after-cut-ranges c .cut-ranges in
     same-len-mid (128 * z .args .s) ((128 * z .args .s + 128) - 128 * z .args .s) (z .args .write .now) (k .last .1 .1 .1 .1 .1 .1 .0) (k .kept .1 .1 .1 .1 .1 .1 .0)
 
 returns : tie.Need-returns
 unfolding midRanges backRanges
 returns c =
-    let z = c .before .before .before .before .before .before .before .before .before .before .before .before .before .before .before .before .before .before .before .before .before .before .before .before .before .before .before .before .before in
-    let k = c .before .before .before .before .before .before .before .before .before .before .before .before .before .before .cut-ranges in
+    let z = entry-2 c in
+    let k = after-cut-ranges c .cut-ranges in
     let p = z .pre in
     let q = rangesOf (k .last .0) (k .last .1 .0) (k .last .1 .1 .0) (k .last .1 .1 .1 .0) (k .last .1 .1 .1 .1 .0) (k .last .1 .1 .1 .1 .1 .0) (k .last .1 .1 .1 .1 .1 .1 .0) in (
-      given-back (z .args .s) _ (z .args .n) (z .args .j) (z .args .k) (z .args .m) (z .args .next) (orig z) q (width (z .args .s)) (p .1) (k .ensures .0),
-      counted (z .args .s) _ (z .args .n) (z .args .j) (z .args .k) (orig z) (k .result .n) (z .args .n) (width (z .args .s)) (p .1) (k .ensures .1),
-      counted (z .args .s) _ (z .args .n) (z .args .j) (z .args .k) (orig z) (k .result .next) (z .args .next) (width (z .args .s)) (p .1) (k .ensures .2),
+      given-back (z .args .s) _ (z .args .n) (z .args .j) (z .args .k) (z .args .m) (z .args .next) (orig z) q (add-sub-cancel-left (128 * z .args .s) 128) (p .1) (k .ensures .0),
+      counted (z .args .s) _ (z .args .n) (z .args .j) (z .args .k) (orig z) (k .result .n) (z .args .n) (add-sub-cancel-left (128 * z .args .s) 128) (p .1) (k .ensures .1),
+      counted (z .args .s) _ (z .args .n) (z .args .j) (z .args .k) (orig z) (k .result .next) (z .args .next) (add-sub-cancel-left (128 * z .args .s) 128) (p .1) (k .ensures .2),
     )
 
 pub cut-ranges-spec : {M : Type 1} → statement M
 cut-ranges-spec =
     tie.close
     (tie.spec
-    (λ c. start-fits (c .before .before .before .before .before .before .before .pre .0))
-    (λ c. end-fits (c .before .before .before .before .before .before .before .pre .0))
-    (λ c. fit8 (c .before .before .before .before .before .before .before .pre .0))
+    (λ c. rec-fits (c .before .before .before .before .before .before .before .pre .0))
+    (λ c. rec-end-fits (c .before .before .before .before .before .before .before .pre .0))
+    (λ c. rec-fits8 (c .before .before .before .before .before .before .before .pre .0))
     (λ c. le-add-right (128 * c .before .before .before .before .before .before .before .args .s) 128)
-    (λ c. le-add-right (128 * c .before .before .before .before .before .before .before .args .s) 128)
-    part-cut-ranges-end
-    (λ c. fit8 (c .before .before .before .before .before .before .before .before .pre .0))
+    (λ c. le-add-right (128 * c .before .before .before .before .before .before .before .args .s) 128) part-cut-ranges-end
+    (λ c. rec-fits8 (c .before .before .before .before .before .before .before .before .pre .0))
     (λ c. le-add-right (128 * c .before .before .before .before .before .before .before .before .args .s) 128)
-    (λ c. le-add-right (128 * c .before .before .before .before .before .before .before .before .args .s) 128)
-    part-cut-ranges-end-2
-    (λ c. fit8 (c .before .before .before .before .before .before .before .before .before .pre .0))
+    (λ c. le-add-right (128 * c .before .before .before .before .before .before .before .before .args .s) 128) part-cut-ranges-end-2
+    (λ c. rec-fits8 (c .before .before .before .before .before .before .before .before .before .pre .0))
     (λ c. le-add-right (128 * c .before .before .before .before .before .before .before .before .before .args .s) 128)
-    (λ c. le-add-right (128 * c .before .before .before .before .before .before .before .before .before .args .s) 128)
-    part-cut-ranges-end-3
-    (λ c. fit8 (c .before .before .before .before .before .before .before .before .before .before .pre .0))
-    (λ c. le-add-right (128 * c .before .before .before .before .before .before .before .before .before .before .args .s) 128)
-    (λ c. le-add-right (128 * c .before .before .before .before .before .before .before .before .before .before .args .s) 128)
-    part-cut-ranges-end-4
-    (λ c. fit8 (c .before .before .before .before .before .before .before .before .before .before .before .pre .0))
-    (λ c. le-add-right (128 * c .before .before .before .before .before .before .before .before .before .before .before .args .s) 128)
-    (λ c. le-add-right (128 * c .before .before .before .before .before .before .before .before .before .before .before .args .s) 128)
-    part-cut-ranges-end-5
-    (λ c. fit8 (c .before .before .before .before .before .before .before .before .before .before .before .before .pre .0))
-    (λ c. le-add-right (128 * c .before .before .before .before .before .before .before .before .before .before .before .before .args .s) 128)
-    (λ c. le-add-right (128 * c .before .before .before .before .before .before .before .before .before .before .before .before .args .s) 128)
-    part-cut-ranges-end-6
-    (λ c. fit4 (c .before .before .before .before .before .before .before .before .before .before .before .before .before .pre .0))
-    (λ c. le-add-right (128 * c .before .before .before .before .before .before .before .before .before .before .before .before .before .args .s) 128)
-    (λ c. le-add-right (128 * c .before .before .before .before .before .before .before .before .before .before .before .before .before .args .s) 128)
-    part-cut-ranges-end-7
-    cut-ranges-requires
-    same-length
-    same-length-2
-    same-length-3
-    same-length-4
-    same-length-5
-    same-length-6
-    same-length-7
-    returns)
+    (λ c. le-add-right (128 * c .before .before .before .before .before .before .before .before .before .args .s) 128) part-cut-ranges-end-3
+    (λ c. rec-fits8 (entry′ c .pre .0)) (λ c. le-add-right (128 * entry′ c .args .s) 128) (λ c. le-add-right (128 * entry′ c .args .s) 128)
+    (λ c. rec-ends (entry′ c .pre .0) (entry′ c .pre .3 .id)) (λ c. rec-fits8 (entry′ (c .before) .pre .0))
+    (λ c. le-add-right (128 * entry′ (c .before) .args .s) 128) (λ c. le-add-right (128 * entry′ (c .before) .args .s) 128)
+    (λ c. rec-ends (entry′ (c .before) .pre .0) (entry′ (c .before) .pre .3 .stamp)) (λ c. rec-fits8 (entry′ (c .before .before) .pre .0))
+    (λ c. le-add-right (128 * entry′ (c .before .before) .args .s) 128) (λ c. le-add-right (128 * entry′ (c .before .before) .args .s) 128)
+    (λ c. rec-ends (entry′ (c .before .before) .pre .0) (entry′ (c .before .before) .pre .3 .touched))
+    (λ c. rec-fits4 (entry′ (c .before .before .before) .pre .0)) (λ c. le-add-right (128 * entry′ (c .before .before .before) .args .s) 128)
+    (λ c. le-add-right (128 * entry′ (c .before .before .before) .args .s) 128)
+    (λ c. rec-ends (entry′ (c .before .before .before) .pre .0) (entry′ (c .before .before .before) .pre .3 .write)) cut-ranges-requires same-length
+    same-length-2 same-length-3 same-length-4 same-length-5 same-length-6 same-length-7 returns)

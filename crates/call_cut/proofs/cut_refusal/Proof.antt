@@ -4,9 +4,6 @@ use Rattle.call_cut.proofs.Refusals.{eight, nine, eleven, no-number}
 use Rattle.call_cut.proofs.cut_refusal.Statement.{statement}
 use Rattle.call_cut.proofs.cut_refusal.Tie as tie
 
-records-over-requires : tie.Need-records-over-requires
-records-over-requires c κs = search needs
-
 returns : tie.Need-returns
 returns c =
     let a = c .before .before .before .before .before .args in
@@ -16,12 +13,6 @@ returns-2 : tie.Need-returns-2
 returns-2 c =
     let a = c .before .before .before .before .before .before .args in
     nine (a .j) (a .k) (a .over) (a .records) (a .stores) (a .next) (a .node .now) (a .start .now) (a .end .now) (c .before .before .records-over .result) (c .before .before .records-over .ensures) (c .before .if1 .left) (c .if2 .taken)
-
-ids-needed-requires : tie.Need-ids-needed-requires
-ids-needed-requires c κs = search needs
-
-add-if3 : tie.Need-add-if3
-add-if3 c = search needs
 
 returns-3 : tie.Need-returns-3
 returns-3 c =
@@ -35,4 +26,5 @@ returns-4 c =
 
 pub cut-refusal-spec : {M : Type 1} → statement M
 cut-refusal-spec =
-    tie.close (tie.spec records-over-requires returns returns-2 ids-needed-requires add-if3 returns-3 returns-4)
+    tie.close (tie.spec
+    (λ c κs. search needs) returns returns-2 (λ c κs. search needs) (λ c. search needs) returns-3 returns-4)

@@ -48,15 +48,5 @@ pub entries-over-spec : {M : Type 1} → statement M
 entries-over-spec =
     tie.close
     (tie.spec
-    Inv-loop
-    μ-loop
-    (λ c. over-start _ _ _)
-    (λ c. search needs)
-    (λ c. search needs)
-    pins-across-requires
-    add-if1
-    returns
-    (λ c. search needs)
-    (λ c. search needs)
-    loop-again
-    returns-2)
+    Inv-loop μ-loop (λ c. over-start _ _ _) (λ c. search needs) (λ c. search needs) pins-across-requires add-if1 returns (λ c. search needs)
+    (λ c. search needs) loop-again returns-2)

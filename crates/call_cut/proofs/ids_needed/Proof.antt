@@ -25,14 +25,5 @@ pub ids-needed-spec : {M : Type 1} → statement M
 ids-needed-spec =
     tie.close
     (tie.spec
-    Inv-loop
-    μ-loop
-    (λ c. sum-start _ _ _ _ _ _ _)
-    (λ c. search needs)
-    (λ c. search needs)
-    ranges-across-requires
-    add-sum
-    (λ c. search needs)
-    (λ c. search needs)
-    loop-again
-    (λ c. sum-end _ _ _ _ _ _ _ _ _ (c .before .loop .inv) (c .loop-test .left)))
+    Inv-loop μ-loop (λ c. sum-start _ _ _ _ _ _ _) (λ c. search needs) (λ c. search needs) ranges-across-requires add-sum (λ c. search needs)
+    (λ c. search needs) loop-again (λ c. sum-end _ _ _ _ _ _ _ _ _ (c .before .loop .inv) (c .loop-test .left)))

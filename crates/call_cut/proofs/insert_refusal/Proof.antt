@@ -8,50 +8,45 @@ use Rattle.call_cut.proofs.Refusals.{plus-few, none-added, node-in, nod
 use Rattle.call_cut.proofs.insert_refusal.Statement.{statement}
 use Rattle.call_cut.proofs.insert_refusal.Tie as tie
 
+-- earlier places of the function, by name
+abbrev entry : tie.After-node-need → tie.Start
+entry c = c .before .before .before .before .before .before .before .before .before .before
+
+abbrev else1 : tie.After-cut-refusal → tie.Else1
+else1 c = c .before .before .before .before .before .before .before .before .before .before .before .before
+
 add-if2 : tie.Need-add-if2
 add-if2 c =
-    let z = c .before .before .before .before .before .before .before .before .before .before in
+    let z = entry c in
     let a = z .args in
     omega (arith, few-nodes (z .pre .0) (z .pre .1) (z .pre .2), c .node-need .ensures, plus-few (ltb (a .m .len) (at (a .len .now) (a .m .node))))
 
 returns-2 : tie.Need-returns-2
 returns-2 c =
-    let z = c .before .before .before .before .before .before .before .before .before .before .before in
+    let z = entry (c .before) in
     let a = z .args in
     λ st hs w. six st hs w (c .before .before .before .before .if1 .left) (ltb (a .m .len) (at (a .len .now) (a .m .node))) (c .before .node-need .result) refl (c .before .node-need .ensures) (c .if2 .taken)
 
-shared-slice-read-used : tie.Need-shared-slice-read-used
-shared-slice-read-used c = let p = c .before .before .before .before .before .before .before .before .before .before .before .before .pre in omega (arith, long (p .0) (p .1) (p .2))
-
 returns-3 : tie.Need-returns-3
 returns-3 c =
-    let z = c .before .before .before .before .before .before .before .before .before .before .before .before .before .before in
+    let z = entry (c .before .before .before .before) in
     let a = z .args in
     λ st hs w. seven st hs w (c .before .before .before .before .before .before .before .if1 .left) (ltb (a .m .len) (at (a .len .now) (a .m .node))) (c .before .before .before .before .node-need .result) refl (c .before .before .before .before .node-need .ensures) (c .before .before .before .if2 .left) (c .if3 .taken)
 
 returns-4 : tie.Need-returns-4
 returns-4 c =
-    let z = c .before .before .before .before .before .before .before .before .before .before .before .before .before .before .before in
+    let z = entry (c .before .before .before .before .before) in
     let a = z .args in
     λ st hs w. not-inside st hs w (c .before .before .before .before .before .before .before .before .if1 .left) (ltb (a .m .len) (at (a .len .now) (a .m .node))) (c .before .before .before .before .before .node-need .result) refl (c .before .before .before .before .before .node-need .ensures) (c .before .before .before .before .if2 .left) (c .before .if3 .left) (c .if4 .taken)
 
-shared-slice-read-stores : tie.Need-shared-slice-read-stores
-shared-slice-read-stores c = let p = c .before .before .before .before .before .before .before .before .before .before .before .before .before .before .before .before .pre in omega (arith, long (p .0) (p .1) (p .2))
-
-shared-slice-read-next : tie.Need-shared-slice-read-next
-shared-slice-read-next c = let p = c .before .before .before .before .before .before .before .before .before .before .before .before .before .before .before .before .before .pre in omega (arith, long (p .0) (p .1) (p .2))
-
-records-of-requires : tie.Need-records-of-requires
-records-of-requires c κs = let p = c .before .before .before .before .before .before .before .before .before .before .before .before .before .before .before .before .before .pre in long (p .0) (p .1) (p .2)
-
 cut-refusal-requires : tie.Need-cut-refusal-requires
-cut-refusal-requires c κs = let p = c .before .before .before .before .before .before .before .before .before .before .before .before .before .before .before .before .before .before .pre in cut-asks (p .0) (p .1) (p .2) (c .records-of .result) (c .records-of .ensures)
+cut-refusal-requires c κs = let p = entry (c .before .before .before .before .before .before .before .before) .pre in cut-asks (p .0) (p .1) (p .2) (c .records-of .result) (c .records-of .ensures)
 
 returns-5 : tie.Need-returns-5
 returns-5 c =
-    let z = c .before .before .before .before .before .before .before .before .before .before .before .before .before .before .before .before .before .before .before in
+    let z = entry (c .before .before .before .before .before .before .before .before .before) in
     let a = z .args in
-    λ st hs w. inside st hs w (c .before .before .before .before .before .before .before .before .before .before .before .before .if1 .left) (ltb (a .m .len) (at (a .len .now) (a .m .node))) (c .before .before .before .before .before .before .before .before .before .node-need .result) refl (c .before .before .before .before .before .before .before .before .before .node-need .ensures) (c .before .before .before .before .before .before .before .before .if2 .left) (c .before .before .before .before .before .if3 .left) (c .before .before .before .before .if4 .left) (c .before .records-of .result) (c .before .records-of .ensures) (c .cut-refusal .result) (c .cut-refusal .ensures)
+    λ st hs w. inside st hs w (else1 c .if1 .left) (ltb (a .m .len) (at (a .len .now) (a .m .node))) (c .before .before .before .before .before .before .before .before .before .node-need .result) refl (c .before .before .before .before .before .before .before .before .before .node-need .ensures) (c .before .before .before .before .before .before .before .before .if2 .left) (c .before .before .before .before .before .if3 .left) (c .before .before .before .before .if4 .left) (c .before .records-of .result) (c .before .records-of .ensures) (c .cut-refusal .result) (c .cut-refusal .ensures)
 
 pub insert-refusal-spec : {M : Type 1} → statement M
 insert-refusal-spec =
@@ -61,16 +56,9 @@ insert-refusal-spec =
     (λ c. let p = c .before .before .before .before .before .before .before .pre in omega (arith, node-small (p .0) (p .1) (p .2) (c .if1 .left)))
     (λ c. let p = c .before .before .before .before .before .before .before .before .pre in node-in (p .0) (p .1) (p .2) (c .before .if1 .left))
     (λ c. let p = c .before .before .before .before .before .before .before .before .before .pre in omega (arith, long (p .0) (p .1) (p .2)))
-    (λ c κs. search needs)
-    add-if2
-    returns-2
-    shared-slice-read-used
-    (λ c. search needs)
-    (λ c. search needs)
-    returns-3
-    returns-4
-    shared-slice-read-stores
-    shared-slice-read-next
-    records-of-requires
-    cut-refusal-requires
+    (λ c κs. search needs) add-if2 returns-2 (λ c. let p = entry (c .before .before) .pre in omega (arith, long (p .0) (p .1) (p .2)))
+    (λ c. search needs) (λ c. search needs) returns-3 returns-4
+    (λ c. let p = entry (c .before .before .before .before .before .before) .pre in omega (arith, long (p .0) (p .1) (p .2)))
+    (λ c. let p = entry (c .before .before .before .before .before .before .before) .pre in omega (arith, long (p .0) (p .1) (p .2)))
+    (λ c κs. let p = entry (c .before .before .before .before .before .before .before) .pre in long (p .0) (p .1) (p .2)) cut-refusal-requires
     returns-5)

@@ -2,11 +2,12 @@
 use Prim.Native.Nat.{_*_}
 use mathlib.Core.Path.{_≡_, refl}
 use mathlib.Core.List.{[]}
+use native.Mathlib.Nat.{add-sub-cancel-left}
 use Rattle.model.specs.State.{Ranges}
 use Rattle.model.specs.Store.{ranges as rangesIn}
 use Rattle.model.specs.Insert.{rangesAcross}
 use Rattle.shape_state.specs.Lent.{rangesOf}
-use Rattle.call_cut.proofs.Stores.{across-part, across-few, width}
+use Rattle.call_cut.proofs.Stores.{across-part, across-few}
 use borrow.Author.Needs.{needs}
 use Rattle.call_cut.proofs.ranges_across.Statement.{statement}
 use Rattle.call_cut.proofs.ranges_across.Tie as tie
@@ -22,7 +23,7 @@ found : (c : tie.After-ranges-across) (ranges : Ranges)
 found c ranges a b d =
     let z = c .before .before .before .before .before .before .before in
     across-part (z .args .s) _ (z .args .n) (z .args .j) (z .args .k) (c .ranges-across .result) ranges (z .args .node .now) (z .args .start .now)
-    (z .args .end .now) (width (z .args .s)) (z .pre .1) (c .ranges-across .ensures) a b d
+    (z .args .end .now) (add-sub-cancel-left (128 * z .args .s) 128) (z .pre .1) (c .ranges-across .ensures) a b d
 
 returns : tie.Need-returns
 returns c =
@@ -37,19 +38,6 @@ pub ranges-across-spec : {M : Type 1} → statement M
 ranges-across-spec =
     tie.close
     (tie.spec
-    (λ c. search needs)
-    (λ c. search needs)
-    (λ c. search needs)
-    (λ c. search needs)
-    (λ c. search needs)
-    (λ c. search needs)
-    (λ c. search needs)
-    (λ c. search needs)
-    (λ c. search needs)
-    (λ c. search needs)
-    (λ c. search needs)
-    (λ c. search needs)
-    (λ c. search needs)
-    (λ c. search needs)
-    (λ c κs. search needs)
-    returns)
+    (λ c. search needs) (λ c. search needs) (λ c. search needs) (λ c. search needs) (λ c. search needs) (λ c. search needs) (λ c. search needs)
+    (λ c. search needs) (λ c. search needs) (λ c. search needs) (λ c. search needs) (λ c. search needs) (λ c. search needs) (λ c. search needs)
+    (λ c κs. search needs) returns)

@@ -28,9 +28,4 @@ pub refusal-spec : {M : Type 1} → statement M
 refusal-spec =
     tie.close
     (tie.spec
-    returns
-    (λ c κs. search needs)
-    returns-2
-    (λ c κs. search needs)
-    returns-3
-    returns-4)
+    returns (λ c κs. search needs) returns-2 (λ c κs. search needs) returns-3 returns-4)

@@ -30,65 +30,51 @@ lists z =
     outList (z .args .out-node .now) (z .args .out-start .now) (z .args .out-end .now) (z .args .out-write .now) (z .args .out-bytes .now)
     (z .args .out-dead .now)
 
+-- earlier places of the function, by name
+abbrev entry′ : tie.Then1 → tie.Start
+entry′ c = c .before .before .before .before .before .before .before .before .before .before .before .before .before .before .before .before .before .before .before .before .before .before .before .before .before .before .before .before
+
+abbrev entry-2 : tie.After-book-of-arg → tie.Start
+entry-2 c = c .before .before .before .before .before .before .before .before .before .before .before .before .before .before .before .before .before .before .before .before .before .before .before .before .before .before .before .before .before
+
+abbrev after-book-of : tie.After-expire-pools-arg14 → tie.After-book-of
+after-book-of c = c .before .before .before .before .before .before .before .before .before .before .before .before .before .before
+
+abbrev after-refusal : tie.After-expire-pools-arg14 → tie.After-refusal
+after-refusal c = after-book-of c .before .before .before
+
+abbrev entry-3 : tie.After-expire-pools-arg14 → tie.Start
+entry-3 c = entry-2 (c .before .before .before .before .before .before .before .before .before .before .before .before .before .before .before)
+
+abbrev else1-2 : tie.After-put-book-arg → tie.Else1
+else1-2 c = after-book-of (c .before .before .before .before .before .before .before .before .before .before .before .before .before .before .before .before .before .before .before .before .before .before .before .before .before .before .before .before .before .before) .before .before
+
+abbrev entry-4 : tie.After-put-book-arg → tie.Start
+entry-4 c = else1-2 c .before .before .before .before .before .before .before .before .before .before .before .before .before .before .before .before .before .before .before .before .before .before .before .before .before .before .before .before
+
+abbrev after-expire-pools : tie.After-slice-known31 → tie.After-expire-pools
+after-expire-pools c = c .before .before .before .before .before .before .before .before .before .before .before .before .before .before .before .before .before .before .before .before .before .before .before .before .before .before .before .before .before .before .before .before
+
+abbrev after-book-of-2 : tie.After-slice-known31 → tie.After-book-of
+after-book-of-2 c = after-expire-pools c .before .before .before .before .before .before .before .before .before .before .before .before .before .before .before
+
 returns : tie.Need-returns
-returns c = let z = c .before .before .before .before .before .before .before .before .before .before .before .before .before .before .before .before .before .before .before .before .before .before .before .before .before .before .before .before in call-refused (state z) (lists z) (z .args .s) (z .args .time) (z .args .seconds) (c .before .refusal .result) (c .before .refusal .ensures (state z) (lists z) (z .pre .0) (z .pre .1) refl) (c .if1 .taken)
+returns c = let z = entry′ c in call-refused (state z) (lists z) (z .args .s) (z .args .time) (z .args .seconds) (c .before .refusal .result) (c .before .refusal .ensures (state z) (lists z) (z .pre .0) (z .pre .1) refl) (c .if1 .taken)
 
 book-of-requires : tie.Need-book-of-requires
-book-of-requires c κs = let z = c .before .before .before .before .before .before .before .before .before .before .before .before .before .before .before .before .before .before .before .before .before .before .before .before .before .before .before .before .before in book-in (state z) (lists z) (z .args .s) (z .args .time) (z .args .seconds) (z .pre .0) (z .pre .1) (c .before .before .refusal .result) (c .before .before .refusal .ensures (state z) (lists z) (z .pre .0) (z .pre .1) refl) (c .before .if1 .left)
+book-of-requires c κs = let z = entry-2 c in book-in (state z) (lists z) (z .args .s) (z .args .time) (z .args .seconds) (z .pre .0) (z .pre .1) (c .before .before .refusal .result) (c .before .before .refusal .ensures (state z) (lists z) (z .pre .0) (z .pre .1) refl) (c .before .if1 .left)
 
 expire-pools-requires : tie.Need-expire-pools-requires
-expire-pools-requires c κs = let z = c .before .before .before .before .before .before .before .before .before .before .before .before .before .before .before .before .before .before .before .before .before .before .before .before .before .before .before .before .before .before .before .before .before .before .before .before .before .before .before .before .before .before .before .before in pool-in (state z) (lists z) (z .args .s) (z .args .time) (z .args .seconds) (z .pre .0) (z .pre .1) (c .before .before .before .before .before .before .before .before .before .before .before .before .before .before .before .before .before .refusal .result) (c .before .before .before .before .before .before .before .before .before .before .before .before .before .before .before .before .before .refusal .ensures (state z) (lists z) (z .pre .0) (z .pre .1) refl) (c .before .before .before .before .before .before .before .before .before .before .before .before .before .before .before .before .if1 .left) (c .before .before .before .before .before .before .before .before .before .before .before .before .before .before .book-of .result) (c .before .before .before .before .before .before .before .before .before .before .before .before .before .before .book-of .ensures)
+expire-pools-requires c κs = let z = entry-3 c in pool-in (state z) (lists z) (z .args .s) (z .args .time) (z .args .seconds) (z .pre .0) (z .pre .1) (after-refusal c .refusal .result) (after-refusal c .refusal .ensures (state z) (lists z) (z .pre .0) (z .pre .1) refl) (after-book-of c .before .before .if1 .left) (after-book-of c .book-of .result) (after-book-of c .book-of .ensures)
 
 put-book-requires : tie.Need-put-book-requires
-put-book-requires c κs = let z = c .before .before .before .before .before .before .before .before .before .before .before .before .before .before .before .before .before .before .before .before .before .before .before .before .before .before .before .before .before .before .before .before .before .before .before .before .before .before .before .before .before .before .before .before .before .before .before .before .before .before .before .before .before .before .before .before .before .before .before .before .before .before .before .before .before .before .before .before .before .before .before .before .before .before in book-in (state z) (lists z) (z .args .s) (z .args .time) (z .args .seconds) (z .pre .0) (z .pre .1) (c .before .before .before .before .before .before .before .before .before .before .before .before .before .before .before .before .before .before .before .before .before .before .before .before .before .before .before .before .before .before .before .before .before .before .before .before .before .before .before .before .before .before .before .before .before .before .before .refusal .result) (c .before .before .before .before .before .before .before .before .before .before .before .before .before .before .before .before .before .before .before .before .before .before .before .before .before .before .before .before .before .before .before .before .before .before .before .before .before .before .before .before .before .before .before .before .before .before .before .refusal .ensures (state z) (lists z) (z .pre .0) (z .pre .1) refl) (c .before .before .before .before .before .before .before .before .before .before .before .before .before .before .before .before .before .before .before .before .before .before .before .before .before .before .before .before .before .before .before .before .before .before .before .before .before .before .before .before .before .before .before .before .before .before .if1 .left)
-
-same-length : tie.Need-same-length
-same-length c = c .before .before .before .before .before .before .before .before .before .before .before .before .before .before .before .before .before .before .before .before .before .before .before .before .before .before .before .before .before .before .before .before .expire-pools .kept .0
-
-same-length-2 : tie.Need-same-length-2
-same-length-2 c = c .before .before .before .before .before .before .before .before .before .before .before .before .before .before .before .before .before .before .before .before .before .before .before .before .before .before .before .before .before .before .before .before .expire-pools .kept .1 .0
-
-same-length-3 : tie.Need-same-length-3
-same-length-3 c = c .before .before .before .before .before .before .before .before .before .before .before .before .before .before .before .before .before .before .before .before .before .before .before .before .before .before .before .before .before .before .before .before .expire-pools .kept .1 .1 .0
-
-same-length-4 : tie.Need-same-length-4
-same-length-4 c = c .before .before .before .before .before .before .before .before .before .before .before .before .before .before .before .before .before .before .before .before .before .before .before .before .before .before .before .before .before .before .before .before .expire-pools .kept .1 .1 .1 .0
-
-same-length-5 : tie.Need-same-length-5
-same-length-5 c = c .before .before .before .before .before .before .before .before .before .before .before .before .before .before .before .before .before .before .before .before .before .before .before .before .before .before .before .before .before .before .before .before .expire-pools .kept .1 .1 .1 .1 .0
-
-same-length-6 : tie.Need-same-length-6
-same-length-6 c = c .before .before .before .before .before .before .before .before .before .before .before .before .before .before .before .before .before .before .before .before .before .before .before .before .before .before .before .before .before .before .before .before .expire-pools .kept .1 .1 .1 .1 .1 .0
-
-same-length-7 : tie.Need-same-length-7
-same-length-7 c = c .before .before .before .before .before .before .before .before .before .before .before .before .before .before .before .before .before .before .before .before .before .before .before .before .before .before .before .before .before .before .before .before .expire-pools .kept .1 .1 .1 .1 .1 .1 .0
-
-same-length-8 : tie.Need-same-length-8
-same-length-8 c = c .before .before .before .before .before .before .before .before .before .before .before .before .before .before .before .before .before .before .before .before .before .before .before .before .before .before .before .before .before .before .before .before .expire-pools .kept .1 .1 .1 .1 .1 .1 .1 .0
-
-same-length-10 : tie.Need-same-length-10
-same-length-10 c = c .before .before .before .before .before .before .before .before .before .before .before .before .before .before .before .before .before .before .before .before .before .before .before .before .before .before .before .before .before .before .before .before .expire-pools .kept .1 .1 .1 .1 .1 .1 .1 .1 .0
-
-same-length-11 : tie.Need-same-length-11
-same-length-11 c = c .before .before .before .before .before .before .before .before .before .before .before .before .before .before .before .before .before .before .before .before .before .before .before .before .before .before .before .before .before .before .before .before .expire-pools .kept .1 .1 .1 .1 .1 .1 .1 .1 .1 .0
-
-same-length-12 : tie.Need-same-length-12
-same-length-12 c = c .before .before .before .before .before .before .before .before .before .before .before .before .before .before .before .before .before .before .before .before .before .before .before .before .before .before .before .before .before .before .before .before .expire-pools .kept .1 .1 .1 .1 .1 .1 .1 .1 .1 .1 .0
-
-same-length-13 : tie.Need-same-length-13
-same-length-13 c = c .before .before .before .before .before .before .before .before .before .before .before .before .before .before .before .before .before .before .before .before .before .before .before .before .before .before .before .before .before .before .before .before .expire-pools .kept .1 .1 .1 .1 .1 .1 .1 .1 .1 .1 .1 .0
-
-same-length-14 : tie.Need-same-length-14
-same-length-14 c = c .before .before .before .before .before .before .before .before .before .before .before .before .before .before .before .before .before .before .before .before .before .before .before .before .before .before .before .before .before .before .before .before .expire-pools .kept .1 .1 .1 .1 .1 .1 .1 .1 .1 .1 .1 .1 .0
-
-same-length-15 : tie.Need-same-length-15
-same-length-15 c = c .before .before .before .before .before .before .before .before .before .before .before .before .before .before .before .before .before .before .before .before .before .before .before .before .before .before .before .before .before .before .before .before .expire-pools .kept .1 .1 .1 .1 .1 .1 .1 .1 .1 .1 .1 .1 .1 .0
+put-book-requires c κs = let z = entry-4 c in book-in (state z) (lists z) (z .args .s) (z .args .time) (z .args .seconds) (z .pre .0) (z .pre .1) (else1-2 c .before .refusal .result) (else1-2 c .before .refusal .ensures (state z) (lists z) (z .pre .0) (z .pre .1) refl) (else1-2 c .if1 .left)
 
 returns-2 : tie.Need-returns-2
 returns-2 c =
-    let z = c .before .before .before .before .before .before .before .before .before .before .before .before .before .before .before .before .before .before .before .before .before .before .before .before .before .before .before .before .before .before .before .before .before .before .before .before .before .before .before .before .before .before .before .before .before .before .before .before .before .before .before .before .before .before .before .before .before .before .before .before .before .before .before .before .before .before .before .before .before .before .before .before .before .before .before .before .before in
-    let k = c .before .before .before .before .before .before .before .before .before .before .before .before .before .before .before .before .before .before .before .before .before .before .before .before .before .before .before .before .before .before .before .before .expire-pools in
-    call-done (T z) (records z) (entries z) (z .args .marks .now) (z .args .bytes .now) (z .args .books .now) (lists z) (z .args .s) (z .args .time) (z .args .seconds) (z .pre .0) (z .pre .1) (c .before .before .before .before .before .before .before .before .before .before .before .before .before .before .before .before .before .before .before .before .before .before .before .before .before .before .before .before .before .before .before .before .before .before .before .before .before .before .before .before .before .before .before .before .before .before .before .before .before .before .refusal .result) (c .before .before .before .before .before .before .before .before .before .before .before .before .before .before .before .before .before .before .before .before .before .before .before .before .before .before .before .before .before .before .before .before .before .before .before .before .before .before .before .before .before .before .before .before .before .before .before .before .before .before .refusal .ensures (state z) (lists z) (z .pre .0) (z .pre .1) refl) (c .before .before .before .before .before .before .before .before .before .before .before .before .before .before .before .before .before .before .before .before .before .before .before .before .before .before .before .before .before .before .before .before .before .before .before .before .before .before .before .before .before .before .before .before .before .before .before .before .before .if1 .left) (c .before .before .before .before .before .before .before .before .before .before .before .before .before .before .before .before .before .before .before .before .before .before .before .before .before .before .before .before .before .before .before .before .before .before .before .before .before .before .before .before .before .before .before .before .before .before .before .book-of .result) (c .before .before .before .before .before .before .before .before .before .before .before .before .before .before .before .before .before .before .before .before .before .before .before .before .before .before .before .before .before .before .before .before .before .before .before .before .before .before .before .before .before .before .before .before .before .before .before .book-of .ensures)
+    let z = entry-4 (c .before .before .before) in
+    let k = after-expire-pools c .expire-pools in
+    call-done (T z) (records z) (entries z) (z .args .marks .now) (z .args .bytes .now) (z .args .books .now) (lists z) (z .args .s) (z .args .time) (z .args .seconds) (z .pre .0) (z .pre .1) (else1-2 (c .before .before .before) .before .refusal .result) (else1-2 (c .before .before .before) .before .refusal .ensures (state z) (lists z) (z .pre .0) (z .pre .1) refl) (else1-2 (c .before .before .before) .if1 .left) (after-book-of-2 c .book-of .result) (after-book-of-2 c .book-of .ensures)
     {c = rangesOf (k .last .0) (k .last .1 .0) (k .last .1 .1 .0) (k .last .1 .1 .1 .0) (k .last .1 .1 .1 .1 .0) (k .last .1 .1 .1 .1 .1 .0) (k .last .1 .1 .1 .1 .1 .1 .0)} {ks = k .last .1 .1 .1 .1 .1 .1 .1 .0} {lʹ = outList (k .last .1 .1 .1 .1 .1 .1 .1 .1 .0) (k .last .1 .1 .1 .1 .1 .1 .1 .1 .1 .0) (k .last .1 .1 .1 .1 .1 .1 .1 .1 .1 .1 .0) (k .last .1 .1 .1 .1 .1 .1 .1 .1 .1 .1 .1 .0) (k .last .1 .1 .1 .1 .1 .1 .1 .1 .1 .1 .1 .1 .0) (k .last .1 .1 .1 .1 .1 .1 .1 .1 .1 .1 .1 .1 .1 .0)} {r = k .result} (k .ensures)
     (c .before .before .put-book .last .0) (c .before .before .put-book .ensures)
 
@@ -96,25 +82,14 @@ pub store-expire-spec : {M : Type 1} → statement M
 store-expire-spec =
     tie.close
     (tie.spec
-    (λ c. search needs)
-    (λ c κs. tt)
-    returns
-    book-of-requires
-    expire-pools-requires
-    put-book-requires
-    same-length
-    same-length-2
-    same-length-3
-    same-length-4
-    same-length-5
-    same-length-6
-    same-length-7
-    same-length-8
-    (λ c. c .before .before .put-book .kept .0)
-    same-length-10
-    same-length-11
-    same-length-12
-    same-length-13
-    same-length-14
-    same-length-15
-    returns-2)
+    (λ c. search needs) (λ c κs. tt) returns book-of-requires expire-pools-requires put-book-requires
+    (λ c. after-expire-pools c .expire-pools .kept .0) (λ c. after-expire-pools c .expire-pools .kept .1 .0)
+    (λ c. after-expire-pools c .expire-pools .kept .1 .1 .0) (λ c. after-expire-pools c .expire-pools .kept .1 .1 .1 .0)
+    (λ c. after-expire-pools c .expire-pools .kept .1 .1 .1 .1 .0) (λ c. after-expire-pools c .expire-pools .kept .1 .1 .1 .1 .1 .0)
+    (λ c. after-expire-pools c .expire-pools .kept .1 .1 .1 .1 .1 .1 .0) (λ c. after-expire-pools c .expire-pools .kept .1 .1 .1 .1 .1 .1 .1 .0)
+    (λ c. c .before .before .put-book .kept .0) (λ c. after-expire-pools c .expire-pools .kept .1 .1 .1 .1 .1 .1 .1 .1 .0)
+    (λ c. after-expire-pools c .expire-pools .kept .1 .1 .1 .1 .1 .1 .1 .1 .1 .0)
+    (λ c. after-expire-pools c .expire-pools .kept .1 .1 .1 .1 .1 .1 .1 .1 .1 .1 .0)
+    (λ c. after-expire-pools c .expire-pools .kept .1 .1 .1 .1 .1 .1 .1 .1 .1 .1 .1 .0)
+    (λ c. after-expire-pools c .expire-pools .kept .1 .1 .1 .1 .1 .1 .1 .1 .1 .1 .1 .1 .0)
+    (λ c. after-expire-pools c .expire-pools .kept .1 .1 .1 .1 .1 .1 .1 .1 .1 .1 .1 .1 .1 .0) returns-2)

@@ -13,21 +13,49 @@ use Rattle.call_insert.proofs.Laws.{many-refused, shown, number-refused
 use Rattle.call_insert.proofs.insert.Statement.{statement}
 use Rattle.call_insert.proofs.insert.Tie as tie
 
+-- earlier places of the function, by name
+abbrev entry : tie.Then1 → tie.Start
+entry c = c .before .before .before .before .before .before .before .before .before .before .before .before .before .before .before .before .before .before .before .before .before .before .before
+
+abbrev entry-2 : tie.After-slice-known21 → tie.Start
+entry-2 c = c .before .before .before .before .before .before .before .before .before .before .before .before .before .before .before .before .before .before .before .before .before .before .before .before
+
+abbrev after-resolve : tie.After-refusal-arg8 → tie.After-resolve
+after-resolve c = c .before .before .before .before .before .before .before .before .before .before
+
+abbrev else1 : tie.After-refusal-arg8 → tie.Else1
+else1 c = after-resolve c .before .before .before .before .before .before .before .before
+
+abbrev entry-3 : tie.After-refusal-arg8 → tie.Start
+entry-3 c = entry-2 (c .before .before .before .before .before .before .before .before .before .before .before .before .before .before .before .before .before)
+
+abbrev else2 : tie.After-found-len3 → tie.Else2
+else2 c = c .before .before .before .before .before .before .before .before .before .before .before .before .before .before .before .before .before .before .before .before .before .before
+
+abbrev after-resolve-2 : tie.After-found-len3 → tie.After-resolve
+after-resolve-2 c = else2 c .before .before .before .before .before .before .before .before .before .before .before .before
+
+abbrev else1-2 : tie.After-found-len3 → tie.Else1
+else1-2 c = after-resolve-2 c .before .before .before .before .before .before .before .before
+
+abbrev entry-4 : tie.After-found-len3 → tie.Start
+entry-4 c = else1-2 c .before .before .before .before .before .before .before .before .before .before .before .before .before .before .before .before .before .before .before .before .before .before .before
+
+abbrev after-insert-found : tie.After-slice-known41 → tie.After-insert-found
+after-insert-found c = c .before .before .before .before .before .before .before .before .before .before .before .before .before .before .before .before .before .before .before .before .before .before .before .before .before .before .before .before .before .before .before .before .before .before .before .before .before .before .before .before
+
 returns : tie.Need-returns
 returns c =
-    let z = c .before .before .before .before .before .before .before .before .before .before .before .before .before .before .before .before .before .before .before .before .before .before .before in
+    let z = entry c in
     let a = z .args in
     let st = stateFrom (a .parent .now) (a .depth .now) (a .len .now) (a .run .now) (a .words .now) (a .node .now) (a .start .now) (a .end .now) (a .id .now) (a .stamp .now) (a .touched .now) (a .write .now) (a .pin-node .now) (a .pin-start .now) (a .pin-end .now) (a .pin-count .now) (a .marks .now) (a .bytes .now) (a .books .now) in
     let l = pathListOf (a .path-node .now) (a .path-len .now) in
     let hs = a .hashes .now in
     many-refused st l hs (z .pre .0) (z .pre .1) (c .if1 .taken)
 
-slice-read-nodes : tie.Need-slice-read-nodes
-slice-read-nodes c = omega (arith, c .before .before .before .before .before .before .before .before .before .before .before .before .before .before .before .before .before .before .before .before .before .before .before .before .pre .0 .lent .books)
-
 resolve-requires : tie.Need-resolve-requires
 resolve-requires c κs =
-    let z = c .before .before .before .before .before .before .before .before .before .before .before .before .before .before .before .before .before .before .before .before .before .before .before .before .before .before .before .before .before .before in
+    let z = entry-2 (c .before .before .before .before .before .before) in
     let a = z .args in
     let st = stateFrom (a .parent .now) (a .depth .now) (a .len .now) (a .run .now) (a .words .now) (a .node .now) (a .start .now) (a .end .now) (a .id .now) (a .stamp .now) (a .touched .now) (a .write .now) (a .pin-node .now) (a .pin-start .now) (a .pin-end .now) (a .pin-count .now) (a .marks .now) (a .bytes .now) (a .books .now) in
     let l = pathListOf (a .path-node .now) (a .path-len .now) in
@@ -36,143 +64,57 @@ resolve-requires c κs =
 
 refusal-requires : tie.Need-refusal-requires
 refusal-requires c κs =
-    let z = c .before .before .before .before .before .before .before .before .before .before .before .before .before .before .before .before .before .before .before .before .before .before .before .before .before .before .before .before .before .before .before .before .before .before .before .before .before .before .before .before .before in
+    let z = entry-3 c in
     let a = z .args in
     let st = stateFrom (a .parent .now) (a .depth .now) (a .len .now) (a .run .now) (a .words .now) (a .node .now) (a .start .now) (a .end .now) (a .id .now) (a .stamp .now) (a .touched .now) (a .write .now) (a .pin-node .now) (a .pin-start .now) (a .pin-end .now) (a .pin-count .now) (a .marks .now) (a .bytes .now) (a .books .now) in
     let l = pathListOf (a .path-node .now) (a .path-len .now) in
     let hs = a .hashes .now in
-    let r = c .before .before .before .before .before .before .before .before .before .before .resolve in
-    (st, hs, shown (a .parent .now) (a .depth .now) (a .len .now) (a .run .now) (a .words .now) (rangesOf (a .node .now) (a .start .now) (a .end .now) (a .id .now) (a .stamp .now) (a .touched .now) (a .write .now)) (pinsOf (a .pin-node .now) (a .pin-start .now) (a .pin-end .now) (a .pin-count .now)) (a .marks .now) (a .bytes .now) (a .books .now) hs (r .result) (z .pre .0) (c .before .before .before .before .before .before .before .before .before .before .before .before .before .before .before .before .before .before .if1 .left) (r .ensures (a .depth .now) (usedIn (a .books .now)) .answer))
+    let r = after-resolve c .resolve in
+    (st, hs, shown (a .parent .now) (a .depth .now) (a .len .now) (a .run .now) (a .words .now) (rangesOf (a .node .now) (a .start .now) (a .end .now) (a .id .now) (a .stamp .now) (a .touched .now) (a .write .now)) (pinsOf (a .pin-node .now) (a .pin-start .now) (a .pin-end .now) (a .pin-count .now)) (a .marks .now) (a .bytes .now) (a .books .now) hs (r .result) (z .pre .0) (else1 c .if1 .left) (r .ensures (a .depth .now) (usedIn (a .books .now)) .answer))
 
 returns-2 : tie.Need-returns-2
 returns-2 c =
-    let z = c .before .before .before .before .before .before .before .before .before .before .before .before .before .before .before .before .before .before .before .before .before .before .before .before .before .before .before .before .before .before .before .before .before .before .before .before .before .before .before .before .before .before .before in
+    let z = entry-3 (c .before .before) in
     let a = z .args in
     let st = stateFrom (a .parent .now) (a .depth .now) (a .len .now) (a .run .now) (a .words .now) (a .node .now) (a .start .now) (a .end .now) (a .id .now) (a .stamp .now) (a .touched .now) (a .write .now) (a .pin-node .now) (a .pin-start .now) (a .pin-end .now) (a .pin-count .now) (a .marks .now) (a .bytes .now) (a .books .now) in
     let l = pathListOf (a .path-node .now) (a .path-len .now) in
     let hs = a .hashes .now in
-    let r = c .before .before .before .before .before .before .before .before .before .before .before .before .resolve in
+    let r = after-resolve (c .before .before) .resolve in
     let f = c .before .refusal in
-    number-refused st l hs (z .pre .0) (z .pre .1) (c .before .before .before .before .before .before .before .before .before .before .before .before .before .before .before .before .before .before .before .before .if1 .left) (f .result) (f .ensures st hs (shown (a .parent .now) (a .depth .now) (a .len .now) (a .run .now) (a .words .now) (rangesOf (a .node .now) (a .start .now) (a .end .now) (a .id .now) (a .stamp .now) (a .touched .now) (a .write .now)) (pinsOf (a .pin-node .now) (a .pin-start .now) (a .pin-end .now) (a .pin-count .now)) (a .marks .now) (a .bytes .now) (a .books .now) hs (r .result) (z .pre .0) (c .before .before .before .before .before .before .before .before .before .before .before .before .before .before .before .before .before .before .before .before .if1 .left) (r .ensures (a .depth .now) (usedIn (a .books .now)) .answer))) (c .if2 .taken)
+    number-refused st l hs (z .pre .0) (z .pre .1) (else1 (c .before .before) .if1 .left) (f .result) (f .ensures st hs (shown (a .parent .now) (a .depth .now) (a .len .now) (a .run .now) (a .words .now) (rangesOf (a .node .now) (a .start .now) (a .end .now) (a .id .now) (a .stamp .now) (a .touched .now) (a .write .now)) (pinsOf (a .pin-node .now) (a .pin-start .now) (a .pin-end .now) (a .pin-count .now)) (a .marks .now) (a .bytes .now) (a .books .now) hs (r .result) (z .pre .0) (else1 (c .before .before) .if1 .left) (r .ensures (a .depth .now) (usedIn (a .books .now)) .answer))) (c .if2 .taken)
 
 insert-found-requires : tie.Need-insert-found-requires
 insert-found-requires c κs =
-    let z = c .before .before .before .before .before .before .before .before .before .before .before .before .before .before .before .before .before .before .before .before .before .before .before .before .before .before .before .before .before .before .before .before .before .before .before .before .before .before .before .before .before .before .before .before .before .before .before .before .before .before .before .before .before .before .before .before .before .before .before .before .before .before .before .before .before in
+    let z = entry-4 c in
     let a = z .args in
     let st = stateFrom (a .parent .now) (a .depth .now) (a .len .now) (a .run .now) (a .words .now) (a .node .now) (a .start .now) (a .end .now) (a .id .now) (a .stamp .now) (a .touched .now) (a .write .now) (a .pin-node .now) (a .pin-start .now) (a .pin-end .now) (a .pin-count .now) (a .marks .now) (a .bytes .now) (a .books .now) in
     let l = pathListOf (a .path-node .now) (a .path-len .now) in
     let hs = a .hashes .now in
-    let r = c .before .before .before .before .before .before .before .before .before .before .before .before .before .before .before .before .before .before .before .before .before .before .before .before .before .before .before .before .before .before .before .before .before .before .resolve in
-    let f = c .before .before .before .before .before .before .before .before .before .before .before .before .before .before .before .before .before .before .before .before .before .before .before .refusal in
-    passed st l hs (z .pre .0) (z .pre .1) (c .before .before .before .before .before .before .before .before .before .before .before .before .before .before .before .before .before .before .before .before .before .before .before .before .before .before .before .before .before .before .before .before .before .before .before .before .before .before .before .before .before .before .if1 .left) (f .result) (f .ensures st hs (shown (a .parent .now) (a .depth .now) (a .len .now) (a .run .now) (a .words .now) (rangesOf (a .node .now) (a .start .now) (a .end .now) (a .id .now) (a .stamp .now) (a .touched .now) (a .write .now)) (pinsOf (a .pin-node .now) (a .pin-start .now) (a .pin-end .now) (a .pin-count .now)) (a .marks .now) (a .bytes .now) (a .books .now) hs (r .result) (z .pre .0) (c .before .before .before .before .before .before .before .before .before .before .before .before .before .before .before .before .before .before .before .before .before .before .before .before .before .before .before .before .before .before .before .before .before .before .before .before .before .before .before .before .before .before .if1 .left) (r .ensures (a .depth .now) (usedIn (a .books .now)) .answer))) (pathListOf (r .last .1 .1 .1 .1 .1 .1 .0) (r .last .1 .1 .1 .1 .1 .1 .1 .0)) (r .result) (c .before .before .before .before .before .before .before .before .before .before .before .before .before .before .before .before .before .before .before .before .before .before .if2 .left)
+    let r = after-resolve-2 c .resolve in
+    let f = else2 c .before .refusal in
+    passed st l hs (z .pre .0) (z .pre .1) (else1-2 c .if1 .left) (f .result) (f .ensures st hs (shown (a .parent .now) (a .depth .now) (a .len .now) (a .run .now) (a .words .now) (rangesOf (a .node .now) (a .start .now) (a .end .now) (a .id .now) (a .stamp .now) (a .touched .now) (a .write .now)) (pinsOf (a .pin-node .now) (a .pin-start .now) (a .pin-end .now) (a .pin-count .now)) (a .marks .now) (a .bytes .now) (a .books .now) hs (r .result) (z .pre .0) (else1-2 c .if1 .left) (r .ensures (a .depth .now) (usedIn (a .books .now)) .answer))) (pathListOf (r .last .1 .1 .1 .1 .1 .1 .0) (r .last .1 .1 .1 .1 .1 .1 .1 .0)) (r .result) (else2 c .if2 .left)
     (r .ensures (a .depth .now) (usedIn (a .books .now)))
-
-same-length-12 : tie.Need-same-length-12
-same-length-12 c = c .before .before .before .before .before .before .before .before .before .before .before .before .before .before .before .before .before .before .before .before .before .before .before .before .before .before .before .before .before .before .before .before .before .before .before .before .before .before .before .before .insert-found .kept .0
-
-same-length-13 : tie.Need-same-length-13
-same-length-13 c = c .before .before .before .before .before .before .before .before .before .before .before .before .before .before .before .before .before .before .before .before .before .before .before .before .before .before .before .before .before .before .before .before .before .before .before .before .before .before .before .before .insert-found .kept .1 .0
-
-same-length-14 : tie.Need-same-length-14
-same-length-14 c = c .before .before .before .before .before .before .before .before .before .before .before .before .before .before .before .before .before .before .before .before .before .before .before .before .before .before .before .before .before .before .before .before .before .before .before .before .before .before .before .before .insert-found .kept .1 .1 .0
-
-same-length-15 : tie.Need-same-length-15
-same-length-15 c = c .before .before .before .before .before .before .before .before .before .before .before .before .before .before .before .before .before .before .before .before .before .before .before .before .before .before .before .before .before .before .before .before .before .before .before .before .before .before .before .before .insert-found .kept .1 .1 .1 .0
-
-same-length-16 : tie.Need-same-length-16
-same-length-16 c = c .before .before .before .before .before .before .before .before .before .before .before .before .before .before .before .before .before .before .before .before .before .before .before .before .before .before .before .before .before .before .before .before .before .before .before .before .before .before .before .before .insert-found .kept .1 .1 .1 .1 .0
-
-same-length-17 : tie.Need-same-length-17
-same-length-17 c = c .before .before .before .before .before .before .before .before .before .before .before .before .before .before .before .before .before .before .before .before .before .before .before .before .before .before .before .before .before .before .before .before .before .before .before .before .before .before .before .before .insert-found .kept .1 .1 .1 .1 .1 .0
-
-same-length-18 : tie.Need-same-length-18
-same-length-18 c = c .before .before .before .before .before .before .before .before .before .before .before .before .before .before .before .before .before .before .before .before .before .before .before .before .before .before .before .before .before .before .before .before .before .before .before .before .before .before .before .before .insert-found .kept .1 .1 .1 .1 .1 .1 .0
-
-same-length-19 : tie.Need-same-length-19
-same-length-19 c = c .before .before .before .before .before .before .before .before .before .before .before .before .before .before .before .before .before .before .before .before .before .before .before .before .before .before .before .before .before .before .before .before .before .before .before .before .before .before .before .before .insert-found .kept .1 .1 .1 .1 .1 .1 .1 .0
-
-same-length-20 : tie.Need-same-length-20
-same-length-20 c = c .before .before .before .before .before .before .before .before .before .before .before .before .before .before .before .before .before .before .before .before .before .before .before .before .before .before .before .before .before .before .before .before .before .before .before .before .before .before .before .before .insert-found .kept .1 .1 .1 .1 .1 .1 .1 .1 .0
-
-same-length-21 : tie.Need-same-length-21
-same-length-21 c = c .before .before .before .before .before .before .before .before .before .before .before .before .before .before .before .before .before .before .before .before .before .before .before .before .before .before .before .before .before .before .before .before .before .before .before .before .before .before .before .before .insert-found .kept .1 .1 .1 .1 .1 .1 .1 .1 .1 .0
-
-same-length-22 : tie.Need-same-length-22
-same-length-22 c = c .before .before .before .before .before .before .before .before .before .before .before .before .before .before .before .before .before .before .before .before .before .before .before .before .before .before .before .before .before .before .before .before .before .before .before .before .before .before .before .before .insert-found .kept .1 .1 .1 .1 .1 .1 .1 .1 .1 .1 .0
-
-same-length-23 : tie.Need-same-length-23
-same-length-23 c = c .before .before .before .before .before .before .before .before .before .before .before .before .before .before .before .before .before .before .before .before .before .before .before .before .before .before .before .before .before .before .before .before .before .before .before .before .before .before .before .before .insert-found .kept .1 .1 .1 .1 .1 .1 .1 .1 .1 .1 .1 .0
-
-same-length-24 : tie.Need-same-length-24
-same-length-24 c = c .before .before .before .before .before .before .before .before .before .before .before .before .before .before .before .before .before .before .before .before .before .before .before .before .before .before .before .before .before .before .before .before .before .before .before .before .before .before .before .before .insert-found .kept .1 .1 .1 .1 .1 .1 .1 .1 .1 .1 .1 .1 .0
-
-same-length-25 : tie.Need-same-length-25
-same-length-25 c = c .before .before .before .before .before .before .before .before .before .before .before .before .before .before .before .before .before .before .before .before .before .before .before .before .before .before .before .before .before .before .before .before .before .before .before .before .before .before .before .before .insert-found .kept .1 .1 .1 .1 .1 .1 .1 .1 .1 .1 .1 .1 .1 .0
-
-same-length-26 : tie.Need-same-length-26
-same-length-26 c = c .before .before .before .before .before .before .before .before .before .before .before .before .before .before .before .before .before .before .before .before .before .before .before .before .before .before .before .before .before .before .before .before .before .before .before .before .before .before .before .before .insert-found .kept .1 .1 .1 .1 .1 .1 .1 .1 .1 .1 .1 .1 .1 .1 .0
-
-same-length-27 : tie.Need-same-length-27
-same-length-27 c = c .before .before .before .before .before .before .before .before .before .before .before .before .before .before .before .before .before .before .before .before .before .before .before .before .before .before .before .before .before .before .before .before .before .before .before .before .before .before .before .before .insert-found .kept .1 .1 .1 .1 .1 .1 .1 .1 .1 .1 .1 .1 .1 .1 .1 .0
-
-same-length-28 : tie.Need-same-length-28
-same-length-28 c = c .before .before .before .before .before .before .before .before .before .before .before .before .before .before .before .before .before .before .before .before .before .before .before .before .before .before .before .before .before .before .before .before .before .before .before .before .before .before .before .before .insert-found .kept .1 .1 .1 .1 .1 .1 .1 .1 .1 .1 .1 .1 .1 .1 .1 .1 .0
-
-same-length-29 : tie.Need-same-length-29
-same-length-29 c = c .before .before .before .before .before .before .before .before .before .before .before .before .before .before .before .before .before .before .before .before .before .before .before .before .before .before .before .before .before .before .before .before .before .before .before .before .before .before .before .before .insert-found .kept .1 .1 .1 .1 .1 .1 .1 .1 .1 .1 .1 .1 .1 .1 .1 .1 .1 .1 .0
-
-same-length-30 : tie.Need-same-length-30
-same-length-30 c = c .before .before .before .before .before .before .before .before .before .before .before .before .before .before .before .before .before .before .before .before .before .before .before .before .before .before .before .before .before .before .before .before .before .before .before .before .before .before .before .before .insert-found .kept .1 .1 .1 .1 .1 .1 .1 .1 .1 .1 .1 .1 .1 .1 .1 .1 .1 .1 .1 .0
-
-same-length-31 : tie.Need-same-length-31
-same-length-31 c = c .before .before .before .before .before .before .before .before .before .before .before .before .before .before .before .before .before .before .before .before .before .before .before .before .before .before .before .before .before .before .before .before .before .before .before .before .before .before .before .before .insert-found .kept .1 .1 .1 .1 .1 .1 .1 .1 .1 .1 .1 .1 .1 .1 .1 .1 .1 .1 .1 .1 .0
-
-returns-3 : tie.Need-returns-3
-returns-3 c = c .before .before .before .before .before .before .before .before .before .before .before .before .before .before .before .before .before .before .before .before .before .before .before .before .before .before .before .before .before .before .before .before .before .before .before .before .before .before .before .before .insert-found .ensures
 
 pub insert-spec : {M : Type 1} → statement M
 insert-spec =
     tie.close
     (tie.spec
-    returns
-    slice-read-nodes
-    (λ c. search needs)
-    (λ c. search needs)
-    resolve-requires
-    refusal-requires
-    (λ c. refl)
-    (λ c. refl)
-    (λ c. refl)
-    (λ c. refl)
-    (λ c. refl)
-    (λ c. refl)
-    (λ c. refl)
-    (λ c. refl)
-    (λ c. refl)
-    (λ c. refl)
-    (λ c. refl)
-    returns-2
-    (λ c. search needs)
-    (λ c. search needs)
-    insert-found-requires
-    same-length-12
-    same-length-13
-    same-length-14
-    same-length-15
-    same-length-16
-    same-length-17
-    same-length-18
-    same-length-19
-    same-length-20
-    same-length-21
-    same-length-22
-    same-length-23
-    same-length-24
-    same-length-25
-    same-length-26
-    same-length-27
-    same-length-28
-    same-length-29
-    same-length-30
-    same-length-31
-    returns-3)
+    returns (λ c. omega (arith, entry-2 c .pre .0 .lent .books)) (λ c. search needs) (λ c. search needs) resolve-requires refusal-requires (λ c. refl)
+    (λ c. refl) (λ c. refl) (λ c. refl) (λ c. refl) (λ c. refl) (λ c. refl) (λ c. refl) (λ c. refl) (λ c. refl) (λ c. refl) returns-2
+    (λ c. search needs) (λ c. search needs) insert-found-requires (λ c. after-insert-found c .insert-found .kept .0)
+    (λ c. after-insert-found c .insert-found .kept .1 .0) (λ c. after-insert-found c .insert-found .kept .1 .1 .0)
+    (λ c. after-insert-found c .insert-found .kept .1 .1 .1 .0) (λ c. after-insert-found c .insert-found .kept .1 .1 .1 .1 .0)
+    (λ c. after-insert-found c .insert-found .kept .1 .1 .1 .1 .1 .0) (λ c. after-insert-found c .insert-found .kept .1 .1 .1 .1 .1 .1 .0)
+    (λ c. after-insert-found c .insert-found .kept .1 .1 .1 .1 .1 .1 .1 .0) (λ c. after-insert-found c .insert-found .kept .1 .1 .1 .1 .1 .1 .1 .1 .0)
+    (λ c. after-insert-found c .insert-found .kept .1 .1 .1 .1 .1 .1 .1 .1 .1 .0)
+    (λ c. after-insert-found c .insert-found .kept .1 .1 .1 .1 .1 .1 .1 .1 .1 .1 .0)
+    (λ c. after-insert-found c .insert-found .kept .1 .1 .1 .1 .1 .1 .1 .1 .1 .1 .1 .0)
+    (λ c. after-insert-found c .insert-found .kept .1 .1 .1 .1 .1 .1 .1 .1 .1 .1 .1 .1 .0)
+    (λ c. after-insert-found c .insert-found .kept .1 .1 .1 .1 .1 .1 .1 .1 .1 .1 .1 .1 .1 .0)
+    (λ c. after-insert-found c .insert-found .kept .1 .1 .1 .1 .1 .1 .1 .1 .1 .1 .1 .1 .1 .1 .0)
+    (λ c. after-insert-found c .insert-found .kept .1 .1 .1 .1 .1 .1 .1 .1 .1 .1 .1 .1 .1 .1 .1 .0)
+    (λ c. after-insert-found c .insert-found .kept .1 .1 .1 .1 .1 .1 .1 .1 .1 .1 .1 .1 .1 .1 .1 .1 .0)
+    (λ c. after-insert-found c .insert-found .kept .1 .1 .1 .1 .1 .1 .1 .1 .1 .1 .1 .1 .1 .1 .1 .1 .1 .1 .0)
+    (λ c. after-insert-found c .insert-found .kept .1 .1 .1 .1 .1 .1 .1 .1 .1 .1 .1 .1 .1 .1 .1 .1 .1 .1 .1 .0)
+    (λ c. after-insert-found c .insert-found .kept .1 .1 .1 .1 .1 .1 .1 .1 .1 .1 .1 .1 .1 .1 .1 .1 .1 .1 .1 .1 .0)
+    (λ c. after-insert-found c .insert-found .ensures))

@@ -16,6 +16,4 @@ lay-path-spec =
     (tie.spec
     (λ c κs. let p = c .before .before .before .before .before .pre in (p .0, p .2))
     (λ c κs. let p = c .before .before .before .before .before .before .before .before .before .pre in (p .1, p .3))
-    (λ c. c .before .before .before .before .before .before .copy-front .kept .0)
-    (λ c. c .before .before .copy-front2 .kept .0)
-    returns)
+    (λ c. c .before .before .before .before .before .before .copy-front .kept .0) (λ c. c .before .before .copy-front2 .kept .0) returns)

@@ -25,13 +25,6 @@ pub no-tier-spec : {M : Type 1} → statement M
 no-tier-spec =
     tie.close
     (tie.spec
-    Inv-loop
-    μ-loop
-    (λ c. (omega arith, λ k low high. absurd (omega arith)))
-    (λ c. search needs)
-    (λ c. search needs)
-    (λ c. (c .before .before .before .loop .i, c .before .before .loop-test .taken, c .if1 .taken))
-    (λ c. search needs)
-    (λ c. search needs)
-    loop-again
+    Inv-loop μ-loop (λ c. (omega arith, λ k low high. absurd (omega arith))) (λ c. search needs) (λ c. search needs)
+    (λ c. (c .before .before .before .loop .i, c .before .before .loop-test .taken, c .if1 .taken)) (λ c. search needs) (λ c. search needs) loop-again
     returns-2)

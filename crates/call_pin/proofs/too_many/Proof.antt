@@ -28,8 +28,4 @@ pub too-many-spec : {M : Type 1} → statement M
 too-many-spec =
     tie.close
     (tie.spec
-    (λ c. omega arith)
-    returns
-    returns-2
-    returns-3
-    returns-4)
+    (λ c. omega arith) returns returns-2 returns-3 returns-4)

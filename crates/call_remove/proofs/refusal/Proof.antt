@@ -38,11 +38,5 @@ pub refusal-spec : {M : Type 1} → statement M
 refusal-spec =
     tie.close
     (tie.spec
-    (λ c κs. nodes-fit (c .before .before .before .before .pre .1))
-    returns
-    (λ c κs. placed-in (c .before .before .before .before .before .before .pre .1))
-    add-if2
-    returns-2
-    add-if3
-    returns-3
-    returns-4)
+    (λ c κs. nodes-fit (c .before .before .before .before .pre .1)) returns
+    (λ c κs. placed-in (c .before .before .before .before .before .before .pre .1)) add-if2 returns-2 add-if3 returns-3 returns-4)

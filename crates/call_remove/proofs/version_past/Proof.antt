@@ -4,14 +4,9 @@ use Rattle.call_remove.proofs.Laws.{past-none, past-some}
 use Rattle.call_remove.proofs.version_past.Statement.{statement}
 use Rattle.call_remove.proofs.version_past.Tie as tie
 
-returns : tie.Need-returns
-returns c = past-none (c .before .args .removed) (c .before .args .version) (c .if1 .taken)
-
-wrapping-add-u64-requires : tie.Need-wrapping-add-u64-requires
-wrapping-add-u64-requires c κs = search needs
-
 returns-2 : tie.Need-returns-2
 returns-2 c = past-some (c .before .before .args .removed) (c .before .before .args .version) (c .wrapping-add-u64 .result) (c .before .if1 .left) (c .wrapping-add-u64 .ensures)
 
 pub version-past-spec : {M : Type 1} → statement M
-version-past-spec = tie.close (tie.spec returns wrapping-add-u64-requires returns-2)
+version-past-spec = tie.close (tie.spec
+    (λ c. past-none (c .before .args .removed) (c .before .args .version) (c .if1 .taken)) (λ c κs. search needs) returns-2)

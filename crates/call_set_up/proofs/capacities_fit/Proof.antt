@@ -19,13 +19,7 @@ pub capacities-fit-spec : {M : Type 1} → statement M
 capacities-fit-spec =
     tie.close
     (tie.spec
-    Inv-loop
-    μ-loop
-    (λ c. (omega arith, λ k h. absurd (not-suc-le-zero h)))
-    (λ c. search needs)
-    (λ c. search needs)
-    (λ c h. omega (arith, h (c .before .before .before .loop .s) (omega arith) (c .before .before .loop-test .taken)))
-    (λ c. search needs)
-    (λ c. search needs)
-    (λ c. (omega arith, below-more _ _ (c .before .before .before .loop .inv .1) (c .if1 .left)))
+    Inv-loop μ-loop (λ c. (omega arith, λ k h. absurd (not-suc-le-zero h))) (λ c. search needs) (λ c. search needs)
+    (λ c h. omega (arith, h (c .before .before .before .loop .s) (omega arith) (c .before .before .loop-test .taken))) (λ c. search needs)
+    (λ c. search needs) (λ c. (omega arith, below-more _ _ (c .before .before .before .loop .inv .1) (c .if1 .left)))
     (λ c k l h. c .before .loop .inv .1 k (omega arith)))

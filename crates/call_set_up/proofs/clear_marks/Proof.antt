@@ -20,13 +20,6 @@ pub clear-marks-spec : {M : Type 1} → statement M
 clear-marks-spec =
     tie.close
     (tie.spec
-    Inv-loop
-    μ-loop
-    (λ c. copied-none _ _ (rw length-replicate (c .pre)))
-    (λ c. search needs)
-    (λ c. search needs)
-    (λ c. search needs)
-    (λ c. search needs)
-    loop-again
-    (λ c. c .before .loop .inv .long)
+    Inv-loop μ-loop (λ c. copied-none _ _ (rw length-replicate (c .pre))) (λ c. search needs) (λ c. search needs) (λ c. search needs)
+    (λ c. search needs) loop-again (λ c. c .before .loop .inv .long)
     (λ c. copied-all (c .before .loop .inv) (rw length-replicate (c .loop-test .left))))

@@ -17,15 +17,6 @@ pub copy-in-spec : {M : Type 1} → statement M
 copy-in-spec =
     tie.close
     (tie.spec
-    Inv-loop
-    μ-loop
-    (λ c. copied-none _ _ (c .pre))
-    (λ c. search needs)
-    (λ c. search needs)
-    (λ c. search needs)
-    (λ c. search needs)
-    (λ c. search needs)
-    (λ c. search needs)
-    (λ c. copied-more 0 (c .before .before .loop .inv) (c .before .loop-test .taken) refl)
-    (λ c. c .before .loop .inv .long)
+    Inv-loop μ-loop (λ c. copied-none _ _ (c .pre)) (λ c. search needs) (λ c. search needs) (λ c. search needs) (λ c. search needs) (λ c. search needs)
+    (λ c. search needs) (λ c. copied-more 0 (c .before .before .loop .inv) (c .before .loop-test .taken) refl) (λ c. c .before .loop .inv .long)
     (λ c. copied-all (c .before .loop .inv) (c .loop-test .left)))

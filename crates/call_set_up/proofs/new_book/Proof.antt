@@ -7,14 +7,7 @@ use Rattle.model.specs.State.{bookFrom}
 use Rattle.call_set_up.proofs.new_book.Statement.{statement}
 use Rattle.call_set_up.proofs.new_book.Tie as tie
 
-policy-of-requires : tie.Need-policy-of-requires
-policy-of-requires c κs = search needs
-
-new-book-requires : tie.Need-new-book-requires
-new-book-requires c κs = search needs
-
-returns : tie.Need-returns
-returns c = c .new-book .ensures ∙ ap (λ (p : ℕ). bookFrom (c .before .before .args .capacity ∷ p ∷ [])) (c .before .policy-of .ensures)
-
 pub new-book-spec : {M : Type 1} → statement M
-new-book-spec = tie.close (tie.spec policy-of-requires new-book-requires returns)
+new-book-spec = tie.close (tie.spec
+    (λ c κs. search needs) (λ c κs. search needs)
+    (λ c. c .new-book .ensures ∙ ap (λ (p : ℕ). bookFrom (c .before .before .args .capacity ∷ p ∷ [])) (c .before .policy-of .ensures)))

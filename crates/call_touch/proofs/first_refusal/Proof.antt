@@ -57,16 +57,8 @@ pub first-refusal-spec : {M : Type 1} → statement M
 first-refusal-spec =
     tie.close
     (tie.spec
-    Inv-loop
-    μ-loop
-    (λ c κs. search needs)
-    loop-holds
-    (λ c. span-fits (c .before .before .before .before .pre .1) (c .loop-test .taken))
-    (λ c. omega (arith, c .before .before .before .before .pre .1, c .loop-test .taken))
-    (λ c κs. c .before .before .before .before .before .pre .0)
-    (λ c κs. search needs)
-    returns
+    Inv-loop μ-loop (λ c κs. search needs) loop-holds (λ c. span-fits (c .before .before .before .before .pre .1) (c .loop-test .taken))
+    (λ c. omega (arith, c .before .before .before .before .pre .1, c .loop-test .taken)) (λ c κs. c .before .before .before .before .before .pre .0)
+    (λ c κs. search needs) returns
     (λ c. omega (arith, c .before .before .before .before .before .before .before .pre .1, c .before .before .before .loop-test .taken))
-    (λ c. omega (arith, c .before .before .before .loop-test .taken))
-    loop-again
-    returns-2)
+    (λ c. omega (arith, c .before .before .before .loop-test .taken)) loop-again returns-2)

@@ -25,12 +25,4 @@ pub begin-spec : {M : Type 1} → statement M
 begin-spec =
     tie.close
     (tie.spec
-    (λ c. search needs)
-    (λ c. search needs)
-    (λ c κs. tt)
-    (λ c κs. tt)
-    returns
-    book-of-requires
-    (λ c. search needs)
-    (λ c κs. tt)
-    returns-2)
+    (λ c. search needs) (λ c. search needs) (λ c κs. tt) (λ c κs. tt) returns book-of-requires (λ c. search needs) (λ c κs. tt) returns-2)

@@ -11,7 +11,5 @@ pub check-one-spec : {M : Type 1} → statement M
 check-one-spec =
     tie.close
     (tie.spec
-    (λ c κs. search needs)
-    (λ c. λ t l n. looked-good _ (c .before .span-in .result) _ (c .before .span-in .ensures t l n) (c .if1 .taken))
-    (λ c κs. search needs)
-    returns-2)
+    (λ c κs. search needs) (λ c. λ t l n. looked-good _ (c .before .span-in .result) _ (c .before .span-in .ensures t l n) (c .if1 .taken))
+    (λ c κs. search needs) returns-2)

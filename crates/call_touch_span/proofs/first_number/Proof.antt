@@ -17,8 +17,5 @@ pub first-number-spec : {M : Type 1} → statement M
 first-number-spec =
     tie.close
     (tie.spec
-    (λ c. first-store (c .before .args .stores) (c .before .args .s) (c .before .args .n) (c .before .args .time) (c .if1 .taken))
-    returns-2
-    (λ c κs. search needs)
-    returns-3
-    returns-4)
+    (λ c. first-store (c .before .args .stores) (c .before .args .s) (c .before .args .n) (c .before .args .time) (c .if1 .taken)) returns-2
+    (λ c κs. search needs) returns-3 returns-4)

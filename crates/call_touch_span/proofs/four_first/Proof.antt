@@ -7,6 +7,5 @@ pub four-first-spec : {M : Type 1} → statement M
 four-first-spec =
     tie.close
     (tie.spec
-    (λ c. four-none _ (c .if1 .taken))
-    (λ c. four-five _ (c .before .if1 .left) (c .if2 .taken))
+    (λ c. four-none _ (c .if1 .taken)) (λ c. four-five _ (c .before .if1 .left) (c .if2 .taken))
     (λ c. four-else _ (c .before .if1 .left) (c .if2 .left)))

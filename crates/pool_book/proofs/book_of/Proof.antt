@@ -1,7 +1,6 @@
 -- `pool_book::book_of` meets its contract: the store's row is read, and its book is made of it. Assumes nothing.
 use Prim.Native.Nat.{ℕ}
 use mathlib.Core.Path.{ap, _∙_}
-use mathlib.Core.List.{List}
 use lib.ListN.{take, drop}
 use borrow.Author.Needs.{needs}
 use Rattle.model.specs.Sizes.{storeNumbers}
@@ -9,15 +8,6 @@ use Rattle.model.specs.State.{bookFrom}
 use Rattle.pool_book.proofs.Laws.{book-at}
 use Rattle.pool_book.proofs.book_of.Statement.{statement}
 use Rattle.pool_book.proofs.book_of.Tie as tie
-
-first-of-requires : tie.Need-first-of-requires
-first-of-requires c κs = search needs
-
-row-at-requires : tie.Need-row-at-requires
-row-at-requires c κs = search needs
-
-book-from-requires : tie.Need-book-from-requires
-book-from-requires c κs = search needs
 
 returns : tie.Need-returns
 returns c =
@@ -28,4 +18,5 @@ returns c =
     ∙ book-at l (z .args .s)
 
 pub book-of-spec : {M : Type 1} → statement M
-book-of-spec = tie.close (tie.spec first-of-requires row-at-requires book-from-requires returns)
+book-of-spec = tie.close (tie.spec
+    (λ c κs. search needs) (λ c κs. search needs) (λ c κs. search needs) returns)

@@ -1,5 +1,4 @@
 -- `pool_book::put_book` meets its contract: the book's row is written in the store's place. Assumes nothing.
-use Prim.Native.Nat.{ℕ}
 use mathlib.Core.Path.{_∙_}
 use lib.Seq.{paste}
 use borrow.Author.Needs.{needs}
@@ -7,18 +6,6 @@ use Rattle.model.specs.Sizes.{storeNumbers}
 use Rattle.pool_book.proofs.Laws.{book-laid}
 use Rattle.pool_book.proofs.put_book.Statement.{statement}
 use Rattle.pool_book.proofs.put_book.Tie as tie
-
-first-of-requires : tie.Need-first-of-requires
-first-of-requires c κs = search needs
-
-row-of-requires : tie.Need-row-of-requires
-row-of-requires c κs = search needs
-
-put-row-requires : tie.Need-put-row-requires
-put-row-requires c κs = search needs
-
-same-length : tie.Need-same-length
-same-length c = search needs
 
 returns : tie.Need-returns
 returns c =
@@ -30,4 +17,5 @@ returns c =
 
 pub put-book-spec : {M : Type 1} → statement M
 put-book-spec =
-    tie.close (tie.spec first-of-requires row-of-requires put-row-requires same-length returns)
+    tie.close (tie.spec
+    (λ c κs. search needs) (λ c κs. search needs) (λ c κs. search needs) (λ c. search needs) returns)

@@ -6,17 +6,7 @@ use Rattle.pool_book.proofs.Laws.{counts-laid}
 use Rattle.pool_book.proofs.put_counts.Statement.{statement}
 use Rattle.pool_book.proofs.put_counts.Tie as tie
 
-slice-write-books : tie.Need-slice-write-books
-slice-write-books c = search needs
-
-slice-write-books-2 : tie.Need-slice-write-books-2
-slice-write-books-2 c = lt-length-set (c .args .books .now) 0 (c .args .nodes) (omega (arith, c .pre))
-
-same-length : tie.Need-same-length
-same-length c = search needs
-
-returns : tie.Need-returns
-returns c = counts-laid (c .args .nodes) (c .args .used) (c .args .books .now) (c .pre)
-
 pub put-counts-spec : {M : Type 1} → statement M
-put-counts-spec = tie.close (tie.spec slice-write-books slice-write-books-2 same-length returns)
+put-counts-spec = tie.close (tie.spec
+    (λ c. search needs) (λ c. lt-length-set (c .args .books .now) 0 (c .args .nodes) (omega (arith, c .pre))) (λ c. search needs)
+    (λ c. counts-laid (c .args .nodes) (c .args .used) (c .args .books .now) (c .pre)))

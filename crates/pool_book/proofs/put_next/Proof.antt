@@ -6,17 +6,7 @@ use Rattle.pool_book.proofs.Laws.{next-laid}
 use Rattle.pool_book.proofs.put_next.Statement.{statement}
 use Rattle.pool_book.proofs.put_next.Tie as tie
 
-slice-write-books : tie.Need-slice-write-books
-slice-write-books c = search needs
-
-slice-write-books-2 : tie.Need-slice-write-books-2
-slice-write-books-2 c = lt-length-set (c .args .books .now) 3 (c .args .next) (omega (arith, c .pre))
-
-same-length : tie.Need-same-length
-same-length c = search needs
-
-returns : tie.Need-returns
-returns c = next-laid (c .args .next) (c .args .stalls) (c .args .books .now) (c .pre)
-
 pub put-next-spec : {M : Type 1} → statement M
-put-next-spec = tie.close (tie.spec slice-write-books slice-write-books-2 same-length returns)
+put-next-spec = tie.close (tie.spec
+    (λ c. search needs) (λ c. lt-length-set (c .args .books .now) 3 (c .args .next) (omega (arith, c .pre))) (λ c. search needs)
+    (λ c. next-laid (c .args .next) (c .args .stalls) (c .args .books .now) (c .pre)))

@@ -3,11 +3,6 @@ use Rattle.pool_out.proofs.Laws.{no-write, some-write}
 use Rattle.pool_out.proofs.write_id.Statement.{statement}
 use Rattle.pool_out.proofs.write_id.Tie as tie
 
-returns : tie.Need-returns
-returns c = no-write (c .before .args .n) (c .if1 .taken)
-
-returns-2 : tie.Need-returns-2
-returns-2 c = some-write (c .before .args .n) (c .if1 .left)
-
 pub write-id-spec : {M : Type 1} → statement M
-write-id-spec = tie.close (tie.spec returns returns-2)
+write-id-spec = tie.close (tie.spec
+    (λ c. no-write (c .before .args .n) (c .if1 .taken)) (λ c. some-write (c .before .args .n) (c .if1 .left)))

@@ -15,18 +15,7 @@ pub put-f64-spec : {M : Type 1} → statement M
 put-f64-spec =
     tie.close
     (tie.spec
-    Inv-loop
-    μ-loop
-    (λ c. open-start _ _ _ (c .pre .0) (c .pre .1))
-    (λ c. omega arith)
-    (λ c. omega arith)
-    (λ c. omega arith)
-    (λ c. omega arith)
-    (λ c. omega arith)
-    (λ c. omega arith)
-    (λ c. omega arith)
-    (λ c. open-turn _ _ _ _ _ _ (c .before .before .loop .inv) (c .before .loop-test .taken))
-    (λ c. omega arith)
-    (λ c. omega arith)
-    (λ c. simp length-set (c .before .loop .inv .long))
+    Inv-loop μ-loop (λ c. open-start _ _ _ (c .pre .0) (c .pre .1)) (λ c. omega arith) (λ c. omega arith) (λ c. omega arith) (λ c. omega arith)
+    (λ c. omega arith) (λ c. omega arith) (λ c. omega arith) (λ c. open-turn _ _ _ _ _ _ (c .before .before .loop .inv) (c .before .loop-test .taken))
+    (λ c. omega arith) (λ c. omega arith) (λ c. simp length-set (c .before .loop .inv .long))
     (λ c. open-end _ _ _ _ _ _ (c .before .loop .inv) (c .loop-test .left)))

@@ -24,15 +24,6 @@ pub copy-marks-spec : {M : Type 1} → statement M
 copy-marks-spec =
     tie.close
     (tie.spec
-    Inv-loop
-    μ-loop
-    (λ c. (refl, copy-start (search needs)))
-    (λ c. search needs)
-    (λ c. search needs)
-    (λ c. search needs)
-    (λ c. search needs)
-    (λ c. search needs)
-    (λ c. search needs)
-    (λ c. search needs)
-    loop-again
+    Inv-loop μ-loop (λ c. (refl, copy-start (search needs))) (λ c. search needs) (λ c. search needs) (λ c. search needs) (λ c. search needs)
+    (λ c. search needs) (λ c. search needs) (λ c. search needs) loop-again
     (λ c. copied-end _ 256 _ (c .before .loop .inv .1) (c .loop-test .left) (c .before .loop .inv .0) (c .before .before .pre)))

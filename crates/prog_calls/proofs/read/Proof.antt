@@ -16,17 +16,7 @@ pub read-spec : {M : Type 1} → statement M
 read-spec =
     tie.close
     (tie.spec
-    (λ c. c .match .keys1)
-    resolve-requires
-    (λ c. c .match .keys2)
-    lookup-requires
-    (λ c. c .match .keys3)
-    (λ c κs. (c .before .before .before .pre .1, c .before .before .before .pre .2))
-    (λ c. c .match .keys4)
-    (λ c. search needs)
-    (λ c κs. search needs)
-    (λ c. c .resolve .ensures)
-    (λ c. c .lookup .ensures)
-    (λ c. c .state .ensures)
-    (λ c. omega (arith, c .put-line .ensures .high, c .before .before .before .before .before .pre .2))
-    (λ c. omega (arith, c .before .pre .2)))
+    (λ c. c .match .keys1) resolve-requires (λ c. c .match .keys2) lookup-requires (λ c. c .match .keys3)
+    (λ c κs. (c .before .before .before .pre .1, c .before .before .before .pre .2)) (λ c. c .match .keys4) (λ c. search needs) (λ c κs. search needs)
+    (λ c. c .resolve .ensures) (λ c. c .lookup .ensures) (λ c. c .state .ensures)
+    (λ c. omega (arith, c .put-line .ensures .high, c .before .before .before .before .before .pre .2)) (λ c. omega (arith, c .before .pre .2)))

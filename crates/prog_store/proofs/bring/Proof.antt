@@ -6,31 +6,34 @@ use native.Mathlib.Omega.{arith}
 use Rattle.prog_store.proofs.bring.Statement.{statement}
 use Rattle.prog_store.proofs.bring.Tie as tie
 
-store-insert-requires : tie.Need-store-insert-requires
-store-insert-requires c κs = (c .before .before .before .before .before .before .before .before .before .before .before .before .before .before .before .before .before .before .before .before .before .before .before .before .before .pre .0, record { node = le-refl _; start = le-refl _; end = le-refl _; write = le-refl _; bytes = le-refl _; dead = le-refl _ })
+-- earlier places of the function, by name
+abbrev entry : tie.After-out-dead → tie.Start
+entry c = c .before .before .before .before .before .before .before .before .before .before .before .before .before .before .before .before .before .before .before .before .before .before .before .before .before
+
+abbrev after-out-end2 : tie.After-out-dead3 → tie.After-out-end2
+after-out-end2 c = c .before .before .before .before .before .before .before .before .before .before
+
+abbrev after-store-insert : tie.After-out-dead3 → tie.After-store-insert
+after-store-insert c = after-out-end2 c .before .before .before
+
+abbrev entry-2 : tie.After-out-dead3 → tie.Start
+entry-2 c = entry (c .before .before .before .before .before .before .before .before .before .before .before .before .before .before)
 
 put-brought-requires : tie.Need-put-brought-requires
-put-brought-requires c κs = (bring-in _ _ _ _ _ _ _ _ (c .before .before .before .before .before .before .before .before .before .before .before .before .before .store-insert .result) (c .before .before .before .before .before .before .before .before .before .before .before .before .before .store-insert .ensures), le-of-eq (sym (c .before .before .before .before .before .before .before .before .before .before .before .before .out-node2 .given)), le-of-eq (sym (c .before .before .before .before .before .before .before .before .before .before .before .out-start2 .given)), le-of-eq (sym (c .before .before .before .before .before .before .before .before .before .before .out-end2 .given)), le-of-eq (sym (c .before .before .before .before .before .before .before .before .before .out-write2 .given)), le-of-eq (sym (c .before .before .before .before .before .before .before .before .out-bytes2 .given)), le-of-eq (sym (c .before .before .before .before .before .before .before .out-dead2 .given)), omega (arith, c .before .before .before .before .before .before .before .before .before .before .before .before .before .before .before .before .before .before .before .before .before .before .before .before .before .before .before .before .before .before .before .before .before .before .before .before .before .before .before .pre .1))
+put-brought-requires c κs = (bring-in _ _ _ _ _ _ _ _ (after-store-insert c .store-insert .result) (after-store-insert c .store-insert .ensures), le-of-eq (sym (after-out-end2 c .before .before .out-node2 .given)), le-of-eq (sym (after-out-end2 c .before .out-start2 .given)), le-of-eq (sym (after-out-end2 c .out-end2 .given)), le-of-eq (sym (c .before .before .before .before .before .before .before .before .before .out-write2 .given)), le-of-eq (sym (c .before .before .before .before .before .before .before .before .out-bytes2 .given)), le-of-eq (sym (c .before .before .before .before .before .before .before .out-dead2 .given)), omega (arith, entry-2 c .pre .1))
 
 returns : tie.Need-returns
-returns c = (bring-keeps _ _ _ _ _ _ _ _ (c .before .before .before .before .before .before .before .before .before .before .before .before .before .before .store-insert .result) (c .before .before .before .before .before .before .before .before .before .before .before .before .before .before .store-insert .ensures) (c .before .before .before .before .before .before .before .before .before .before .before .before .before .before .before .before .before .before .before .before .before .before .before .before .before .before .before .before .before .before .before .before .before .before .before .before .before .before .before .before .pre .0), omega (arith, c .put-brought .ensures .high, c .before .before .before .before .before .before .before .before .before .before .before .before .before .before .before .before .before .before .before .before .before .before .before .before .before .before .before .before .before .before .before .before .before .before .before .before .before .before .before .before .pre .1))
+returns c = (bring-keeps _ _ _ _ _ _ _ _ (after-store-insert (c .before) .store-insert .result) (after-store-insert (c .before) .store-insert .ensures) (entry-2 (c .before) .pre .0), omega (arith, c .put-brought .ensures .high, entry-2 (c .before) .pre .1))
 
 pub bring-spec : {M : Type 1} → statement M
 bring-spec =
     tie.close
     (tie.spec
-    (λ c. refl)
-    (λ c. refl)
-    (λ c. refl)
-    (λ c. refl)
-    (λ c. refl)
-    (λ c. refl)
-    store-insert-requires
+    (λ c. refl) (λ c. refl) (λ c. refl) (λ c. refl) (λ c. refl) (λ c. refl)
+    (λ c κs. (entry c .pre .0, record { node = le-refl _; start = le-refl _; end = le-refl _; write = le-refl _; bytes = le-refl _; dead = le-refl _ }))
     (λ c. sym (c .before .before .before .before .before .before .before .out-node2 .given))
     (λ c. sym (c .before .before .before .before .before .before .before .out-start2 .given))
     (λ c. sym (c .before .before .before .before .before .before .before .out-end2 .given))
     (λ c. sym (c .before .before .before .before .before .before .before .out-write2 .given))
     (λ c. sym (c .before .before .before .before .before .before .before .out-bytes2 .given))
-    (λ c. sym (c .before .before .before .before .before .before .before .out-dead2 .given))
-    put-brought-requires
-    returns)
+    (λ c. sym (c .before .before .before .before .before .before .before .out-dead2 .given)) put-brought-requires returns)

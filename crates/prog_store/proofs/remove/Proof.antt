@@ -6,21 +6,18 @@ use native.Mathlib.Omega.{arith}
 use Rattle.prog_store.proofs.remove.Statement.{statement}
 use Rattle.prog_store.proofs.remove.Tie as tie
 
-store-remove-requires : tie.Need-store-remove-requires
-store-remove-requires c κs = (c .before .before .before .before .before .before .before .before .before .before .before .before .before .before .before .before .before .before .before .before .pre .0, le-refl _)
+-- earlier places of the function, by name
+abbrev entry : tie.After-writes → tie.Start
+entry c = c .before .before .before .before .before .before .before .before .before .before .before .before .before .before .before .before .before .before .before .before
 
 put-removed-requires : tie.Need-put-removed-requires
-put-removed-requires c κs = (remove-in _ _ _ _ _ _ (c .before .before .before .store-remove .result) (c .before .before .before .store-remove .ensures), le-of-eq (sym (c .before .before .writes2 .given)), omega (arith, c .before .before .before .before .before .before .before .before .before .before .before .before .before .before .before .before .before .before .before .before .before .before .before .before .pre .1))
+put-removed-requires c κs = (remove-in _ _ _ _ _ _ (c .before .before .before .store-remove .result) (c .before .before .before .store-remove .ensures), le-of-eq (sym (c .before .before .writes2 .given)), omega (arith, entry (c .before .before .before .before) .pre .1))
 
 returns : tie.Need-returns
-returns c = (remove-keeps _ _ _ _ _ _ (c .before .before .before .before .store-remove .result) (c .before .before .before .before .store-remove .ensures) (c .before .before .before .before .before .before .before .before .before .before .before .before .before .before .before .before .before .before .before .before .before .before .before .before .before .pre .0), omega (arith, c .put-removed .ensures .high, c .before .before .before .before .before .before .before .before .before .before .before .before .before .before .before .before .before .before .before .before .before .before .before .before .before .pre .1))
+returns c = (remove-keeps _ _ _ _ _ _ (c .before .before .before .before .store-remove .result) (c .before .before .before .before .store-remove .ensures) (entry (c .before .before .before .before .before) .pre .0), omega (arith, c .put-removed .ensures .high, entry (c .before .before .before .before .before) .pre .1))
 
 pub remove-spec : {M : Type 1} → statement M
 remove-spec =
     tie.close
     (tie.spec
-    (λ c. refl)
-    store-remove-requires
-    (λ c. sym (c .before .before .writes2 .given))
-    put-removed-requires
-    returns)
+    (λ c. refl) (λ c κs. (entry c .pre .0, le-refl _)) (λ c. sym (c .before .before .writes2 .given)) put-removed-requires returns)

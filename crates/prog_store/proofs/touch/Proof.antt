@@ -8,24 +8,16 @@ use Rattle.prog_store.proofs.touch.Tie as tie
 returns : tie.Need-returns
 returns c = (c .before .before .before .before .before .pre .0, omega (arith, c .put-refused .ensures .high, c .before .before .before .before .before .pre .1))
 
-store-used-array-requires : tie.Need-store-used-array-requires
-store-used-array-requires c κs = (c .before .before .before .before .before .before .before .before .before .before .before .before .before .before .before .before .before .before .before .before .before .pre .0, c .before .before .before .before .before .before .before .before .before .before .before .before .before .before .before .before .before .before .before .before .if1 .left)
-
-put-bytes-read-requires : tie.Need-put-bytes-read-requires
-put-bytes-read-requires c κs = omega (arith, c .before .before .before .before .before .before .before .before .before .before .before .before .before .before .before .before .before .before .before .before .before .before .before .pre .1)
+-- earlier places of the function, by name
+abbrev else1 : tie.After-store-used-array-arg19 → tie.Else1
+else1 c = c .before .before .before .before .before .before .before .before .before .before .before .before .before .before .before .before .before .before .before .before
 
 returns-2 : tie.Need-returns-2
-returns-2 c = (touch-keeps _ _ _ _ _ _ (c .before .before .store-used-array .result) (c .before .before .store-used-array .ensures) (c .before .before .before .before .before .before .before .before .before .before .before .before .before .before .before .before .before .before .before .before .before .before .before .before .pre .0), omega (arith, c .put-bytes-read .ensures .high, c .before .before .before .before .before .before .before .before .before .before .before .before .before .before .before .before .before .before .before .before .before .before .before .before .pre .1))
+returns-2 c = (touch-keeps _ _ _ _ _ _ (c .before .before .store-used-array .result) (c .before .before .store-used-array .ensures) (else1 (c .before .before .before) .before .pre .0), omega (arith, c .put-bytes-read .ensures .high, else1 (c .before .before .before) .before .pre .1))
 
 pub touch-spec : {M : Type 1} → statement M
 touch-spec =
     tie.close
     (tie.spec
-    (λ c. search needs)
-    (λ c κs. search needs)
-    (λ c κs. omega (arith, c .before .before .before .before .pre .1))
-    returns
-    (λ c κs. search needs)
-    store-used-array-requires
-    put-bytes-read-requires
-    returns-2)
+    (λ c. search needs) (λ c κs. search needs) (λ c κs. omega (arith, c .before .before .before .before .pre .1)) returns (λ c κs. search needs)
+    (λ c κs. (else1 c .before .pre .0, else1 c .if1 .left)) (λ c κs. omega (arith, else1 (c .before .before) .before .pre .1)) returns-2)

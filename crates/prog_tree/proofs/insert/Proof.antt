@@ -7,27 +7,20 @@ use native.Mathlib.Omega.{arith}
 use Rattle.prog_tree.proofs.insert.Statement.{statement}
 use Rattle.prog_tree.proofs.insert.Tie as tie
 
-slice-aggregate-insert-3 : tie.Need-slice-aggregate-insert-3
-slice-aggregate-insert-3 c = simp length-take (omega (arith, c .before .before .before .before .before .before .before .before .before .before .before .before .before .before .before .before .before .before .before .before .before .before .before .pre .2))
-
-insert-requires : tie.Need-insert-requires
-insert-requires c κs = (c .before .before .before .before .before .before .before .before .before .before .before .before .before .before .before .before .before .before .before .before .before .before .before .pre .0, record { node = le-refl _; len = le-refl _ })
+-- earlier places of the function, by name
+abbrev entry : tie.After-insert-arg20 → tie.Start
+entry c = c .before .before .before .before .before .before .before .before .before .before .before .before .before .before .before .before .before .before .before .before .before .before .before
 
 put-inserted-requires : tie.Need-put-inserted-requires
-put-inserted-requires c κs = (insert-in _ _ _ _ _ (c .before .before .before .before .before .insert .result) (c .before .before .before .before .before .insert .ensures), le-of-eq (sym (c .before .before .before .before .path-node2 .given)), le-of-eq (sym (c .before .before .before .path-len2 .given)), omega (arith, c .before .before .before .before .before .before .before .before .before .before .before .before .before .before .before .before .before .before .before .before .before .before .before .before .before .before .before .before .before .pre .1))
+put-inserted-requires c κs = (insert-in _ _ _ _ _ (c .before .before .before .before .before .insert .result) (c .before .before .before .before .before .insert .ensures), le-of-eq (sym (c .before .before .before .before .path-node2 .given)), le-of-eq (sym (c .before .before .before .path-len2 .given)), omega (arith, entry (c .before .before .before .before .before .before) .pre .1))
 
 returns : tie.Need-returns
-returns c = (insert-keeps _ _ _ _ _ (c .before .before .before .before .before .before .insert .result) (c .before .before .before .before .before .before .insert .ensures) (c .before .before .before .before .before .before .before .before .before .before .before .before .before .before .before .before .before .before .before .before .before .before .before .before .before .before .before .before .before .before .pre .0), omega (arith, c .put-inserted .ensures .high, c .before .before .before .before .before .before .before .before .before .before .before .before .before .before .before .before .before .before .before .before .before .before .before .before .before .before .before .before .before .before .pre .1))
+returns c = (insert-keeps _ _ _ _ _ (c .before .before .before .before .before .before .insert .result) (c .before .before .before .before .before .before .insert .ensures) (entry (c .before .before .before .before .before .before .before) .pre .0), omega (arith, c .put-inserted .ensures .high, entry (c .before .before .before .before .before .before .before) .pre .1))
 
 pub insert-spec : {M : Type 1} → statement M
 insert-spec =
     tie.close
     (tie.spec
-    (λ c. refl)
-    (λ c. refl)
-    slice-aggregate-insert-3
-    insert-requires
-    (λ c. sym (c .before .before .before .path-node2 .given))
-    (λ c. sym (c .before .before .before .path-len2 .given))
-    put-inserted-requires
-    returns)
+    (λ c. refl) (λ c. refl) (λ c. simp length-take (omega (arith, entry c .pre .2)))
+    (λ c κs. (entry c .pre .0, record { node = le-refl _; len = le-refl _ })) (λ c. sym (c .before .before .before .path-node2 .given))
+    (λ c. sym (c .before .before .before .path-len2 .given)) put-inserted-requires returns)

@@ -6,8 +6,12 @@ use Rattle.theory_outcome.proofs.Gates.{version-unsound}
 use Rattle.public_read.proofs.source_version.Statement.{statement}
 use Rattle.public_read.proofs.source_version.Tie as tie
 
-returns : tie.Need-returns
-returns c = version-unsound _ (says-no (c .before .sound-state .result) (c .if1 .taken) (c .before .sound-state .ensures)) (c .before .before .before .before .before .before .before .before .before .before .before .before .before .before .before .before .before .before .before .before .before .args .s)
+-- earlier places of the function, by name
+abbrev entry : tie.Then1 → tie.Start
+entry c = c .before .before .before .before .before .before .before .before .before .before .before .before .before .before .before .before .before .before .before .before .before
+
+abbrev entry-2 : tie.After-source-version → tie.Start
+entry-2 c = c .before .before .before .before .before .before .before .before .before .before .before .before .before .before .before .before .before .before .before .before .before .before
 
 source-version-requires : tie.Need-source-version-requires
 source-version-requires c κs =
@@ -15,13 +19,12 @@ source-version-requires c κs =
     (h .counts .stores, h .lent .books)
 
 returns-2 : tie.Need-returns-2
-returns-2 c = version-is _ (c .before .before .before .before .before .before .before .before .before .before .before .before .before .before .before .before .before .before .before .before .before .before .args .s) (c .source-version .ensures _ (record { books = refl; sound = (says-yes (c .before .before .sound-state .result) (c .before .if1 .left) (c .before .before .sound-state .ensures)) }))
+returns-2 c = version-is _ (entry-2 c .args .s) (c .source-version .ensures _ (record { books = refl; sound = (says-yes (c .before .before .sound-state .result) (c .before .if1 .left) (c .before .before .sound-state .ensures)) }))
 
 pub source-version-spec : {M : Type 1} → statement M
 source-version-spec =
     tie.close
     (tie.spec
     (λ c κs. tt)
-    returns
-    source-version-requires
-    returns-2)
+    (λ c. version-unsound _ (says-no (c .before .sound-state .result) (c .if1 .taken) (c .before .sound-state .ensures)) (entry c .args .s))
+    source-version-requires returns-2)

@@ -6,8 +6,12 @@ use Rattle.theory_outcome.proofs.Gates.{available-unsound}
 use Rattle.public_read.proofs.store_available_for_stage.Statement.{statement}
 use Rattle.public_read.proofs.store_available_for_stage.Tie as tie
 
-returns : tie.Need-returns
-returns c = available-unsound _ (says-no (c .before .sound-state .result) (c .if1 .taken) (c .before .sound-state .ensures)) (c .before .before .before .before .before .before .before .before .before .before .before .before .before .before .before .before .before .before .before .before .before .args .s)
+-- earlier places of the function, by name
+abbrev entry : tie.Then1 → tie.Start
+entry c = c .before .before .before .before .before .before .before .before .before .before .before .before .before .before .before .before .before .before .before .before .before
+
+abbrev entry-2 : tie.After-store-available-for-stage → tie.Start
+entry-2 c = c .before .before .before .before .before .before .before .before .before .before .before .before .before .before .before .before .before .before .before .before .before .before
 
 store-available-for-stage-requires : tie.Need-store-available-for-stage-requires
 store-available-for-stage-requires c κs =
@@ -15,13 +19,12 @@ store-available-for-stage-requires c κs =
     (h .counts .stores, h .lent .books)
 
 returns-2 : tie.Need-returns-2
-returns-2 c = available-is _ (c .before .before .before .before .before .before .before .before .before .before .before .before .before .before .before .before .before .before .before .before .before .before .args .s) (c .store-available-for-stage .ensures _ (record { books = refl; sound = (says-yes (c .before .before .sound-state .result) (c .before .if1 .left) (c .before .before .sound-state .ensures)) }))
+returns-2 c = available-is _ (entry-2 c .args .s) (c .store-available-for-stage .ensures _ (record { books = refl; sound = (says-yes (c .before .before .sound-state .result) (c .before .if1 .left) (c .before .before .sound-state .ensures)) }))
 
 pub store-available-for-stage-spec : {M : Type 1} → statement M
 store-available-for-stage-spec =
     tie.close
     (tie.spec
     (λ c κs. tt)
-    returns
-    store-available-for-stage-requires
-    returns-2)
+    (λ c. available-unsound _ (says-no (c .before .sound-state .result) (c .if1 .taken) (c .before .sound-state .ensures)) (entry c .args .s))
+    store-available-for-stage-requires returns-2)

@@ -6,8 +6,12 @@ use Rattle.theory_outcome.proofs.Gates.{pinned-unsound}
 use Rattle.public_read.proofs.store_pinned_blocks.Statement.{statement}
 use Rattle.public_read.proofs.store_pinned_blocks.Tie as tie
 
-returns : tie.Need-returns
-returns c = pinned-unsound _ (says-no (c .before .sound-state .result) (c .if1 .taken) (c .before .sound-state .ensures)) (c .before .before .before .before .before .before .before .before .before .before .before .before .before .before .before .before .before .before .before .before .before .args .s)
+-- earlier places of the function, by name
+abbrev entry : tie.Then1 → tie.Start
+entry c = c .before .before .before .before .before .before .before .before .before .before .before .before .before .before .before .before .before .before .before .before .before
+
+abbrev entry-2 : tie.After-store-pinned-blocks → tie.Start
+entry-2 c = c .before .before .before .before .before .before .before .before .before .before .before .before .before .before .before .before .before .before .before .before .before .before
 
 store-pinned-blocks-requires : tie.Need-store-pinned-blocks-requires
 store-pinned-blocks-requires c κs =
@@ -15,13 +19,12 @@ store-pinned-blocks-requires c κs =
     (h .counts .stores, h .lent .books)
 
 returns-2 : tie.Need-returns-2
-returns-2 c = pinned-is _ (c .before .before .before .before .before .before .before .before .before .before .before .before .before .before .before .before .before .before .before .before .before .before .args .s) (c .store-pinned-blocks .ensures _ (record { books = refl; sound = (says-yes (c .before .before .sound-state .result) (c .before .if1 .left) (c .before .before .sound-state .ensures)) }))
+returns-2 c = pinned-is _ (entry-2 c .args .s) (c .store-pinned-blocks .ensures _ (record { books = refl; sound = (says-yes (c .before .before .sound-state .result) (c .before .if1 .left) (c .before .before .sound-state .ensures)) }))
 
 pub store-pinned-blocks-spec : {M : Type 1} → statement M
 store-pinned-blocks-spec =
     tie.close
     (tie.spec
     (λ c κs. tt)
-    returns
-    store-pinned-blocks-requires
-    returns-2)
+    (λ c. pinned-unsound _ (says-no (c .before .sound-state .result) (c .if1 .taken) (c .before .sound-state .ensures)) (entry c .args .s))
+    store-pinned-blocks-requires returns-2)

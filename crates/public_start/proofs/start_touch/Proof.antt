@@ -5,9 +5,13 @@ use Rattle.public_start.proofs.Laws.{begin-asks, started-begun, started
 use Rattle.public_start.proofs.start_touch.Statement.{statement}
 use Rattle.public_start.proofs.start_touch.Tie as tie
 
+-- earlier places of the function, by name
+abbrev entry : tie.After-begin-arg → tie.Start
+entry c = c .before .before .before .before .before .before .before .before .before .before .before .before .before .before .before .before .before .before .before .before .before .before .before .before .before .before .before .before .before .before .before
+
 begin-requires : tie.Need-begin-requires
 begin-requires c κs =
-    let z = c .before .before .before .before .before .before .before .before .before .before .before .before .before .before .before .before .before .before .before .before .before .before .before .before .before .before .before .before .before .before .before in
+    let z = entry c in
     begin-asks (stateFrom (z .args .parent .now) (z .args .depth .now) (z .args .len .now) (z .args .run .now) (z .args .words .now) (z .args .node .now) (z .args .start .now) (z .args .end .now) (z .args .id .now) (z .args .stamp .now) (z .args .touched .now) (z .args .write .now) (z .args .pin-node .now) (z .args .pin-start .now) (z .args .pin-end .now) (z .args .pin-count .now) (z .args .marks .now) (z .args .bytes .now) (z .args .books .now)) (c .before .before .sound-state .ensures) (c .before .if1 .taken)
 
 returns : tie.Need-returns
@@ -20,26 +24,5 @@ pub start-touch-spec : {M : Type 1} → statement M
 start-touch-spec =
     tie.close
     (tie.spec
-    (λ c κs. tt)
-    begin-requires
-    (λ c. refl)
-    (λ c. refl)
-    (λ c. refl)
-    (λ c. refl)
-    (λ c. refl)
-    (λ c. refl)
-    (λ c. refl)
-    (λ c. refl)
-    (λ c. refl)
-    returns
-    (λ c κs. tt)
-    (λ c. refl)
-    (λ c. refl)
-    (λ c. refl)
-    (λ c. refl)
-    (λ c. refl)
-    (λ c. refl)
-    (λ c. refl)
-    (λ c. refl)
-    (λ c. refl)
-    returns-2)
+    (λ c κs. tt) begin-requires (λ c. refl) (λ c. refl) (λ c. refl) (λ c. refl) (λ c. refl) (λ c. refl) (λ c. refl) (λ c. refl) (λ c. refl) returns
+    (λ c κs. tt) (λ c. refl) (λ c. refl) (λ c. refl) (λ c. refl) (λ c. refl) (λ c. refl) (λ c. refl) (λ c. refl) (λ c. refl) returns-2)

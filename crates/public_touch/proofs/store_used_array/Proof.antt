@@ -8,53 +8,32 @@ use Rattle.public_touch.proofs.Array.{take-within}
 use Rattle.public_touch.proofs.store_used_array.Statement.{statement}
 use Rattle.public_touch.proofs.store_used_array.Tie as tie
 
-same-length : tie.Need-same-length
-same-length c = c .before .before .before .before .before .before .before .before .before .before .before .before .before .before .before .before .before .before .first-used .kept .1 .1 .1 .1 .1 .0
+-- earlier places of the function, by name
+abbrev after-first-used : tie.After-slice-known18 → tie.After-first-used
+after-first-used c = c .before .before .before .before .before .before .before .before .before .before .before .before .before .before .before .before .before .before
 
-same-length-2 : tie.Need-same-length-2
-same-length-2 c = c .before .before .before .before .before .before .before .before .before .before .before .before .before .before .before .before .before .before .first-used .kept .1 .1 .1 .1 .1 .1 .0
+abbrev after-within : tie.After-slice-known18 → tie.After-within
+after-within c = after-first-used c .before .before .before .before .before .before .before .before .before .before
 
-same-length-3 : tie.Need-same-length-3
-same-length-3 c = c .before .before .before .before .before .before .before .before .before .before .before .before .before .before .before .before .before .before .first-used .kept .1 .1 .1 .1 .1 .1 .1 .0
-
-same-length-4 : tie.Need-same-length-4
-same-length-4 c = c .before .before .before .before .before .before .before .before .before .before .before .before .before .before .before .before .before .before .first-used .kept .1 .1 .1 .1 .1 .1 .1 .1 .0
-
-same-length-5 : tie.Need-same-length-5
-same-length-5 c = c .before .before .before .before .before .before .before .before .before .before .before .before .before .before .before .before .before .before .first-used .kept .1 .1 .1 .1 .1 .1 .1 .1 .1 .0
-
-same-length-6 : tie.Need-same-length-6
-same-length-6 c = c .before .before .before .before .before .before .before .before .before .before .before .before .before .before .before .before .before .before .first-used .kept .1 .1 .1 .1 .1 .1 .1 .1 .1 .1 .0
-
-same-length-7 : tie.Need-same-length-7
-same-length-7 c = c .before .before .before .before .before .before .before .before .before .before .before .before .before .before .before .before .before .before .first-used .kept .1 .1 .1 .1 .1 .1 .1 .1 .1 .1 .1 .0
-
-same-length-8 : tie.Need-same-length-8
-same-length-8 c = c .before .before .before .before .before .before .before .before .before .before .before .before .before .before .before .before .before .before .first-used .kept .1 .1 .1 .1 .1 .1 .1 .1 .1 .1 .1 .1 .1 .1 .1 .1 .0
-
-same-length-9 : tie.Need-same-length-9
-same-length-9 c = c .before .before .before .before .before .before .before .before .before .before .before .before .before .before .before .before .before .before .first-used .kept .1 .1 .1 .1 .1 .1 .1 .1 .1 .1 .1 .1 .1 .1 .1 .1 .1 .1 .0
+abbrev entry : tie.After-slice-known18 → tie.Start
+entry c = after-within c .before .before .before .before .before .before .before .before .before .before .before .before .before .before .before .before .before .before .before .before
 
 returns : tie.Need-returns
 returns c =
-    let z = c .before .before .before .before .before .before .before .before .before .before .before .before .before .before .before .before .before .before .before .before .before .before .before .before .before .before .before .before .before .before .before .before .before .before .before .before .before .before .before .before .before .before .before .before .before .before .before .before in
+    let z = entry c in
     let long : length (z .args .spans) ≡ 65 = z .good .1 .1 .1 .1 .1 .1 .1 .1 .1 .1 .1 .1 .1 .1 .1 .1 .1 .1 .1 .1 .0 .1 .0 .1 in
-    let same = take-within (z .args .spans) (z .args .count) long (c .before .before .before .before .before .before .before .before .before .before .before .before .before .before .before .before .before .before .before .before .before .before .before .before .before .before .before .before .within .ensures) in
-    c .before .before .before .before .before .before .before .before .before .before .before .before .before .before .before .before .before .before .first-used .ensures ∙ ap (λ sps. storeUsed (stateFrom (z .args .parent .now) (z .args .depth .now) (z .args .len .now) (z .args .run .now) (z .args .words .now) (z .args .node .now) (z .args .start .now) (z .args .end .now) (z .args .id .now) (z .args .stamp .now) (z .args .touched .now) (z .args .write .now) (z .args .pin-node .now) (z .args .pin-start .now) (z .args .pin-end .now) (z .args .pin-count .now) (z .args .marks .now) (z .args .bytes .now) (z .args .books .now)) (z .args .s) sps (z .args .time) (z .args .counted)) same
+    let same = take-within (z .args .spans) (z .args .count) long (after-within c .within .ensures) in
+    after-first-used c .first-used .ensures ∙ ap (λ sps. storeUsed (stateFrom (z .args .parent .now) (z .args .depth .now) (z .args .len .now) (z .args .run .now) (z .args .words .now) (z .args .node .now) (z .args .start .now) (z .args .end .now) (z .args .id .now) (z .args .stamp .now) (z .args .touched .now) (z .args .write .now) (z .args .pin-node .now) (z .args .pin-start .now) (z .args .pin-end .now) (z .args .pin-count .now) (z .args .marks .now) (z .args .bytes .now) (z .args .books .now)) (z .args .s) sps (z .args .time) (z .args .counted)) same
 
 pub store-used-array-spec : {M : Type 1} → statement M
 store-used-array-spec =
     tie.close
     (tie.spec
-    (λ c κs. tt)
-    (λ c κs. omega (arith, c .before .before .before .before .before .before .before .before .before .within .ensures))
-    same-length
-    same-length-2
-    same-length-3
-    same-length-4
-    same-length-5
-    same-length-6
-    same-length-7
-    same-length-8
-    same-length-9
-    returns)
+    (λ c κs. tt) (λ c κs. omega (arith, c .before .before .before .before .before .before .before .before .before .within .ensures))
+    (λ c. after-first-used c .first-used .kept .1 .1 .1 .1 .1 .0) (λ c. after-first-used c .first-used .kept .1 .1 .1 .1 .1 .1 .0)
+    (λ c. after-first-used c .first-used .kept .1 .1 .1 .1 .1 .1 .1 .0) (λ c. after-first-used c .first-used .kept .1 .1 .1 .1 .1 .1 .1 .1 .0)
+    (λ c. after-first-used c .first-used .kept .1 .1 .1 .1 .1 .1 .1 .1 .1 .0)
+    (λ c. after-first-used c .first-used .kept .1 .1 .1 .1 .1 .1 .1 .1 .1 .1 .0)
+    (λ c. after-first-used c .first-used .kept .1 .1 .1 .1 .1 .1 .1 .1 .1 .1 .1 .0)
+    (λ c. after-first-used c .first-used .kept .1 .1 .1 .1 .1 .1 .1 .1 .1 .1 .1 .1 .1 .1 .1 .1 .0)
+    (λ c. after-first-used c .first-used .kept .1 .1 .1 .1 .1 .1 .1 .1 .1 .1 .1 .1 .1 .1 .1 .1 .1 .1 .0) returns)

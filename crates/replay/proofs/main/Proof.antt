@@ -18,31 +18,27 @@ abbrev μ-loop : tie.MeasureT-loop
 no-node : {P : Type 0} → 1 ≤ 0 → P
 no-node h = absurd (omega arith)
 
-call-requires : tie.Need-call-requires Inv-loop μ-loop
-call-requires c κs = (c .before .before .before .before .before .before .before .before .before .before .before .before .before .before .before .before .before .before .before .before .before .before .before .before .before .before .next-op .ensures .0, c .before .before .before .before .before .before .before .before .before .before .before .before .before .before .before .before .before .before .before .before .before .before .before .before .before .before .before .before .before .before .before .before .before .before .loop .inv .0, c .before .before .before .before .before .before .before .before .before .before .before .before .before .before .before .before .before .before .before .before .before .before .before .before .before .before .before .before .before .before .before .before .before .before .loop .inv .1)
+-- earlier places of the function, by name
+abbrev at-loop : tie.After-out Inv-loop μ-loop → tie.At-loop Inv-loop μ-loop
+at-loop c = c .before .before .before .before .before .before .before .before .before .before
 
-sub-turns : tie.Need-sub-turns Inv-loop μ-loop
-sub-turns c = omega (arith, c .before .before .before .before .before .before .before .before .before .before .before .before .before .before .before .before .before .before .before .before .before .before .before .before .before .before .before .before .before .before .before .before .before .before .before .before .before .loop-test .taken)
+abbrev after-next-op : tie.After-refreshes2 Inv-loop μ-loop → tie.After-next-op Inv-loop μ-loop
+after-next-op c = c .before .before .before .before .before .before .before .before .before .before .before .before .before .before .before .before .before .before .before .before .before .before .before .before .before .before
 
-loop-less : tie.Need-loop-less Inv-loop μ-loop
-loop-less c = omega (arith, c .before .before .before .before .before .before .before .before .before .before .before .before .before .before .before .before .before .before .before .before .before .before .before .before .before .before .before .before .before .before .before .before .before .before .before .before .before .loop-test .taken)
+abbrev at-loop-2 : tie.After-refreshes2 Inv-loop μ-loop → tie.At-loop Inv-loop μ-loop
+at-loop-2 c = after-next-op c .before .before .before .before .before .before .before .before
+
+abbrev in-loop : tie.After-c Inv-loop μ-loop → tie.In-loop Inv-loop μ-loop
+in-loop c = after-next-op (c .before .before .before .before) .before .before .before .before .before .before .before
 
 loop-again : tie.Need-loop-again Inv-loop μ-loop
-loop-again c = (c .before .before .before .call .ensures .0, c .before .flush2 .ensures, c .before .before .before .before .before .before .before .before .before .before .before .before .before .before .before .before .before .before .before .before .before .before .before .before .before .before .before .before .before .before .next-op .ensures .1)
+loop-again c = (c .before .before .before .call .ensures .0, c .before .flush2 .ensures, after-next-op (c .before .before .before .before) .next-op .ensures .1)
 
 pub main-spec : {M : Type 1} → statement M
 main-spec =
     tie.close
     (tie.spec
-    Inv-loop
-    μ-loop
-    (λ c. ((λ h. no-node h), search needs, search needs))
-    (λ c κs. c .before .before .before .before .before .before .before .loop .inv .2)
-    (λ c κs. omega (arith, c .before .before .before .before .before .before .before .before .before .before .loop .inv .1))
-    (λ c. tt)
-    call-requires
-    (λ c κs. c .before .call .ensures .1)
-    sub-turns
-    loop-less
-    loop-again
-    (λ c. tt))
+    Inv-loop μ-loop (λ c. ((λ h. no-node h), search needs, search needs))
+    (λ c κs. c .before .before .before .before .before .before .before .loop .inv .2) (λ c κs. omega (arith, at-loop c .loop .inv .1)) (λ c. tt)
+    (λ c κs. (after-next-op c .next-op .ensures .0, at-loop-2 c .loop .inv .0, at-loop-2 c .loop .inv .1)) (λ c κs. c .before .call .ensures .1)
+    (λ c. omega (arith, in-loop c .loop-test .taken)) (λ c. omega (arith, in-loop c .loop-test .taken)) loop-again (λ c. tt))

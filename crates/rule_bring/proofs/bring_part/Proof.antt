@@ -7,69 +7,46 @@ use Rattle.rule_bring.proofs.Laws.{gaps-few, sum-fits, part-ready, part
 use Rattle.rule_bring.proofs.bring_part.Statement.{statement}
 use Rattle.rule_bring.proofs.bring_part.Tie as tie
 
-fill-requires : tie.Need-fill-requires
-fill-requires c κs = let p = c .before .before .before .before .before .before .before .before .before .before .before .before .before .before .before .before .before .before .before .before .before .before .before .before .before .before .pre .0 in (p .room, p .ready .cols)
+-- earlier places of the function, by name
+abbrev entry : tie.After-fill-arg7 → tie.Start
+entry c = c .before .before .before .before .before .before .before .before .before .before .before .before .before .before .before .before .before .before .before .before .before .before .before .before .before .before
 
-gap-blocks-requires : tie.Need-gap-blocks-requires
-gap-blocks-requires c κs = let p = c .before .before .before .before .before .before .before .before .before .before .before .before .before .before .before .before .before .before .before .before .before .before .before .before .before .before .before .before .before .before .before .before .before .before .before .before .before .before .before .before .before .pre .0 in (gaps-few p, p .filled)
+abbrev entry-2 : tie.After-slice-known21 → tie.Start
+entry-2 c = entry (c .before .before .before .before .before .before .before .before .before .before .before .before .before .before .before)
 
-add-h : tie.Need-add-h
-add-h c = sum-fits (c .before .before .before .before .before .before .before .before .before .before .before .before .before .before .before .before .before .before .before .before .before .before .before .before .before .before .before .before .before .before .before .before .before .before .before .before .before .before .before .before .before .before .pre .0) (c .gap-blocks .ensures)
+abbrev after-gap-blocks : tie.After-store-trim-capacity-arg14 → tie.After-gap-blocks
+after-gap-blocks c = c .before .before .before .before .before .before .before .before .before .before .before .before .before .before
+
+abbrev after-fill : tie.After-store-trim-capacity-arg14 → tie.After-fill
+after-fill c = after-gap-blocks c .before .before .before .before .before .before .before .before .before .before .before .before .before .before .before
+
+abbrev entry-3 : tie.After-store-trim-capacity-arg14 → tie.Start
+entry-3 c = entry-2 (c .before .before .before .before .before .before .before .before .before .before .before .before .before .before .before)
+
+abbrev after-store-trim-capacity : tie.After-slice-known35 → tie.After-store-trim-capacity
+after-store-trim-capacity c = c .before .before .before .before .before .before .before .before .before .before .before .before .before .before .before .before .before .before .before .before .before .before .before .before .before .before .before .before
+
+abbrev after-gap-blocks-2 : tie.After-slice-known35 → tie.After-gap-blocks
+after-gap-blocks-2 c = after-store-trim-capacity c .before .before .before .before .before .before .before .before .before .before .before .before .before .before .before
+
+abbrev after-fill-2 : tie.After-slice-known35 → tie.After-fill
+after-fill-2 c = after-gap-blocks-2 c .before .before .before .before .before .before .before .before .before .before .before .before .before .before .before
+
+abbrev entry-4 : tie.After-slice-known35 → tie.Start
+entry-4 c = after-fill-2 c .before .before .before .before .before .before .before .before .before .before .before .before .before .before .before .before .before .before .before .before .before .before .before .before .before .before .before
 
 store-trim-capacity-requires : tie.Need-store-trim-capacity-requires
 store-trim-capacity-requires c κs =
-    let f = c .before .before .before .before .before .before .before .before .before .before .before .before .before .before .before .before .before .before .before .before .before .before .before .before .before .before .before .before .before .fill in
-    (part-ready (c .before .before .before .before .before .before .before .before .before .before .before .before .before .before .before .before .before .before .before .before .before .before .before .before .before .before .before .before .before .before .before .before .before .before .before .before .before .before .before .before .before .before .before .before .before .before .before .before .before .before .before .before .before .before .before .before .pre .0) {c₁ = rangesOf (f .last .0) (f .last .1 .0) (f .last .1 .1 .0) (f .last .1 .1 .1 .0) (f .last .1 .1 .1 .1 .0) (f .last .1 .1 .1 .1 .1 .0) (f .last .1 .1 .1 .1 .1 .1 .0)} (f .ensures .0) (c .before .before .before .before .before .before .before .before .before .before .before .before .before .before .gap-blocks .ensures) (f .ensures .1), c .before .before .before .before .before .before .before .before .before .before .before .before .before .before .before .before .before .before .before .before .before .before .before .before .before .before .before .before .before .before .before .before .before .before .before .before .before .before .before .before .before .before .before .before .before .before .before .before .before .before .before .before .before .before .before .before .pre .1)
-
-same-length : tie.Need-same-length
-same-length c = c .before .before .before .before .before .before .before .before .before .before .before .before .before .before .before .before .before .before .before .before .before .before .before .before .before .before .before .before .store-trim-capacity .kept .0 ∙ c .before .before .before .before .before .before .before .before .before .before .before .before .before .before .before .before .before .before .before .before .before .before .before .before .before .before .before .before .before .before .before .before .before .before .before .before .before .before .before .before .before .before .before .before .before .before .before .before .before .before .before .before .before .before .before .before .before .before .fill .kept .0
-
-same-length-2 : tie.Need-same-length-2
-same-length-2 c = c .before .before .before .before .before .before .before .before .before .before .before .before .before .before .before .before .before .before .before .before .before .before .before .before .before .before .before .before .store-trim-capacity .kept .1 .0 ∙ c .before .before .before .before .before .before .before .before .before .before .before .before .before .before .before .before .before .before .before .before .before .before .before .before .before .before .before .before .before .before .before .before .before .before .before .before .before .before .before .before .before .before .before .before .before .before .before .before .before .before .before .before .before .before .before .before .before .before .fill .kept .1 .0
-
-same-length-3 : tie.Need-same-length-3
-same-length-3 c = c .before .before .before .before .before .before .before .before .before .before .before .before .before .before .before .before .before .before .before .before .before .before .before .before .before .before .before .before .store-trim-capacity .kept .1 .1 .0 ∙ c .before .before .before .before .before .before .before .before .before .before .before .before .before .before .before .before .before .before .before .before .before .before .before .before .before .before .before .before .before .before .before .before .before .before .before .before .before .before .before .before .before .before .before .before .before .before .before .before .before .before .before .before .before .before .before .before .before .before .fill .kept .1 .1 .0
-
-same-length-4 : tie.Need-same-length-4
-same-length-4 c = c .before .before .before .before .before .before .before .before .before .before .before .before .before .before .before .before .before .before .before .before .before .before .before .before .before .before .before .before .store-trim-capacity .kept .1 .1 .1 .0 ∙ c .before .before .before .before .before .before .before .before .before .before .before .before .before .before .before .before .before .before .before .before .before .before .before .before .before .before .before .before .before .before .before .before .before .before .before .before .before .before .before .before .before .before .before .before .before .before .before .before .before .before .before .before .before .before .before .before .before .before .fill .kept .1 .1 .1 .0
-
-same-length-5 : tie.Need-same-length-5
-same-length-5 c = c .before .before .before .before .before .before .before .before .before .before .before .before .before .before .before .before .before .before .before .before .before .before .before .before .before .before .before .before .store-trim-capacity .kept .1 .1 .1 .1 .0 ∙ c .before .before .before .before .before .before .before .before .before .before .before .before .before .before .before .before .before .before .before .before .before .before .before .before .before .before .before .before .before .before .before .before .before .before .before .before .before .before .before .before .before .before .before .before .before .before .before .before .before .before .before .before .before .before .before .before .before .before .fill .kept .1 .1 .1 .1 .0
-
-same-length-6 : tie.Need-same-length-6
-same-length-6 c = c .before .before .before .before .before .before .before .before .before .before .before .before .before .before .before .before .before .before .before .before .before .before .before .before .before .before .before .before .store-trim-capacity .kept .1 .1 .1 .1 .1 .0 ∙ c .before .before .before .before .before .before .before .before .before .before .before .before .before .before .before .before .before .before .before .before .before .before .before .before .before .before .before .before .before .before .before .before .before .before .before .before .before .before .before .before .before .before .before .before .before .before .before .before .before .before .before .before .before .before .before .before .before .before .fill .kept .1 .1 .1 .1 .1 .0
-
-same-length-7 : tie.Need-same-length-7
-same-length-7 c = c .before .before .before .before .before .before .before .before .before .before .before .before .before .before .before .before .before .before .before .before .before .before .before .before .before .before .before .before .store-trim-capacity .kept .1 .1 .1 .1 .1 .1 .0 ∙ c .before .before .before .before .before .before .before .before .before .before .before .before .before .before .before .before .before .before .before .before .before .before .before .before .before .before .before .before .before .before .before .before .before .before .before .before .before .before .before .before .before .before .before .before .before .before .before .before .before .before .before .before .before .before .before .before .before .before .fill .kept .1 .1 .1 .1 .1 .1 .0
-
-same-length-8 : tie.Need-same-length-8
-same-length-8 c = c .before .before .before .before .before .before .before .before .before .before .before .before .before .before .before .before .before .before .before .before .before .before .before .before .before .before .before .before .store-trim-capacity .kept .1 .1 .1 .1 .1 .1 .1 .0
-
-same-length-9 : tie.Need-same-length-9
-same-length-9 c = c .before .before .before .before .before .before .before .before .before .before .before .before .before .before .before .before .before .before .before .before .before .before .before .before .before .before .before .before .store-trim-capacity .kept .1 .1 .1 .1 .1 .1 .1 .1 .0
-
-same-length-10 : tie.Need-same-length-10
-same-length-10 c = c .before .before .before .before .before .before .before .before .before .before .before .before .before .before .before .before .before .before .before .before .before .before .before .before .before .before .before .before .store-trim-capacity .kept .1 .1 .1 .1 .1 .1 .1 .1 .1 .0
-
-same-length-11 : tie.Need-same-length-11
-same-length-11 c = c .before .before .before .before .before .before .before .before .before .before .before .before .before .before .before .before .before .before .before .before .before .before .before .before .before .before .before .before .store-trim-capacity .kept .1 .1 .1 .1 .1 .1 .1 .1 .1 .1 .0
-
-same-length-12 : tie.Need-same-length-12
-same-length-12 c = c .before .before .before .before .before .before .before .before .before .before .before .before .before .before .before .before .before .before .before .before .before .before .before .before .before .before .before .before .store-trim-capacity .kept .1 .1 .1 .1 .1 .1 .1 .1 .1 .1 .1 .0
-
-same-length-13 : tie.Need-same-length-13
-same-length-13 c = c .before .before .before .before .before .before .before .before .before .before .before .before .before .before .before .before .before .before .before .before .before .before .before .before .before .before .before .before .store-trim-capacity .kept .1 .1 .1 .1 .1 .1 .1 .1 .1 .1 .1 .1 .0
-
-same-length-14 : tie.Need-same-length-14
-same-length-14 c = c .before .before .before .before .before .before .before .before .before .before .before .before .before .before .before .before .before .before .before .before .before .before .before .before .before .before .before .before .store-trim-capacity .kept .1 .1 .1 .1 .1 .1 .1 .1 .1 .1 .1 .1 .1 .0
+    let f = after-fill c .fill in
+    (part-ready (entry-3 c .pre .0) {c₁ = rangesOf (f .last .0) (f .last .1 .0) (f .last .1 .1 .0) (f .last .1 .1 .1 .0) (f .last .1 .1 .1 .1 .0) (f .last .1 .1 .1 .1 .1 .0) (f .last .1 .1 .1 .1 .1 .1 .0)} (f .ensures .0) (after-gap-blocks c .gap-blocks .ensures) (f .ensures .1), entry-3 c .pre .1)
 
 returns : tie.Need-returns
 returns c =
-    let a = c .before .before .before .before .before .before .before .before .before .before .before .before .before .before .before .before .before .before .before .before .before .before .before .before .before .before .before .before .before .before .before .before .before .before .before .before .before .before .before .before .before .before .before .before .before .before .before .before .before .before .before .before .before .before .before .before .before .before .before .before .before .before .before .before .before .before .before .before .before .before .before .before .before .before .before .before .before .before .before .before .before .before .before .before .before .args in
-    let f = c .before .before .before .before .before .before .before .before .before .before .before .before .before .before .before .before .before .before .before .before .before .before .before .before .before .before .before .before .before .before .before .before .before .before .before .before .before .before .before .before .before .before .before .before .before .before .before .before .before .before .before .before .before .before .before .before .before .before .fill in
-    let t = c .before .before .before .before .before .before .before .before .before .before .before .before .before .before .before .before .before .before .before .before .before .before .before .before .before .before .before .before .store-trim-capacity in
+    let a = entry-4 c .args in
+    let f = after-fill-2 c .fill in
+    let t = after-store-trim-capacity c .store-trim-capacity in
     λ count.
-    part-given (c .before .before .before .before .before .before .before .before .before .before .before .before .before .before .before .before .before .before .before .before .before .before .before .before .before .before .before .before .before .before .before .before .before .before .before .before .before .before .before .before .before .before .before .before .before .before .before .before .before .before .before .before .before .before .before .before .before .before .before .before .before .before .before .before .before .before .before .before .before .before .before .before .before .before .before .before .before .before .before .before .before .before .before .before .before .pre .0) {c₁ = rangesOf (f .last .0) (f .last .1 .0) (f .last .1 .1 .0) (f .last .1 .1 .1 .0) (f .last .1 .1 .1 .1 .0) (f .last .1 .1 .1 .1 .1 .0) (f .last .1 .1 .1 .1 .1 .1 .0)} (f .ensures .0) (c .before .before .before .before .before .before .before .before .before .before .before .before .before .before .before .before .before .before .before .before .before .before .before .before .before .before .before .before .before .before .before .before .before .before .before .before .before .before .before .before .before .before .before .gap-blocks .ensures) (f .ensures .1)
+    part-given (entry-4 c .pre .0) {c₁ = rangesOf (f .last .0) (f .last .1 .0) (f .last .1 .1 .0) (f .last .1 .1 .1 .0) (f .last .1 .1 .1 .1 .0) (f .last .1 .1 .1 .1 .1 .0) (f .last .1 .1 .1 .1 .1 .1 .0)} (f .ensures .0) (after-gap-blocks-2 c .gap-blocks .ensures) (f .ensures .1)
     (pins (pinsOf (a .pin-node .now) (a .pin-start .now) (a .pin-end .now) count) 0 (a .m)) (a .capacity)
     {c₂ = rangesOf (t .last .0) (t .last .1 .0) (t .last .1 .1 .0) (t .last .1 .1 .1 .0) (t .last .1 .1 .1 .1 .0) (t .last .1 .1 .1 .1 .1 .0) (t .last .1 .1 .1 .1 .1 .1 .0)}
     {l₂ = outList (t .last .1 .1 .1 .1 .1 .1 .1 .1 .0) (t .last .1 .1 .1 .1 .1 .1 .1 .1 .1 .0) (t .last .1 .1 .1 .1 .1 .1 .1 .1 .1 .1 .0) (t .last .1 .1 .1 .1 .1 .1 .1 .1 .1 .1 .1 .0) (t .last .1 .1 .1 .1 .1 .1 .1 .1 .1 .1 .1 .1 .0) (t .last .1 .1 .1 .1 .1 .1 .1 .1 .1 .1 .1 .1 .1 .0)}
@@ -79,22 +56,19 @@ pub bring-part-spec : {M : Type 1} → statement M
 bring-part-spec =
     tie.close
     (tie.spec
-    fill-requires
-    gap-blocks-requires
-    add-h
-    store-trim-capacity-requires
-    same-length
-    same-length-2
-    same-length-3
-    same-length-4
-    same-length-5
-    same-length-6
-    same-length-7
-    same-length-8
-    same-length-9
-    same-length-10
-    same-length-11
-    same-length-12
-    same-length-13
-    same-length-14
-    returns)
+    (λ c κs. let p = entry c .pre .0 in (p .room, p .ready .cols)) (λ c κs. let p = entry-2 c .pre .0 in (gaps-few p, p .filled))
+    (λ c. sum-fits (entry-2 (c .before) .pre .0) (c .gap-blocks .ensures)) store-trim-capacity-requires
+    (λ c. after-store-trim-capacity c .store-trim-capacity .kept .0 ∙ after-fill-2 c .fill .kept .0)
+    (λ c. after-store-trim-capacity c .store-trim-capacity .kept .1 .0 ∙ after-fill-2 c .fill .kept .1 .0)
+    (λ c. after-store-trim-capacity c .store-trim-capacity .kept .1 .1 .0 ∙ after-fill-2 c .fill .kept .1 .1 .0)
+    (λ c. after-store-trim-capacity c .store-trim-capacity .kept .1 .1 .1 .0 ∙ after-fill-2 c .fill .kept .1 .1 .1 .0)
+    (λ c. after-store-trim-capacity c .store-trim-capacity .kept .1 .1 .1 .1 .0 ∙ after-fill-2 c .fill .kept .1 .1 .1 .1 .0)
+    (λ c. after-store-trim-capacity c .store-trim-capacity .kept .1 .1 .1 .1 .1 .0 ∙ after-fill-2 c .fill .kept .1 .1 .1 .1 .1 .0)
+    (λ c. after-store-trim-capacity c .store-trim-capacity .kept .1 .1 .1 .1 .1 .1 .0 ∙ after-fill-2 c .fill .kept .1 .1 .1 .1 .1 .1 .0)
+    (λ c. after-store-trim-capacity c .store-trim-capacity .kept .1 .1 .1 .1 .1 .1 .1 .0)
+    (λ c. after-store-trim-capacity c .store-trim-capacity .kept .1 .1 .1 .1 .1 .1 .1 .1 .0)
+    (λ c. after-store-trim-capacity c .store-trim-capacity .kept .1 .1 .1 .1 .1 .1 .1 .1 .1 .0)
+    (λ c. after-store-trim-capacity c .store-trim-capacity .kept .1 .1 .1 .1 .1 .1 .1 .1 .1 .1 .0)
+    (λ c. after-store-trim-capacity c .store-trim-capacity .kept .1 .1 .1 .1 .1 .1 .1 .1 .1 .1 .1 .0)
+    (λ c. after-store-trim-capacity c .store-trim-capacity .kept .1 .1 .1 .1 .1 .1 .1 .1 .1 .1 .1 .1 .0)
+    (λ c. after-store-trim-capacity c .store-trim-capacity .kept .1 .1 .1 .1 .1 .1 .1 .1 .1 .1 .1 .1 .1 .0) returns)

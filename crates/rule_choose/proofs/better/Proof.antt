@@ -9,15 +9,7 @@ pub better-spec : {M : Type 1} → statement M
 better-spec =
     tie.close
     (tie.spec
-    (λ c. simp (le-ltb _ _ (c .if1 .taken)))
-    (λ c. search needs)
-    (λ c. search needs)
-    (λ c. search needs)
-    (λ c. search needs)
-    (λ c. search needs)
-    (λ c. search needs)
-    (λ c. search needs)
-    (λ c. search needs)
-    (λ c κs. search needs)
+    (λ c. simp (le-ltb _ _ (c .if1 .taken))) (λ c. search needs) (λ c. search needs) (λ c. search needs) (λ c. search needs) (λ c. search needs)
+    (λ c. search needs) (λ c. search needs) (λ c. search needs) (λ c κs. search needs)
     (λ c. simp (lt-ltb _ _ (c .before .before .before .before .before .before .if1 .left), sym (c .before .sooner .ensures) ∙ c .if2 .taken))
     (λ c. simp (lt-ltb _ _ (c .before .before .before .before .before .before .if1 .left), sym (c .before .sooner .ensures) ∙ c .if2 .left)))

@@ -43,29 +43,12 @@ loop-again-3 c = (
 )
 
 returns : tie.Need-returns Inv-loop μ-loop
-returns c = λ count write touched. c .as-place .ensures ∙ best-end _ _ _ _ _ (c .before .loop-test .left) (c .before .before .loop .inv .1 count write touched)
+returns c = λ count write touched. c .as-found .ensures ∙ best-end _ _ _ _ _ (c .before .loop-test .left) (c .before .before .loop .inv .1 count write touched)
 
 pub first-free-spec : {M : Type 1} → statement M
 first-free-spec =
     tie.close
     (tie.spec
-    Inv-loop
-    μ-loop
-    (λ c. (omega arith, λ count write touched. best-start _ _ _))
-    (λ c. search needs)
-    (λ c κs. search needs)
-    (λ c. search needs)
-    (λ c. search needs)
-    (λ c. search needs)
-    (λ c. search needs)
-    (λ c. search needs)
-    (λ c. search needs)
-    (λ c κs. search needs)
-    (λ c. search needs)
-    loop-again
-    (λ c. search needs)
-    loop-again-2
-    (λ c. search needs)
-    loop-again-3
-    (λ c κs. search needs)
-    returns)
+    Inv-loop μ-loop (λ c. (omega arith, λ count write touched. best-start _ _ _)) (λ c. search needs) (λ c κs. search needs) (λ c. search needs)
+    (λ c. search needs) (λ c. search needs) (λ c. search needs) (λ c. search needs) (λ c. search needs) (λ c κs. search needs) (λ c. search needs)
+    loop-again (λ c. search needs) loop-again-2 (λ c. search needs) loop-again-3 (λ c κs. search needs) returns)

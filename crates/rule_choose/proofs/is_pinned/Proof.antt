@@ -21,18 +21,6 @@ pub is-pinned-spec : {M : Type 1} → statement M
 is-pinned-spec =
     tie.close
     (tie.spec
-    Inv-loop
-    μ-loop
-    (λ c. passed-start)
-    (λ c. search needs)
-    (λ c. search needs)
-    (λ c. search needs)
-    (λ c. search needs)
-    (λ c. search needs)
-    (λ c. search needs)
-    (λ c κs. search needs)
-    returns
-    (λ c. search needs)
-    (λ c. search needs)
-    loop-again
+    Inv-loop μ-loop (λ c. passed-start) (λ c. search needs) (λ c. search needs) (λ c. search needs) (λ c. search needs) (λ c. search needs)
+    (λ c. search needs) (λ c κs. search needs) returns (λ c. search needs) (λ c. search needs) loop-again
     (λ c. passed-end (c .before .loop .inv) (c .loop-test .left)))

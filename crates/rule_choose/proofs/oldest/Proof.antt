@@ -25,18 +25,11 @@ loop-again c = (
 )
 
 returns : tie.Need-returns Inv-loop μ-loop
-returns c = λ node start end write touched. c .as-place .ensures ∙ best-end _ _ _ _ _ (c .before .loop-test .left) (c .before .before .loop .inv .1 node start end write touched)
+returns c = λ node start end write touched. c .as-found .ensures ∙ best-end _ _ _ _ _ (c .before .loop-test .left) (c .before .before .loop .inv .1 node start end write touched)
 
 pub oldest-spec : {M : Type 1} → statement M
 oldest-spec =
     tie.close
     (tie.spec
-    Inv-loop
-    μ-loop
-    (λ c. (omega arith, λ node start end write touched. best-start _ _ _))
-    (λ c. search needs)
-    (λ c κs. search needs)
-    (λ c. search needs)
-    loop-again
-    (λ c κs. search needs)
-    returns)
+    Inv-loop μ-loop (λ c. (omega arith, λ node start end write touched. best-start _ _ _)) (λ c. search needs) (λ c κs. search needs)
+    (λ c. search needs) loop-again (λ c κs. search needs) returns)

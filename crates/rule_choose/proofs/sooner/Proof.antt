@@ -3,14 +3,7 @@ use borrow.Author.Tests.{eq-eqb, ne-eqb, lt-ltb, le-ltb}
 use Rattle.rule_choose.proofs.sooner.Statement.{statement}
 use Rattle.rule_choose.proofs.sooner.Tie as tie
 
-returns : tie.Need-returns
-returns c = simp (lt-ltb _ _ (c .if1 .taken))
-
-returns-2 : tie.Need-returns-2
-returns-2 c = simp (le-ltb _ _ (c .before .if1 .left), eq-eqb _ _ (c .if2 .taken))
-
-returns-3 : tie.Need-returns-3
-returns-3 c = simp (le-ltb _ _ (c .before .if1 .left), ne-eqb _ _ (c .if2 .left))
-
 pub sooner-spec : {M : Type 1} → statement M
-sooner-spec = tie.close (tie.spec returns returns-2 returns-3)
+sooner-spec = tie.close (tie.spec
+    (λ c. simp (lt-ltb _ _ (c .if1 .taken))) (λ c. simp (le-ltb _ _ (c .before .if1 .left), eq-eqb _ _ (c .if2 .taken)))
+    (λ c. simp (le-ltb _ _ (c .before .if1 .left), ne-eqb _ _ (c .if2 .left))))

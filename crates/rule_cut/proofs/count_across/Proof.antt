@@ -21,12 +21,6 @@ pub count-across-spec : {M : Type 1} → statement M
 count-across-spec =
     tie.close
     (tie.spec
-    Inv-loop
-    μ-loop
-    (λ c. count-start)
+    Inv-loop μ-loop (λ c. count-start)
     (λ c κs. let p = c .before .before .before .before .before .pre in (omega (arith, p .0), omega (arith, p .1), omega (arith, p .2)))
-    (λ c. omega arith)
-    (λ c. omega arith)
-    (λ c. omega arith)
-    loop-again
-    (λ c. count-end (c .before .loop .inv) (c .loop-test .left)))
+    (λ c. omega arith) (λ c. omega arith) (λ c. omega arith) loop-again (λ c. count-end (c .before .loop .inv) (c .loop-test .left)))

@@ -15,129 +15,86 @@ orig z = rangesOf (z .args .node .now) (z .args .start .now) (z .args .end .now)
 is-beyond-requires : tie.Need-is-beyond-requires
 is-beyond-requires c κs = let p = c .before .before .before .before .before .before .before .before .before .pre in (omega (arith, p .0, p .1, p .2, p .5 .node), omega (arith, p .0, p .1, p .2, p .5 .end))
 
-add-t20 : tie.Need-add-t20
-add-t20 c = omega (arith, c .before .before .before .before .before .before .before .before .before .before .before .pre .0, c .before .before .before .before .before .before .before .before .before .before .before .pre .1, c .before .before .before .before .before .before .before .before .before .before .before .pre .2)
+-- earlier places of the function, by name
+abbrev entry′ : tie.Else1 → tie.Start
+entry′ c = c .before .before .before .before .before .before .before .before .before .before .before
+
+abbrev entry-2 : tie.Then1 → tie.Start
+entry-2 c = c .before .before .before .before .before .before .before .before .before .before .before
+
+abbrev after-is-beyond : tie.After-split-range-arg7 → tie.After-is-beyond
+after-is-beyond c = c .before .before .before .before .before .before .before .before .before .before
+
+abbrev after-is-beyond-2 : tie.After-move-range-arg7 → tie.After-is-beyond
+after-is-beyond-2 c = c .before .before .before .before .before .before .before .before .before .before
+
+abbrev entry-3 : tie.After-slice-known15 → tie.Start
+entry-3 c = entry′ (c .before .before .before .before .before .before .before .before .before .before .before .before .before .before .before .before .before .before .before .before .before .before .before .before)
+
+abbrev after-split-range : tie.After-struct-known → tie.After-split-range
+after-split-range c = c .before .before .before .before .before .before .before .before .before .before .before .before .before .before .before
+
+abbrev after-move-range : tie.After-struct-known2 → tie.After-move-range
+after-move-range c = c .before .before .before .before .before .before .before .before .before .before .before .before .before .before .before
+
+abbrev then2 : tie.After-struct-known → tie.Then2
+then2 c = after-split-range c .before .before .before .before .before .before .before .before
+
+abbrev else2 : tie.After-struct-known2 → tie.Else2
+else2 c = after-move-range c .before .before .before .before .before .before .before .before
+
+abbrev after-is-beyond-3 : tie.After-struct-known2 → tie.After-is-beyond
+after-is-beyond-3 c = else2 c .before .before .before
+
+abbrev after-is-beyond-4 : tie.After-struct-known → tie.After-is-beyond
+after-is-beyond-4 c = then2 c .before .before .before
+
+abbrev entry-4 : tie.After-struct-known2 → tie.Start
+entry-4 c = after-is-beyond-3 c .before .before .before .before .before .before .before .before .before .before
 
 returns : tie.Need-returns
 returns c =
-    let z = c .before .before .before .before .before .before .before .before .before .before .before in
+    let z = entry-2 c in
     step-stay (c .before .is-beyond .result) (isBeyond (z .args .j) (z .args .k) (at (z .args .node .now) (z .args .s .at)) (at (z .args .end .now) (z .args .s .at))) (c .before .is-beyond .ensures) (z .args .s) (z .args .k) (z .args .m) (at (z .args .start .now) (z .args .s .at)) (orig z) (orig z) (c .if1 .taken)
-
-mul-if2 : tie.Need-mul-if2
-mul-if2 c = omega (arith, c .before .before .before .before .before .before .before .before .before .before .before .pre .0, c .before .before .before .before .before .before .before .before .before .before .before .pre .1, c .before .before .before .before .before .before .before .before .before .before .before .pre .2, c .before .before .before .before .before .before .before .before .before .before .before .pre .5 .start)
-
-slice-read-if2 : tie.Need-slice-read-if2
-slice-read-if2 c = omega (arith, c .before .before .before .before .before .before .before .before .before .before .before .before .pre .0, c .before .before .before .before .before .before .before .before .before .before .before .before .pre .1, c .before .before .before .before .before .before .before .before .before .before .before .before .pre .2, c .before .before .before .before .before .before .before .before .before .before .before .before .pre .5 .start)
 
 split-range-requires : tie.Need-split-range-requires
 split-range-requires c κs =
-    let z = c .before .before .before .before .before .before .before .before .before .before .before .before .before .before .before .before .before .before .before .before in
+    let z = entry′ (c .before .before .before .before .before .before .before .before .before) in
     let p = z .pre in
     let n = (at (z .args .node .now) (z .args .s .at)) in
     let s = (at (z .args .start .now) (z .args .s .at)) in
     let e = (at (z .args .end .now) (z .args .s .at)) in
-    (under (p .0) (p .1), p .3 (is-across (z .args .j) (z .args .k) n s e (c .before .before .before .before .before .before .before .before .before .before .is-beyond .result) (c .before .before .before .before .before .before .before .before .before .before .is-beyond .ensures) (c .before .before .before .before .before .before .before .before .before .if1 .left) (c .before .before .before .before .before .before .before .if2 .taken)), end-after (z .args .j) (z .args .k) n s e (c .before .before .before .before .before .before .before .before .before .before .is-beyond .result) (c .before .before .before .before .before .before .before .before .before .before .is-beyond .ensures) (c .before .before .before .before .before .before .before .before .before .if1 .left), p .5)
-
-add-t39 : tie.Need-add-t39
-add-t39 c = omega (arith, c .before .before .before .before .before .before .before .before .before .before .before .before .before .before .before .before .before .before .before .before .before .before .before .before .before .before .before .before .before .before .before .before .before .before .before .pre .0, c .before .before .before .before .before .before .before .before .before .before .before .before .before .before .before .before .before .before .before .before .before .before .before .before .before .before .before .before .before .before .before .before .before .before .before .pre .1, c .before .before .before .before .before .before .before .before .before .before .before .before .before .before .before .before .before .before .before .before .before .before .before .before .before .before .before .before .before .before .before .before .before .before .before .pre .2)
-
-add-t40 : tie.Need-add-t40
-add-t40 c = omega (arith, c .before .before .before .before .before .before .before .before .before .before .before .before .before .before .before .before .before .before .before .before .before .before .before .before .before .before .before .before .before .before .before .before .before .before .before .pre .2)
-
-add-t41 : tie.Need-add-t41
-add-t41 c = omega (arith, c .before .before .before .before .before .before .before .before .before .before .before .before .before .before .before .before .before .before .before .before .before .before .before .before .before .before .before .before .before .before .before .before .before .before .before .before .pre .4)
-
-same-length-3 : tie.Need-same-length-3
-same-length-3 c = c .before .before .before .before .before .before .before .before .before .before .before .before .before .before .before .split-range .kept .0
-
-same-length-4 : tie.Need-same-length-4
-same-length-4 c = c .before .before .before .before .before .before .before .before .before .before .before .before .before .before .before .split-range .kept .1 .0
-
-same-length-5 : tie.Need-same-length-5
-same-length-5 c = c .before .before .before .before .before .before .before .before .before .before .before .before .before .before .before .split-range .kept .1 .1 .0
-
-same-length-6 : tie.Need-same-length-6
-same-length-6 c = c .before .before .before .before .before .before .before .before .before .before .before .before .before .before .before .split-range .kept .1 .1 .1 .0
-
-same-length-7 : tie.Need-same-length-7
-same-length-7 c = c .before .before .before .before .before .before .before .before .before .before .before .before .before .before .before .split-range .kept .1 .1 .1 .1 .0
-
-same-length-8 : tie.Need-same-length-8
-same-length-8 c = c .before .before .before .before .before .before .before .before .before .before .before .before .before .before .before .split-range .kept .1 .1 .1 .1 .1 .0
-
-same-length-9 : tie.Need-same-length-9
-same-length-9 c = c .before .before .before .before .before .before .before .before .before .before .before .before .before .before .before .split-range .kept .1 .1 .1 .1 .1 .1 .0
+    (under (p .0) (p .1), p .3 (is-across (z .args .j) (z .args .k) n s e (after-is-beyond c .is-beyond .result) (after-is-beyond c .is-beyond .ensures) (c .before .before .before .before .before .before .before .before .before .if1 .left) (c .before .before .before .before .before .before .before .if2 .taken)), end-after (z .args .j) (z .args .k) n s e (after-is-beyond c .is-beyond .result) (after-is-beyond c .is-beyond .ensures) (c .before .before .before .before .before .before .before .before .before .if1 .left), p .5)
 
 returns-2 : tie.Need-returns-2
 returns-2 c =
-    let z = c .before .before .before .before .before .before .before .before .before .before .before .before .before .before .before .before .before .before .before .before .before .before .before .before .before .before .before .before .before .before .before .before .before .before .before .before in
-    step-split (c .before .before .before .before .before .before .before .before .before .before .before .before .before .before .before .before .before .before .before .before .before .before .before .before .before .before .is-beyond .result) (isBeyond (z .args .j) (z .args .k) (at (z .args .node .now) (z .args .s .at)) (at (z .args .end .now) (z .args .s .at))) (c .before .before .before .before .before .before .before .before .before .before .before .before .before .before .before .before .before .before .before .before .before .before .before .before .before .before .is-beyond .ensures) (z .args .s) (z .args .k) (z .args .m) (at (z .args .start .now) (z .args .s .at)) (orig z) _ (c .before .before .before .before .before .before .before .before .before .before .before .before .before .before .before .before .before .before .before .before .before .before .before .before .before .if1 .left) (c .before .before .before .before .before .before .before .before .before .before .before .before .before .before .before .before .before .before .before .before .before .before .before .if2 .taken) (c .before .before .before .before .before .before .before .before .before .before .before .before .before .before .before .split-range .ensures)
+    let z = entry-3 (c .before) in
+    step-split (after-is-beyond-4 c .is-beyond .result) (isBeyond (z .args .j) (z .args .k) (at (z .args .node .now) (z .args .s .at)) (at (z .args .end .now) (z .args .s .at))) (after-is-beyond-4 c .is-beyond .ensures) (z .args .s) (z .args .k) (z .args .m) (at (z .args .start .now) (z .args .s .at)) (orig z) _ (then2 c .before .before .if1 .left) (then2 c .if2 .taken) (after-split-range c .split-range .ensures)
 
 move-range-requires : tie.Need-move-range-requires
 move-range-requires c κs =
-    let z = c .before .before .before .before .before .before .before .before .before .before .before .before .before .before .before .before .before .before .before .before in
+    let z = entry′ (c .before .before .before .before .before .before .before .before .before) in
     let p = z .pre in
-    (under (p .0) (p .1), p .2, c .before .before .before .before .before .before .before .if2 .left, end-after (z .args .j) (z .args .k) (at (z .args .node .now) (z .args .s .at)) (at (z .args .start .now) (z .args .s .at)) (at (z .args .end .now) (z .args .s .at)) (c .before .before .before .before .before .before .before .before .before .before .is-beyond .result) (c .before .before .before .before .before .before .before .before .before .before .is-beyond .ensures) (c .before .before .before .before .before .before .before .before .before .if1 .left), p .5)
-
-sub-t21 : tie.Need-sub-t21
-sub-t21 c = omega (arith, c .before .before .before .before .before .before .before .before .before .before .before .before .before .before .before .before .before .before .before .before .before .before .before .before .before .before .before .before .before .before .before .before .before .before .before .before .pre .0)
-
-same-length-10 : tie.Need-same-length-10
-same-length-10 c = c .before .before .before .before .before .before .before .before .before .before .before .before .before .before .before .move-range .kept .0
-
-same-length-11 : tie.Need-same-length-11
-same-length-11 c = c .before .before .before .before .before .before .before .before .before .before .before .before .before .before .before .move-range .kept .1 .0
-
-same-length-12 : tie.Need-same-length-12
-same-length-12 c = c .before .before .before .before .before .before .before .before .before .before .before .before .before .before .before .move-range .kept .1 .1 .0
-
-same-length-13 : tie.Need-same-length-13
-same-length-13 c = c .before .before .before .before .before .before .before .before .before .before .before .before .before .before .before .move-range .kept .1 .1 .1 .0
-
-same-length-14 : tie.Need-same-length-14
-same-length-14 c = c .before .before .before .before .before .before .before .before .before .before .before .before .before .before .before .move-range .kept .1 .1 .1 .1 .0
-
-same-length-15 : tie.Need-same-length-15
-same-length-15 c = c .before .before .before .before .before .before .before .before .before .before .before .before .before .before .before .move-range .kept .1 .1 .1 .1 .1 .0
-
-same-length-16 : tie.Need-same-length-16
-same-length-16 c = c .before .before .before .before .before .before .before .before .before .before .before .before .before .before .before .move-range .kept .1 .1 .1 .1 .1 .1 .0
+    (under (p .0) (p .1), p .2, c .before .before .before .before .before .before .before .if2 .left, end-after (z .args .j) (z .args .k) (at (z .args .node .now) (z .args .s .at)) (at (z .args .start .now) (z .args .s .at)) (at (z .args .end .now) (z .args .s .at)) (after-is-beyond-2 c .is-beyond .result) (after-is-beyond-2 c .is-beyond .ensures) (c .before .before .before .before .before .before .before .before .before .if1 .left), p .5)
 
 returns-3 : tie.Need-returns-3
 returns-3 c =
-    let z = c .before .before .before .before .before .before .before .before .before .before .before .before .before .before .before .before .before .before .before .before .before .before .before .before .before .before .before .before .before .before .before .before .before .before .before .before in
-    step-move (c .before .before .before .before .before .before .before .before .before .before .before .before .before .before .before .before .before .before .before .before .before .before .before .before .before .before .is-beyond .result) (isBeyond (z .args .j) (z .args .k) (at (z .args .node .now) (z .args .s .at)) (at (z .args .end .now) (z .args .s .at))) (c .before .before .before .before .before .before .before .before .before .before .before .before .before .before .before .before .before .before .before .before .before .before .before .before .before .before .is-beyond .ensures) (z .args .s) (z .args .k) (z .args .m) (at (z .args .start .now) (z .args .s .at)) (orig z) _ (c .before .before .before .before .before .before .before .before .before .before .before .before .before .before .before .before .before .before .before .before .before .before .before .before .before .if1 .left) (c .before .before .before .before .before .before .before .before .before .before .before .before .before .before .before .before .before .before .before .before .before .before .before .if2 .left) (c .before .before .before .before .before .before .before .before .before .before .before .before .before .before .before .move-range .ensures)
+    let z = entry-4 c in
+    step-move (after-is-beyond-3 c .is-beyond .result) (isBeyond (z .args .j) (z .args .k) (at (z .args .node .now) (z .args .s .at)) (at (z .args .end .now) (z .args .s .at))) (after-is-beyond-3 c .is-beyond .ensures) (z .args .s) (z .args .k) (z .args .m) (at (z .args .start .now) (z .args .s .at)) (orig z) _ (else2 c .before .before .if1 .left) (else2 c .if2 .left) (after-move-range c .move-range .ensures)
 
 pub cut-next-spec : {M : Type 1} → statement M
 cut-next-spec =
     tie.close
     (tie.spec
-    is-beyond-requires
-    add-t20
-    (λ c. refl)
-    (λ c. refl)
-    returns
-    mul-if2
-    slice-read-if2
-    split-range-requires
-    add-t39
-    add-t40
-    add-t41
-    same-length-3
-    same-length-4
-    same-length-5
-    same-length-6
-    same-length-7
-    same-length-8
-    same-length-9
-    returns-2
-    move-range-requires
-    sub-t21
-    same-length-10
-    same-length-11
-    same-length-12
-    same-length-13
-    same-length-14
-    same-length-15
-    same-length-16
-    returns-3)
+    is-beyond-requires (λ c. omega (arith, entry-2 c .pre .0, entry-2 c .pre .1, entry-2 c .pre .2)) (λ c. refl) (λ c. refl) returns
+    (λ c. omega (arith, entry′ c .pre .0, entry′ c .pre .1, entry′ c .pre .2, entry′ c .pre .5 .start))
+    (λ c. omega (arith, entry′ (c .before) .pre .0, entry′ (c .before) .pre .1, entry′ (c .before) .pre .2, entry′ (c .before) .pre .5 .start))
+    split-range-requires (λ c. omega (arith, entry-3 c .pre .0, entry-3 c .pre .1, entry-3 c .pre .2)) (λ c. omega (arith, entry-3 c .pre .2))
+    (λ c. omega (arith, entry-3 (c .before) .pre .4)) (λ c. after-split-range c .split-range .kept .0)
+    (λ c. after-split-range c .split-range .kept .1 .0) (λ c. after-split-range c .split-range .kept .1 .1 .0)
+    (λ c. after-split-range c .split-range .kept .1 .1 .1 .0) (λ c. after-split-range c .split-range .kept .1 .1 .1 .1 .0)
+    (λ c. after-split-range c .split-range .kept .1 .1 .1 .1 .1 .0) (λ c. after-split-range c .split-range .kept .1 .1 .1 .1 .1 .1 .0) returns-2
+    move-range-requires (λ c. omega (arith, entry-4 c .pre .0)) (λ c. after-move-range c .move-range .kept .0)
+    (λ c. after-move-range c .move-range .kept .1 .0) (λ c. after-move-range c .move-range .kept .1 .1 .0)
+    (λ c. after-move-range c .move-range .kept .1 .1 .1 .0) (λ c. after-move-range c .move-range .kept .1 .1 .1 .1 .0)
+    (λ c. after-move-range c .move-range .kept .1 .1 .1 .1 .1 .0) (λ c. after-move-range c .move-range .kept .1 .1 .1 .1 .1 .1 .0) returns-3)

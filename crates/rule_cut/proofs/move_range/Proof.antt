@@ -26,91 +26,75 @@ sub-last c = omega (arith, c .before .before .before .before .before .before .be
 mul-own : tie.Need-mul-own
 mul-own c = omega (arith, c .before .before .before .before .before .before .before .before .before .pre .0, c .before .before .before .before .before .before .before .before .before .pre .1, c .before .before .before .before .before .before .before .before .before .pre .2, c .before .before .before .before .before .before .before .before .before .pre .3, c .before .before .before .before .before .before .before .before .before .pre .4 .id)
 
-slice-read-own : tie.Need-slice-read-own
-slice-read-own c = omega (arith, c .before .before .before .before .before .before .before .before .before .before .pre .0, c .before .before .before .before .before .before .before .before .before .before .pre .1, c .before .before .before .before .before .before .before .before .before .before .pre .2, c .before .before .before .before .before .before .before .before .before .before .pre .3, c .before .before .before .before .before .before .before .before .before .before .pre .4 .id)
+-- earlier places of the function, by name
+abbrev entry : tie.After-slice-known10 → tie.Start
+entry c = c .before .before .before .before .before .before .before .before .before .before
 
-mul-used : tie.Need-mul-used
-mul-used c = omega (arith, c .before .before .before .before .before .before .before .before .before .before .pre .0, c .before .before .before .before .before .before .before .before .before .before .pre .1, c .before .before .before .before .before .before .before .before .before .before .pre .2, c .before .before .before .before .before .before .before .before .before .before .pre .3, c .before .before .before .before .before .before .before .before .before .before .pre .4 .stamp)
+abbrev entry-2 : tie.After-cut-usize-arg3 → tie.Start
+entry-2 c = entry (c .before .before .before .before .before .before .before .before .before .before .before .before)
+
+abbrev entry-3 : tie.After-cut-f64-arg → tie.Start
+entry-3 c = entry-2 (c .before .before .before .before .before .before .before .before .before .before .before .before)
+
+abbrev after-cut-u642 : tie.After-slice-known20 → tie.After-cut-u642
+after-cut-u642 c = c .before .before .before .before .before .before .before .before .before .before
+
+abbrev after-cut-u64 : tie.After-slice-known20 → tie.After-cut-u64
+after-cut-u64 c = after-cut-u642 c .before .before .before .before
+
+abbrev after-cut-usize3 : tie.After-slice-known20 → tie.After-cut-usize3
+after-cut-usize3 c = after-cut-u64 c .before .before .before .before
+
+abbrev after-cut-usize2 : tie.After-slice-known20 → tie.After-cut-usize2
+after-cut-usize2 c = after-cut-usize3 c .before .before .before .before
+
+abbrev after-cut-usize : tie.After-slice-known20 → tie.After-cut-usize
+after-cut-usize c = after-cut-usize2 c .before .before .before .before
 
 slice-read-used : tie.Need-slice-read-used
-slice-read-used c = omega (arith, c .before .before .before .before .before .before .before .before .before .before .before .pre .0, c .before .before .before .before .before .before .before .before .before .before .before .pre .1, c .before .before .before .before .before .before .before .before .before .before .before .pre .2, c .before .before .before .before .before .before .before .before .before .before .before .pre .3, c .before .before .before .before .before .before .before .before .before .before .before .pre .4 .stamp)
+slice-read-used c = omega (arith, entry (c .before) .pre .0, entry (c .before) .pre .1, entry (c .before) .pre .2, entry (c .before) .pre .3, entry (c .before) .pre .4 .stamp)
 
 mul-time : tie.Need-mul-time
-mul-time c = omega (arith, c .before .before .before .before .before .before .before .before .before .before .before .pre .0, c .before .before .before .before .before .before .before .before .before .before .before .pre .1, c .before .before .before .before .before .before .before .before .before .before .before .pre .2, c .before .before .before .before .before .before .before .before .before .before .before .pre .3, c .before .before .before .before .before .before .before .before .before .before .before .pre .4 .touched)
+mul-time c = omega (arith, entry (c .before) .pre .0, entry (c .before) .pre .1, entry (c .before) .pre .2, entry (c .before) .pre .3, entry (c .before) .pre .4 .touched)
 
 slice-read-time : tie.Need-slice-read-time
-slice-read-time c = omega (arith, c .before .before .before .before .before .before .before .before .before .before .before .before .pre .0, c .before .before .before .before .before .before .before .before .before .before .before .before .pre .1, c .before .before .before .before .before .before .before .before .before .before .before .before .pre .2, c .before .before .before .before .before .before .before .before .before .before .before .before .pre .3, c .before .before .before .before .before .before .before .before .before .before .before .before .pre .4 .touched)
+slice-read-time c = omega (arith, entry (c .before .before) .pre .0, entry (c .before .before) .pre .1, entry (c .before .before) .pre .2, entry (c .before .before) .pre .3, entry (c .before .before) .pre .4 .touched)
 
 mul-to : tie.Need-mul-to
-mul-to c = omega (arith, c .before .before .before .before .before .before .before .before .before .before .before .before .pre .0, c .before .before .before .before .before .before .before .before .before .before .before .before .pre .1, c .before .before .before .before .before .before .before .before .before .before .before .before .pre .2, c .before .before .before .before .before .before .before .before .before .before .before .before .pre .3, c .before .before .before .before .before .before .before .before .before .before .before .before .pre .4 .write)
+mul-to c = omega (arith, entry (c .before .before) .pre .0, entry (c .before .before) .pre .1, entry (c .before .before) .pre .2, entry (c .before .before) .pre .3, entry (c .before .before) .pre .4 .write)
 
 slice-read-to : tie.Need-slice-read-to
-slice-read-to c = omega (arith, c .before .before .before .before .before .before .before .before .before .before .before .before .before .pre .0, c .before .before .before .before .before .before .before .before .before .before .before .before .before .pre .1, c .before .before .before .before .before .before .before .before .before .before .before .before .before .pre .2, c .before .before .before .before .before .before .before .before .before .before .before .before .before .pre .3, c .before .before .before .before .before .before .before .before .before .before .before .before .before .pre .4 .write)
+slice-read-to c = omega (arith, entry (c .before .before .before) .pre .0, entry (c .before .before .before) .pre .1, entry (c .before .before .before) .pre .2, entry (c .before .before .before) .pre .3, entry (c .before .before .before) .pre .4 .write)
 
 cut-usize-requires : tie.Need-cut-usize-requires
-cut-usize-requires c κs = (c .before .before .before .before .before .before .before .before .before .before .before .before .before .before .pre .0, within (c .before .before .before .before .before .before .before .before .before .before .before .before .before .before .pre .1) (c .before .before .before .before .before .before .before .before .before .before .before .before .before .before .pre .4 .node))
+cut-usize-requires c κs = (entry (c .before .before .before .before) .pre .0, within (entry (c .before .before .before .before) .pre .1) (entry (c .before .before .before .before) .pre .4 .node))
 
 cut-usize-requires-2 : tie.Need-cut-usize-requires-2
-cut-usize-requires-2 c κs = (c .before .before .before .before .before .before .before .before .before .before .before .before .before .before .before .before .before .before .pre .0, within (c .before .before .before .before .before .before .before .before .before .before .before .before .before .before .before .before .before .before .pre .1) (c .before .before .before .before .before .before .before .before .before .before .before .before .before .before .before .before .before .before .pre .4 .start))
-
-cut-usize-requires-3 : tie.Need-cut-usize-requires-3
-cut-usize-requires-3 c κs = (c .before .before .before .before .before .before .before .before .before .before .before .before .before .before .before .before .before .before .before .before .before .before .pre .0, within (c .before .before .before .before .before .before .before .before .before .before .before .before .before .before .before .before .before .before .before .before .before .before .pre .1) (c .before .before .before .before .before .before .before .before .before .before .before .before .before .before .before .before .before .before .before .before .before .before .pre .4 .end))
+cut-usize-requires-2 c κs = (entry (c .before .before .before .before .before .before .before .before) .pre .0, within (entry (c .before .before .before .before .before .before .before .before) .pre .1) (entry (c .before .before .before .before .before .before .before .before) .pre .4 .start))
 
 cut-u64-requires : tie.Need-cut-u64-requires
-cut-u64-requires c κs = (c .before .before .before .before .before .before .before .before .before .before .before .before .before .before .before .before .before .before .before .before .before .before .before .before .before .before .pre .0, within (c .before .before .before .before .before .before .before .before .before .before .before .before .before .before .before .before .before .before .before .before .before .before .before .before .before .before .pre .1) (c .before .before .before .before .before .before .before .before .before .before .before .before .before .before .before .before .before .before .before .before .before .before .before .before .before .before .pre .4 .id))
+cut-u64-requires c κs = (entry-2 (c .before .before .before .before) .pre .0, within (entry-2 (c .before .before .before .before) .pre .1) (entry-2 (c .before .before .before .before) .pre .4 .id))
 
 cut-u64-requires-2 : tie.Need-cut-u64-requires-2
-cut-u64-requires-2 c κs = (c .before .before .before .before .before .before .before .before .before .before .before .before .before .before .before .before .before .before .before .before .before .before .before .before .before .before .before .before .before .before .pre .0, within (c .before .before .before .before .before .before .before .before .before .before .before .before .before .before .before .before .before .before .before .before .before .before .before .before .before .before .before .before .before .before .pre .1) (c .before .before .before .before .before .before .before .before .before .before .before .before .before .before .before .before .before .before .before .before .before .before .before .before .before .before .before .before .before .before .pre .4 .stamp))
-
-cut-f64-requires : tie.Need-cut-f64-requires
-cut-f64-requires c κs = (c .before .before .before .before .before .before .before .before .before .before .before .before .before .before .before .before .before .before .before .before .before .before .before .before .before .before .before .before .before .before .before .before .before .before .pre .0, within (c .before .before .before .before .before .before .before .before .before .before .before .before .before .before .before .before .before .before .before .before .before .before .before .before .before .before .before .before .before .before .before .before .before .before .pre .1) (c .before .before .before .before .before .before .before .before .before .before .before .before .before .before .before .before .before .before .before .before .before .before .before .before .before .before .before .before .before .before .before .before .before .before .pre .4 .touched))
+cut-u64-requires-2 c κs = (entry-2 (c .before .before .before .before .before .before .before .before) .pre .0, within (entry-2 (c .before .before .before .before .before .before .before .before) .pre .1) (entry-2 (c .before .before .before .before .before .before .before .before) .pre .4 .stamp))
 
 cut-u32-requires : tie.Need-cut-u32-requires
-cut-u32-requires c κs = (c .before .before .before .before .before .before .before .before .before .before .before .before .before .before .before .before .before .before .before .before .before .before .before .before .before .before .before .before .before .before .before .before .before .before .before .before .before .before .pre .0, within (c .before .before .before .before .before .before .before .before .before .before .before .before .before .before .before .before .before .before .before .before .before .before .before .before .before .before .before .before .before .before .before .before .before .before .before .before .before .before .pre .1) (c .before .before .before .before .before .before .before .before .before .before .before .before .before .before .before .before .before .before .before .before .before .before .before .before .before .before .before .before .before .before .before .before .before .before .before .before .before .before .pre .4 .write))
-
-same-length : tie.Need-same-length
-same-length c = c .before .before .before .before .before .before .before .before .before .before .before .before .before .before .before .before .before .before .before .before .before .before .before .before .before .before .cut-usize .kept .0
-
-same-length-2 : tie.Need-same-length-2
-same-length-2 c = c .before .before .before .before .before .before .before .before .before .before .before .before .before .before .before .before .before .before .before .before .before .before .cut-usize2 .kept .0
-
-same-length-3 : tie.Need-same-length-3
-same-length-3 c = c .before .before .before .before .before .before .before .before .before .before .before .before .before .before .before .before .before .before .cut-usize3 .kept .0
+cut-u32-requires c κs = (entry-3 (c .before .before .before .before) .pre .0, within (entry-3 (c .before .before .before .before) .pre .1) (entry-3 (c .before .before .before .before) .pre .4 .write))
 
 returns : tie.Need-returns
 unfolding moveRange
-returns c = ranges-eq (c .before .before .before .before .before .before .before .before .before .before .before .before .before .before .before .before .before .before .before .before .before .before .before .before .before .before .cut-usize .ensures) (c .before .before .before .before .before .before .before .before .before .before .before .before .before .before .before .before .before .before .before .before .before .before .cut-usize2 .ensures) (c .before .before .before .before .before .before .before .before .before .before .before .before .before .before .before .before .before .before .cut-usize3 .ensures) (c .before .before .before .before .before .before .before .before .before .before .before .before .before .before .cut-u64 .ensures) (c .before .before .before .before .before .before .before .before .before .before .cut-u642 .ensures) (c .before .before .before .before .before .before .cut-f64 .ensures) (c .before .before .cut-u32 .ensures)
+returns c = ranges-eq (after-cut-usize c .cut-usize .ensures) (after-cut-usize2 c .cut-usize2 .ensures) (after-cut-usize3 c .cut-usize3 .ensures) (after-cut-u64 c .cut-u64 .ensures) (after-cut-u642 c .cut-u642 .ensures) (c .before .before .before .before .before .before .cut-f64 .ensures) (c .before .before .cut-u32 .ensures)
 
 pub move-range-spec : {M : Type 1} → statement M
 move-range-spec =
     tie.close
     (tie.spec
-    mul-first
-    slice-read-first
-    sub-first
-    mul-last
-    slice-read-last
-    sub-last
-    mul-own
-    slice-read-own
-    mul-used
-    slice-read-used
-    mul-time
-    slice-read-time
-    mul-to
-    slice-read-to
-    cut-usize-requires
-    cut-usize-requires-2
-    cut-usize-requires-3
-    cut-u64-requires
-    cut-u64-requires-2
-    cut-f64-requires
-    cut-u32-requires
-    same-length
-    same-length-2
-    same-length-3
-    (λ c. c .before .before .before .before .before .before .before .before .before .before .before .before .before .before .cut-u64 .kept .0)
-    (λ c. c .before .before .before .before .before .before .before .before .before .before .cut-u642 .kept .0)
-    (λ c. c .before .before .before .before .before .before .cut-f64 .kept .0)
-    (λ c. c .before .before .cut-u32 .kept .0)
-    returns)
+    mul-first slice-read-first sub-first mul-last slice-read-last sub-last mul-own
+    (λ c. omega (arith, entry c .pre .0, entry c .pre .1, entry c .pre .2, entry c .pre .3, entry c .pre .4 .id))
+    (λ c. omega (arith, entry c .pre .0, entry c .pre .1, entry c .pre .2, entry c .pre .3, entry c .pre .4 .stamp)) slice-read-used mul-time
+    slice-read-time mul-to slice-read-to cut-usize-requires cut-usize-requires-2
+    (λ c κs. (entry-2 c .pre .0, within (entry-2 c .pre .1) (entry-2 c .pre .4 .end))) cut-u64-requires cut-u64-requires-2
+    (λ c κs. (entry-3 c .pre .0, within (entry-3 c .pre .1) (entry-3 c .pre .4 .touched))) cut-u32-requires
+    (λ c. after-cut-usize c .cut-usize .kept .0) (λ c. after-cut-usize2 c .cut-usize2 .kept .0) (λ c. after-cut-usize3 c .cut-usize3 .kept .0)
+    (λ c. after-cut-u64 c .cut-u64 .kept .0) (λ c. after-cut-u642 c .cut-u642 .kept .0)
+    (λ c. c .before .before .before .before .before .before .cut-f64 .kept .0) (λ c. c .before .before .cut-u32 .kept .0) returns)

@@ -57,9 +57,7 @@ split-range-spec =
     (λ c. omega (arith, c .before .pre .0, c .before .pre .1, c .before .pre .2, c .before .pre .3 .start))
     (λ c. omega (arith, c .before .pre .0, c .before .pre .1, c .before .pre .2, c .before .pre .3 .end))
     (λ c. omega (arith, c .before .pre .0, c .before .pre .1, c .before .pre .2, c .before .pre .3 .end))
-    (λ c. omega (arith, c .before .pre .0, c .before .pre .1, c .before .pre .2, c .before .pre .3 .end))
-    mul-end-2
-    slice-write-end-2
+    (λ c. omega (arith, c .before .pre .0, c .before .pre .1, c .before .pre .2, c .before .pre .3 .end)) mul-end-2 slice-write-end-2
     (λ c. omega (arith, c .before .pre .0, c .before .pre .1, c .before .pre .2, c .before .pre .3 .id))
     (λ c. omega (arith, c .before .pre .0, c .before .pre .1, c .before .pre .2, c .before .pre .3 .id))
     (λ c. omega (arith, c .before .pre .0, c .before .pre .1, c .before .pre .2, c .before .pre .3 .stamp))
@@ -67,18 +65,10 @@ split-range-spec =
     (λ c. omega (arith, c .before .before .pre .0, c .before .before .pre .1, c .before .before .pre .2, c .before .before .pre .3 .stamp))
     (λ c. omega (arith, c .before .before .pre .0, c .before .before .pre .1, c .before .before .pre .2, c .before .before .pre .3 .stamp))
     (λ c. omega (arith, c .before .before .pre .0, c .before .before .pre .1, c .before .before .pre .2, c .before .before .pre .3 .touched))
-    slice-read-touched
-    mul-touched-2
-    slice-write-touched
-    mul-write
-    slice-read-write
-    mul-write-2
-    slice-write-write
+    slice-read-touched mul-touched-2 slice-write-touched mul-write slice-read-write mul-write-2 slice-write-write
     (λ c. let a = c .before .before .before .before .args in length-set (a .node .now) (a .n) (a .m))
-    (λ c. let a = c .before .before .before .before .args in length-set (a .start .now) (a .n) (0))
-    same-length-3
+    (λ c. let a = c .before .before .before .before .args in length-set (a .start .now) (a .n) (0)) same-length-3
     (λ c. let a = c .before .before .before .before .args in length-set (a .id .now) (a .n) (a .new))
     (λ c. let a = c .before .before .before .before .args in length-set (a .stamp .now) (a .n) (at (a .stamp .now) (a .p)))
     (λ c. let a = c .before .before .before .before .args in length-set (a .touched .now) (a .n) (getD (a .touched .now) (a .p) nan))
-    (λ c. let a = c .before .before .before .before .args in length-set (a .write .now) (a .n) (at (a .write .now) (a .p)))
-    returns)
+    (λ c. let a = c .before .before .before .before .args in length-set (a .write .now) (a .n) (at (a .write .now) (a .p))) returns)

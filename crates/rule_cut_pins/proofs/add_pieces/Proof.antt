@@ -44,10 +44,4 @@ pub add-pieces-spec : {M : Type 1} → statement M
 add-pieces-spec =
     tie.close
     (tie.spec
-    add-pin-requires
-    returns
-    (λ c κs. search needs)
-    add-if-requires
-    (λ c κs. search needs)
-    add-if-requires-2
-    returns-2)
+    add-pin-requires returns (λ c κs. search needs) add-if-requires (λ c κs. search needs) add-if-requires-2 returns-2)

@@ -1,74 +1,47 @@
--- `rule_cut_pins::add_pin` meets its contract: at the place that was found the entry is added up or put in. Assumes nothing.
-use mathlib.Core.Path.{_≡_, sym, ap, _∙_}
-use mathlib.Core.Bool.{false}
-use native.Mathlib.Omega.{arith}
-use Prim.Native.Nat.{_<_}
-use Rattle.model.specs.State.{pinAt}
-use Rattle.model.specs.Pins.{sameSpan}
-use Rattle.rule_cut_pins.specs.Entries.{pinFrom, columnsOf}
-use Rattle.rule_cut_pins.proofs.Fewer.{at-most, entered, room, joined, sum-fits, none-there}
+-- `rule_cut_pins::add_pin` meets its contract: the entry is added in the columns, and the list is read back from them. Assumes nothing.
+use Rattle.model.specs.declared.Span.{Span}
+use Rattle.shape_state.specs.Lent.{pinsOf}
+use Rattle.rule_cut_pins.specs.Entries.{PinsSized, columnsOf}
+use Rattle.rule_cut_pins.proofs.Fewer.{from-front, to-place, room, sum-fits, read-back}
+use borrow.Author.Needs.{needs}
 use Rattle.rule_cut_pins.proofs.add_pin.Statement.{statement}
 use Rattle.rule_cut_pins.proofs.add_pin.Tie as tie
 
-put-entry-requires : tie.Need-put-entry-requires
-put-entry-requires c κs =
-    let z = c .before .before in
-    let l = z .args .l in (
-      at-most (columnsOf l) (l .n) _ (pinFrom (z .args .p)) (c .before .place-of .ensures),
-      room (columnsOf l) (l .n) _ (pinFrom (z .args .p)) (c .before .place-of .ensures) (none-there (c .if1 .taken)) (z .pre .1),
+full : (z : tie.Start) → PinsSized 32 (columnsOf (z .args .l))
+full z = record { node = search needs; start = search needs; end = search needs; count = search needs }
+
+abbrev span : tie.Start → Span
+span z = record { node = z .args .p .node; start = z .args .p .start; end = z .args .p .end }
+
+place-of-requires : tie.Need-place-of-requires
+place-of-requires c κs = to-place (columnsOf (c .before .before .before .before .before .before .before .args .l)) (c .before .before .before .before .before .before .before .pre .0) (full (c .before .before .before .before .before .before .before))
+
+-- earlier places of the function, by name
+abbrev entry′ : tie.After-count2 → tie.Start
+entry′ c = c .before .before .before .before .before .before .before .before .before .before .before .before
+
+add-pin-requires : tie.Need-add-pin-requires
+add-pin-requires c κs =
+    let z = entry′ c in
+    let l = z .args .l in
+    let r = c .before .before .before .before .place-of .result in
+    let place = c .before .before .before .before .place-of .ensures in (
+      room (columnsOf l) (l .n) (span z) (z .args .p .count) r place (z .pre .1),
+      place,
+      sum-fits (columnsOf l) (l .n) (span z) (z .args .p .count) r place (z .pre .1),
+      from-front (columnsOf l) (full z),
     )
 
 returns : tie.Need-returns
 returns c =
-    let z = c .before .before .before in
+    let z = entry′ (c .before .before .before .before .before) in
     let l = z .args .l in
-    c .put-entry .ensures ∙ entered (columnsOf l) (l .n) _ (pinFrom (z .args .p)) (c .before .before .place-of .ensures) (none-there (c .before .if1 .taken))
-
-add-recount : tie.Need-add-recount
-add-recount c =
-    let z = c .before .before .before .before .before .before .before in
-    let l = z .args .l in
-    sum-fits (columnsOf l) (l .n) _ (pinFrom (z .args .p)) (c .before .before .before .before .before .before .place-of .ensures) (pinFrom (c .before .before .before .before .entry-at .result)) (c .before .before .before .before .before .if1 .left) (c .before .before .before .before .entry-at .ensures) (z .pre .1)
-
-returns-2 : tie.Need-returns-2
-returns-2 c =
-    let z = c .before .before .before .before .before .before .before .before in
-    let l = z .args .l in
-    c .recount .ensures
-    ∙ joined (columnsOf l) (l .n) _ (pinFrom (z .args .p)) (c .before .before .before .before .before .before .before .place-of .ensures) (pinFrom (c .before .before .before .before .before .entry-at .result)) (c .before .before .before .before .before .before .if1 .left) (c .before .before .before .before .before .entry-at .ensures) (sym (c .before .before .before .before .same-span .ensures) ∙ c .before .before .before .if2 .taken)
-
--- no entry of its span stands at the place
-other : (c : tie.Else2) → c .before .before .before .before .place-of .result < c .before .before .before .before .before .args .l .n → sameSpan (pinFrom (c .before .before .before .before .before .args .p)) (pinAt (columnsOf (c .before .before .before .before .before .args .l)) (c .before .before .before .before .place-of .result)) ≡ false
-other c h =
-    ap (sameSpan (pinFrom (c .before .before .before .before .before .args .p))) (sym (c .before .before .entry-at .ensures))
-    ∙ sym (c .before .same-span .ensures)
-    ∙ c .if2 .left
-
-put-entry-requires-2 : tie.Need-put-entry-requires-2
-put-entry-requires-2 c κs =
-    let z = c .before .before .before .before .before in
-    let l = z .args .l in (
-      at-most (columnsOf l) (l .n) _ (pinFrom (z .args .p)) (c .before .before .before .before .place-of .ensures),
-      room (columnsOf l) (l .n) _ (pinFrom (z .args .p)) (c .before .before .before .before .place-of .ensures) (other c) (z .pre .1),
-    )
-
-returns-3 : tie.Need-returns-3
-returns-3 c =
-    let z = c .before .before .before .before .before .before in
-    let l = z .args .l in
-    c .put-entry2 .ensures ∙ entered (columnsOf l) (l .n) _ (pinFrom (z .args .p)) (c .before .before .before .before .before .place-of .ensures) (other (c .before))
+    read-back (columnsOf l) (l .n) (span z) (z .args .p .count) (c .before .before .before .before .before .before .before .before .before .place-of .result) (c .before .before .before .before .before .before .before .before .before .place-of .ensures) (z .pre .1) (full z)
+    (pinsOf (c .before .before .before .before .add-pin .last .0) (c .before .before .before .before .add-pin .last .1 .0) (c .before .before .before .before .add-pin .last .1 .1 .0) (c .before .before .before .before .add-pin .last .1 .1 .1 .0)) (c .before .before .before .before .add-pin .result) (c .before .before .before .before .add-pin .ensures)
 
 pub add-pin-spec : {M : Type 1} → statement M
 add-pin-spec =
     tie.close
     (tie.spec
-    (λ c κs. c .pre .0)
-    put-entry-requires
-    returns
-    (λ c κs. omega arith)
-    (λ c κs. tt)
-    add-recount
-    (λ c κs. (c .before .before .before .before .before .if1 .left, c .before .before .before .before .before .before .before .pre .0))
-    returns-2
-    put-entry-requires-2
-    returns-3)
+    (λ c. search needs) (λ c. search needs) (λ c. search needs) place-of-requires (λ c. search needs) (λ c. search needs) (λ c. search needs)
+    (λ c. search needs) add-pin-requires returns)

@@ -15,12 +15,8 @@ pub all-stay-spec : {M : Type 1} → statement M
 all-stay-spec =
     tie.close
     (tie.spec
-    Inv-loop
-    μ-loop
-    (λ c. stay-start)
-    (λ c κs. let p = c .before .before .before .before .before .pre in (c .loop-test .taken, p .0, p .1, p .2))
+    Inv-loop μ-loop (λ c. stay-start) (λ c κs. let p = c .before .before .before .before .before .pre in (c .loop-test .taken, p .0, p .1, p .2))
     (λ c. stay-not (c .before .before .before .loop .inv) (c .before .before .loop-test .taken) (c .before .stays .ensures) (c .if1 .taken))
-    (λ c. omega arith)
-    (λ c. omega arith)
+    (λ c. omega arith) (λ c. omega arith)
     (λ c. stay-turn (c .before .before .before .loop .inv) (c .before .before .loop-test .taken) (c .before .stays .ensures) (c .if1 .left))
     (λ c. stay-end (c .before .loop .inv) (c .loop-test .left)))

@@ -13,17 +13,21 @@ Inv-loop node start end count n j k m l₀ i₀ l i = Cutting j k m (pinsOf node
 abbrev μ-loop : tie.MeasureT-loop
 μ-loop node start end count n j k m l₀ i₀ l i = i
 
+-- earlier places of the function, by name
+abbrev entry : tie.After-shared-slice-known8 Inv-loop μ-loop → tie.Start Inv-loop μ-loop
+entry c = c .before .before .before .before .before .before .before .before .before .before
+
 add-pieces-requires : tie.Need-add-pieces-requires Inv-loop μ-loop
 add-pieces-requires c κs =
-    let a = c .before .before .before .before .before .before .before .before .before .before .args in (
-      held (a .j) (a .k) (a .m) (pinsOf (a .node .now) (a .start .now) (a .end .now) (a .count .now)) (a .n) (c .before .before .before .before .before .before .before .before .before .before .pre .4) (c .before .before .before .before .before .loop .l) (c .before .before .before .before .before .loop .i) (c .before .before .before .before .before .loop .inv),
-      pieces-small (a .j) (a .k) (a .m) (pinsOf (a .node .now) (a .start .now) (a .end .now) (a .count .now)) (a .n) (c .before .before .before .before .before .before .before .before .before .before .pre .4) (c .before .before .before .before .before .loop .l) (c .before .before .before .before .before .loop .i) (c .before .before .before .before .before .loop .inv) (c .before .before .before .before .loop-test .taken) _ refl,
+    let a = entry c .args in (
+      held (a .j) (a .k) (a .m) (pinsOf (a .node .now) (a .start .now) (a .end .now) (a .count .now)) (a .n) (entry c .pre .4) (c .before .before .before .before .before .loop .l) (c .before .before .before .before .before .loop .i) (c .before .before .before .before .before .loop .inv),
+      pieces-small (a .j) (a .k) (a .m) (pinsOf (a .node .now) (a .start .now) (a .end .now) (a .count .now)) (a .n) (entry c .pre .4) (c .before .before .before .before .before .loop .l) (c .before .before .before .before .before .loop .i) (c .before .before .before .before .before .loop .inv) (c .before .before .before .before .loop-test .taken) _ refl,
     )
 
 loop-again : tie.Need-loop-again Inv-loop μ-loop
 loop-again c =
-    let a = c .before .before .before .before .before .before .before .before .before .before .before .args in
-    cut-turn (a .j) (a .k) (a .m) (pinsOf (a .node .now) (a .start .now) (a .end .now) (a .count .now)) (a .n) (c .before .before .before .before .before .before .before .before .before .before .before .pre .4) (c .before .before .before .before .before .before .loop .l) (c .before .before .before .before .before .before .loop .i) (c .before .before .before .before .before .before .loop .inv) (c .before .before .before .before .before .loop-test .taken) _ refl (pinsIn (c .add-pieces .result)) (c .add-pieces .ensures)
+    let a = entry (c .before) .args in
+    cut-turn (a .j) (a .k) (a .m) (pinsOf (a .node .now) (a .start .now) (a .end .now) (a .count .now)) (a .n) (entry (c .before) .pre .4) (c .before .before .before .before .before .before .loop .l) (c .before .before .before .before .before .before .loop .i) (c .before .before .before .before .before .before .loop .inv) (c .before .before .before .before .before .loop-test .taken) _ refl (pinsIn (c .add-pieces .result)) (c .add-pieces .ensures)
 
 returns : tie.Need-returns Inv-loop μ-loop
 returns c =
@@ -34,19 +38,5 @@ pub cut-list-spec : {M : Type 1} → statement M
 cut-list-spec =
     tie.close
     (tie.spec
-    Inv-loop
-    μ-loop
-    (λ c. cut-start _)
-    (λ c. omega arith)
-    (λ c. omega arith)
-    (λ c. omega arith)
-    (λ c. omega arith)
-    (λ c. omega arith)
-    (λ c. omega arith)
-    (λ c. omega arith)
-    (λ c. omega arith)
-    (λ c. omega arith)
-    add-pieces-requires
-    (λ c. omega arith)
-    loop-again
-    returns)
+    Inv-loop μ-loop (λ c. cut-start _) (λ c. omega arith) (λ c. omega arith) (λ c. omega arith) (λ c. omega arith) (λ c. omega arith)
+    (λ c. omega arith) (λ c. omega arith) (λ c. omega arith) (λ c. omega arith) add-pieces-requires (λ c. omega arith) loop-again returns)

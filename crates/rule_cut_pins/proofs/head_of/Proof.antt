@@ -4,11 +4,7 @@ use Rattle.rule_cut_pins.proofs.Fewer.{head-same, head-cut}
 use Rattle.rule_cut_pins.proofs.head_of.Statement.{statement}
 use Rattle.rule_cut_pins.proofs.head_of.Tie as tie
 
-returns : tie.Need-returns
-returns c = head-same (c .before .before .args .k) (pinFrom (c .before .before .args .p)) (c .if1 .taken)
-
-returns-2 : tie.Need-returns-2
-returns-2 c = head-cut (c .before .before .args .k) (pinFrom (c .before .before .args .p)) (c .if1 .left)
-
 pub head-of-spec : {M : Type 1} → statement M
-head-of-spec = tie.close (tie.spec returns returns-2)
+head-of-spec = tie.close (tie.spec
+    (λ c. head-same (c .before .before .args .k) (pinFrom (c .before .before .args .p)) (c .if1 .taken))
+    (λ c. head-cut (c .before .before .args .k) (pinFrom (c .before .before .args .p)) (c .if1 .left)))

@@ -28,17 +28,5 @@ pub lay-u64-spec : {M : Type 1} → statement M
 lay-u64-spec =
     tie.close
     (tie.spec
-    Inv-loop
-    μ-loop
-    (λ c. copy-start (omega arith))
-    (λ c. omega arith)
-    (λ c. omega arith)
-    (λ c. omega arith)
-    (λ c. omega arith)
-    (λ c. omega arith)
-    (λ c. omega arith)
-    (λ c. omega arith)
-    (λ c. omega arith)
-    loop-again
-    (λ c. c .before .loop .inv .long)
-    returns)
+    Inv-loop μ-loop (λ c. copy-start (omega arith)) (λ c. omega arith) (λ c. omega arith) (λ c. omega arith) (λ c. omega arith) (λ c. omega arith)
+    (λ c. omega arith) (λ c. omega arith) (λ c. omega arith) loop-again (λ c. c .before .loop .inv .long) returns)

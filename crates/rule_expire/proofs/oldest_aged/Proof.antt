@@ -24,26 +24,26 @@ shared-slice-read-is-aged c =
     let h = place-less (a .time) (a .seconds) (rangesOf [] [] [] (a .id .now) (a .stamp .now) (a .touched .now) []) _ (c .before .before .before .before .oldest .ensures [] [] [] [] (a .touched .now)) (c .before .before .i .given .1) in
     omega (arith, h)
 
+-- earlier places of the function, by name
+abbrev entry : tie.Else1 → tie.Start
+entry c = c .before .before .before .before .before .before .before .before .before .before
+
+abbrev entry-2 : tie.Then1 → tie.Start
+entry-2 c = c .before .before .before .before .before .before .before .before .before .before
+
 returns-2 : tie.Need-returns-2
 returns-2 c =
-    let a = c .before .before .before .before .before .before .before .before .before .before .args in
+    let a = entry-2 c .args in
     λ node start end write. aged-yes _ _ (rangesOf node start end (a .id .now) (a .stamp .now) (a .touched .now) write) _ (c .before .before .before .before .before .before .oldest .ensures node start end write (a .touched .now)) (c .before .before .before .before .i .given .1) (c .before .is-aged .ensures) (c .if1 .taken)
 
 returns-3 : tie.Need-returns-3
 returns-3 c =
-    let a = c .before .before .before .before .before .before .before .before .before .before .args in
+    let a = entry c .args in
     λ node start end write. aged-no _ _ (rangesOf node start end (a .id .now) (a .stamp .now) (a .touched .now) write) _ (c .before .before .before .before .before .before .oldest .ensures node start end write (a .touched .now)) (c .before .before .before .before .i .given .1) (c .before .is-aged .ensures) (c .if1 .left)
 
 pub oldest-aged-spec : {M : Type 1} → statement M
 oldest-aged-spec =
     tie.close
     (tie.spec
-    (λ c κs. search needs)
-    (λ c. search needs)
-    (λ c. search needs)
-    returns
-    mul-is-aged
-    shared-slice-read-is-aged
-    (λ c κs. search needs)
-    returns-2
+    (λ c κs. search needs) (λ c. search needs) (λ c. search needs) returns mul-is-aged shared-slice-read-is-aged (λ c κs. search needs) returns-2
     returns-3)

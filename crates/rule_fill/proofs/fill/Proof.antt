@@ -19,30 +19,37 @@ loop-holds c =
     let p = c .before .before .before .before .before .before .before .pre in
     fill-start _ _ _ _ _ _ _ _ _ _ (p .0 .records) (p .1)
 
-upto-at-requires : tie.Need-upto-at-requires Inv-loop μ-loop
-upto-at-requires c κs = omega (arith, c .before .before .before .before .before .before .before .before .before .before .pre .0 .records, c .before .loop-test .taken)
+-- earlier places of the function, by name
+abbrev entry : tie.After-from-at Inv-loop μ-loop → tie.Start Inv-loop μ-loop
+entry c = c .before .before .before .before .before .before .before .before .before .before
 
-new-rec-requires : tie.Need-new-rec-requires Inv-loop μ-loop
-new-rec-requires c κs = room-new (c .before .before .before .before .before .before .before .before .before .before .before .pre .0) (c .before .before .loop-test .taken)
+abbrev in-loop : tie.After-put-new-arg7 Inv-loop μ-loop → tie.In-loop Inv-loop μ-loop
+in-loop c = c .before .before .before .before .before .before .before .before .before .before
+
+abbrev after-put-new : tie.After-slice-known14 Inv-loop μ-loop → tie.After-put-new Inv-loop μ-loop
+after-put-new c = c .before .before .before .before .before .before .before .before .before .before .before .before .before .before
+
+abbrev after-new-rec : tie.After-slice-known14 Inv-loop μ-loop → tie.After-new-rec Inv-loop μ-loop
+after-new-rec c = after-put-new c .before .before .before .before .before .before .before .before
+
+abbrev in-loop-2 : tie.After-slice-known14 Inv-loop μ-loop → tie.In-loop Inv-loop μ-loop
+in-loop-2 c = after-new-rec c .before .before .before
+
+abbrev entry-2 : tie.After-slice-known14 Inv-loop μ-loop → tie.Start Inv-loop μ-loop
+entry-2 c = in-loop-2 c .before .before .before .before .before .before .before .before .before
 
 add-put-new : tie.Need-add-put-new Inv-loop μ-loop
-add-put-new c = omega (arith, room-place (c .before .before .before .before .before .before .before .before .before .before .before .before .before .before .before .before .before .before .before .pre .0) (c .before .before .before .before .before .before .before .before .before .before .loop-test .taken))
+add-put-new c = omega (arith, room-place (entry (c .before .before .before .before .before .before .before .before .before) .pre .0) (in-loop c .loop-test .taken))
 
 put-new-requires : tie.Need-put-new-requires Inv-loop μ-loop
-put-new-requires c κs = (room-place (c .before .before .before .before .before .before .before .before .before .before .before .before .before .before .before .before .before .before .before .pre .0) (c .before .before .before .before .before .before .before .before .before .before .loop-test .taken), c .before .before .before .before .before .before .before .before .before .before .before .loop .inv .sized)
-
-add-done : tie.Need-add-done Inv-loop μ-loop
-add-done c = omega (arith, c .before .before .before .before .before .before .before .before .before .before .before .before .before .before .before .before .before .before .before .before .before .before .before .before .before .before .before .before .before .before .before .before .before .before .pre .0 .records, c .before .before .before .before .before .before .before .before .before .before .before .before .before .before .before .before .before .before .before .before .before .before .before .before .before .loop-test .taken)
-
-loop-less : tie.Need-loop-less Inv-loop μ-loop
-loop-less c = omega (arith, c .before .before .before .before .before .before .before .before .before .before .before .before .before .before .before .before .before .before .before .before .before .before .before .before .before .loop-test .taken)
+put-new-requires c κs = (room-place (entry (c .before .before .before .before .before .before .before .before .before) .pre .0) (in-loop c .loop-test .taken), in-loop c .before .loop .inv .sized)
 
 loop-again : tie.Need-loop-again Inv-loop μ-loop
 loop-again c =
-    let p = c .before .before .before .before .before .before .before .before .before .before .before .before .before .before .before .before .before .before .before .before .before .before .before .before .before .before .before .before .before .before .before .before .before .before .pre in
-    let l = c .before .before .before .before .before .before .before .before .before .before .before .before .before .before .before .before .before .before .before .before .before .before .before .before .before .before .loop in
-    let k = c .before .before .before .before .before .before .before .before .before .before .before .before .before .before .put-new in
-    fill-turn _ _ _ _ _ _ _ _ _ _ (p .0 .records) (p .1) _ _ (l .inv) _ (rangesOf (k .last .0) (k .last .1 .0) (k .last .1 .1 .0) (k .last .1 .1 .1 .0) (k .last .1 .1 .1 .1 .0) (k .last .1 .1 .1 .1 .1 .0) (k .last .1 .1 .1 .1 .1 .1 .0)) _ _ (c .before .before .before .before .before .before .before .before .before .before .before .before .before .before .before .before .before .before .before .before .before .before .before .before .before .loop-test .taken) (c .before .before .before .before .before .before .before .before .before .before .before .before .before .before .before .before .before .before .before .before .before .before .before .before .from-at .ensures) (c .before .before .before .before .before .before .before .before .before .before .before .before .before .before .before .before .before .before .before .before .before .before .before .upto-at .ensures) (c .before .before .before .before .before .before .before .before .before .before .before .before .before .before .before .before .before .before .before .before .before .before .new-rec .ensures) (k .ensures)
+    let p = entry-2 c .pre in
+    let l = in-loop-2 c .before .loop in
+    let k = after-put-new c .put-new in
+    fill-turn _ _ _ _ _ _ _ _ _ _ (p .0 .records) (p .1) _ _ (l .inv) _ (rangesOf (k .last .0) (k .last .1 .0) (k .last .1 .1 .0) (k .last .1 .1 .1 .0) (k .last .1 .1 .1 .1 .0) (k .last .1 .1 .1 .1 .1 .0) (k .last .1 .1 .1 .1 .1 .1 .0)) _ _ (in-loop-2 c .loop-test .taken) (after-new-rec c .before .before .from-at .ensures) (after-new-rec c .before .upto-at .ensures) (after-new-rec c .new-rec .ensures) (k .ensures)
 
 returns : tie.Need-returns Inv-loop μ-loop
 returns c =
@@ -55,17 +62,11 @@ pub fill-spec : {M : Type 1} → statement M
 fill-spec =
     tie.close
     (tie.spec
-    Inv-loop
-    μ-loop
-    loop-holds
+    Inv-loop μ-loop loop-holds
     (λ c κs. omega (arith, c .before .before .before .before .before .before .before .before .before .pre .0 .records, c .loop-test .taken))
-    upto-at-requires
-    new-rec-requires
-    add-put-new
-    put-new-requires
-    add-done
-    loop-less
-    loop-again
+    (λ c κs. omega (arith, entry c .pre .0 .records, c .before .loop-test .taken))
+    (λ c κs. room-new (entry (c .before) .pre .0) (c .before .before .loop-test .taken)) add-put-new put-new-requires
+    (λ c. omega (arith, entry-2 c .pre .0 .records, in-loop-2 c .loop-test .taken)) (λ c. omega (arith, in-loop-2 c .loop-test .taken)) loop-again
     (λ c. omega (arith, c .before .before .before .before .before .before .before .before .before .pre .0 .records))
     (λ c. c .before .loop .inv .sized .node ∙ sym (c .before .before .before .before .before .before .before .before .before .pre .1 .node))
     (λ c. c .before .loop .inv .sized .start ∙ sym (c .before .before .before .before .before .before .before .before .before .pre .1 .start))
@@ -73,5 +74,4 @@ fill-spec =
     (λ c. c .before .loop .inv .sized .id ∙ sym (c .before .before .before .before .before .before .before .before .before .pre .1 .id))
     (λ c. c .before .loop .inv .sized .stamp ∙ sym (c .before .before .before .before .before .before .before .before .before .pre .1 .stamp))
     (λ c. c .before .loop .inv .sized .touched ∙ sym (c .before .before .before .before .before .before .before .before .before .pre .1 .touched))
-    (λ c. c .before .loop .inv .sized .write ∙ sym (c .before .before .before .before .before .before .before .before .before .pre .1 .write))
-    returns)
+    (λ c. c .before .loop .inv .sized .write ∙ sym (c .before .before .before .before .before .before .before .before .before .pre .1 .write)) returns)

@@ -5,20 +5,7 @@ use Rattle.model.specs.State.{at}
 use Rattle.rule_fill.proofs.from_at.Statement.{statement}
 use Rattle.rule_fill.proofs.from_at.Tie as tie
 
-element-copy-out-result : tie.Need-element-copy-out-result
-element-copy-out-result c = search needs
-
-returns : tie.Need-returns
-returns c = ap (at (c .before .before .args .t1 .from)) (sym (c .before .if1 .taken))
-
-mul-result : tie.Need-mul-result
-mul-result c = search needs
-
-array-read-result : tie.Need-array-read-result
-array-read-result c = search needs
-
-returns-2 : tie.Need-returns-2
-returns-2 c = search needs
-
 pub from-at-spec : {M : Type 1} → statement M
-from-at-spec = tie.close (tie.spec element-copy-out-result returns mul-result array-read-result returns-2)
+from-at-spec = tie.close (tie.spec
+    (λ c. search needs) (λ c. ap (at (c .before .before .args .t1 .from)) (sym (c .before .if1 .taken))) (λ c. search needs) (λ c. search needs)
+    (λ c. search needs))

@@ -33,14 +33,6 @@ pub gap-blocks-spec : {M : Type 1} → statement M
 gap-blocks-spec =
     tie.close
     (tie.spec
-    Inv-loop
-    μ-loop
-    (λ c. sum-start _ _ _)
-    (λ c κs. omega (arith, c .before .before .pre .0, c .loop-test .taken))
-    (λ c κs. omega (arith, c .before .before .before .pre .0, c .before .loop-test .taken))
-    sub-sum
-    add-sum
-    (λ c. omega arith)
-    (λ c. omega arith)
-    loop-again
-    (λ c. sum-end _ _ _ _ _ (c .before .loop .inv) (c .loop-test .left)))
+    Inv-loop μ-loop (λ c. sum-start _ _ _) (λ c κs. omega (arith, c .before .before .pre .0, c .loop-test .taken))
+    (λ c κs. omega (arith, c .before .before .before .pre .0, c .before .loop-test .taken)) sub-sum add-sum (λ c. omega arith) (λ c. omega arith)
+    loop-again (λ c. sum-end _ _ _ _ _ (c .before .loop .inv) (c .loop-test .left)))

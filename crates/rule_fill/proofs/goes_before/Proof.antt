@@ -3,14 +3,8 @@ use Rattle.rule_fill.proofs.Missing.{before-less, before-more, before-s
 use Rattle.rule_fill.proofs.goes_before.Statement.{statement}
 use Rattle.rule_fill.proofs.goes_before.Tie as tie
 
-returns : tie.Need-returns
-returns c = let a = c .before .args in before-less (a .nd) (a .s) (a .node) (a .start) (c .if1 .taken)
-
-returns-2 : tie.Need-returns-2
-returns-2 c = let a = c .before .before .args in before-more (a .nd) (a .s) (a .node) (a .start) (c .if2 .taken)
-
-returns-3 : tie.Need-returns-3
-returns-3 c = let a = c .before .before .args in before-same (a .nd) (a .s) (a .node) (a .start) (c .before .if1 .left) (c .if2 .left)
-
 pub goes-before-spec : {M : Type 1} → statement M
-goes-before-spec = tie.close (tie.spec returns returns-2 returns-3)
+goes-before-spec = tie.close (tie.spec
+    (λ c. let a = c .before .args in before-less (a .nd) (a .s) (a .node) (a .start) (c .if1 .taken))
+    (λ c. let a = c .before .before .args in before-more (a .nd) (a .s) (a .node) (a .start) (c .if2 .taken))
+    (λ c. let a = c .before .before .args in before-same (a .nd) (a .s) (a .node) (a .start) (c .before .if1 .left) (c .if2 .left)))

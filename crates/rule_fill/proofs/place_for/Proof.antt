@@ -22,16 +22,6 @@ pub place-for-spec : {M : Type 1} → statement M
 place-for-spec =
     tie.close
     (tie.spec
-    Inv-loop
-    μ-loop
-    (λ c. passing-start _ _ _ _ _)
-    (λ c. omega arith)
-    (λ c. omega arith)
-    (λ c. omega arith)
-    (λ c. omega arith)
-    (λ c κs. omega arith)
-    returns
-    (λ c. omega arith)
-    (λ c. omega arith)
-    loop-again
+    Inv-loop μ-loop (λ c. passing-start _ _ _ _ _) (λ c. omega arith) (λ c. omega arith) (λ c. omega arith) (λ c. omega arith) (λ c κs. omega arith)
+    returns (λ c. omega arith) (λ c. omega arith) loop-again
     (λ c. (c .before .loop .inv .high, passing-end _ _ _ _ _ _ (c .before .loop .inv) (c .loop-test .left))))

@@ -3,11 +3,7 @@ use Rattle.rule_grow.proofs.Laws.{adopt-same, adopt-other}
 use Rattle.rule_grow.proofs.adopt.Statement.{statement}
 use Rattle.rule_grow.proofs.adopt.Tie as tie
 
-returns : tie.Need-returns
-returns c = let a = c .before .args in adopt-same (a .j) (a .m) (a .p) (c .if1 .taken)
-
-returns-2 : tie.Need-returns-2
-returns-2 c = let a = c .before .args in adopt-other (a .j) (a .m) (a .p) (c .if1 .left)
-
 pub adopt-spec : {M : Type 1} → statement M
-adopt-spec = tie.close (tie.spec returns returns-2)
+adopt-spec = tie.close (tie.spec
+    (λ c. let a = c .before .args in adopt-same (a .j) (a .m) (a .p) (c .if1 .taken))
+    (λ c. let a = c .before .args in adopt-other (a .j) (a .m) (a .p) (c .if1 .left)))

@@ -16,17 +16,7 @@ pub put-words-spec : {M : Type 1} → statement M
 put-words-spec =
     tie.close
     (tie.spec
-    Inv-loop
-    μ-loop
-    (λ c. put-start _ _ _ _ (c .pre .0) (c .pre .1))
-    (λ c. search needs)
-    (λ c. search needs)
-    (λ c. search needs)
-    (λ c. search needs)
-    (λ c. search needs)
-    (λ c. search needs)
-    (λ c. search needs)
-    (λ c. search needs)
-    (λ c. put-turn _ _ _ _ _ _ (c .before .before .loop .inv) (c .before .loop-test .taken))
-    (λ c. search needs)
+    Inv-loop μ-loop (λ c. put-start _ _ _ _ (c .pre .0) (c .pre .1)) (λ c. search needs) (λ c. search needs) (λ c. search needs) (λ c. search needs)
+    (λ c. search needs) (λ c. search needs) (λ c. search needs) (λ c. search needs)
+    (λ c. put-turn _ _ _ _ _ _ (c .before .before .loop .inv) (c .before .loop-test .taken)) (λ c. search needs)
     (λ c. put-end _ _ _ _ _ _ (c .before .loop .inv) (c .loop-test .left)))

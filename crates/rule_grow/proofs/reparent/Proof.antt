@@ -15,16 +15,7 @@ pub reparent-spec : {M : Type 1} → statement M
 reparent-spec =
     tie.close
     (tie.spec
-    Inv-loop
-    μ-loop
-    (λ c. adopt-start _ _ _ _ (c .before .pre .0) (c .before .pre .1))
-    (λ c. search needs)
-    (λ c. search needs)
-    (λ c κs. search needs)
-    (λ c. search needs)
-    (λ c. search needs)
-    (λ c. search needs)
-    (λ c. search needs)
+    Inv-loop μ-loop (λ c. adopt-start _ _ _ _ (c .before .pre .0) (c .before .pre .1)) (λ c. search needs) (λ c. search needs) (λ c κs. search needs)
+    (λ c. search needs) (λ c. search needs) (λ c. search needs) (λ c. search needs)
     (λ c. adopt-turn _ _ _ _ _ _ _ (c .before .before .before .loop .inv) (c .before .before .loop-test .taken) (c .adopt .ensures))
-    (λ c. search needs)
-    (λ c. adopt-end _ _ _ _ _ _ (c .before .loop .inv) (c .loop-test .left)))
+    (λ c. search needs) (λ c. adopt-end _ _ _ _ _ _ (c .before .loop .inv) (c .loop-test .left)))

@@ -19,14 +19,7 @@ pub range-end-spec : {M : Type 1} → statement M
 range-end-spec =
     tie.close
     (tie.spec
-    Inv-loop
-    μ-loop
-    (λ c. scan-start _ _ _ _ _ _)
-    (λ c κs. search needs)
-    (λ c. search needs)
-    (λ c. search needs)
-    returns
-    (λ c. search needs)
+    Inv-loop μ-loop (λ c. scan-start _ _ _ _ _ _) (λ c κs. search needs) (λ c. search needs) (λ c. search needs) returns (λ c. search needs)
     (λ c. search needs)
     (λ c. scan-more (c .before .before .before .loop .inv) (c .before .before .loop-test .taken) (sym (c .before .holds-at .ensures) ∙ c .if1 .left))
     (λ c. scan-end (c .before .loop .inv) (c .loop-test .left)))

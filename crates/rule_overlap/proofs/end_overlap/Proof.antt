@@ -31,12 +31,5 @@ pub end-overlap-spec : {M : Type 1} → statement M
 end-overlap-spec =
     tie.close
     (tie.spec
-    Inv-loop
-    μ-loop
-    (λ c. (omega arith, c .before .before .before .pre .1 .within, λ k l u. absurd (omega arith)))
-    (λ c κs. search needs)
-    returns
-    (λ c. search needs)
-    (λ c. search needs)
-    loop-again
-    returns-2)
+    Inv-loop μ-loop (λ c. (omega arith, c .before .before .before .pre .1 .within, λ k l u. absurd (omega arith))) (λ c κs. search needs) returns
+    (λ c. search needs) (λ c. search needs) loop-again returns-2)

@@ -23,12 +23,6 @@ pub first-overlap-spec : {M : Type 1} → statement M
 first-overlap-spec =
     tie.close
     (tie.spec
-    Inv-loop
-    μ-loop
-    (λ c. (omega arith, λ k l u. absurd (omega arith)))
-    (λ c κs. search needs)
-    returns
-    (λ c. search needs)
-    (λ c. search needs)
+    Inv-loop μ-loop (λ c. (omega arith, λ k l u. absurd (omega arith))) (λ c κs. search needs) returns (λ c. search needs) (λ c. search needs)
     (λ c. (omega arith, each-more _ _ _ (c .before .before .before .loop .inv .1) (sym (c .before .meets-at .ensures) ∙ c .if1 .left)))
     (λ c. record { within = c .before .loop .inv .0; before = c .before .loop .inv .1; there = λ h. absurd (omega arith) }))

@@ -16,18 +16,22 @@ Inv-loop start end depth bytes sp lo hi sum₀ i₀ sum i = Summing start end de
 abbrev μ-loop : tie.MeasureT-loop
 μ-loop start end depth bytes sp lo hi sum₀ i₀ sum i = hi - i
 
+-- earlier places of the function, by name
+abbrev entry : tie.After-smaller Inv-loop μ-loop → tie.Start Inv-loop μ-loop
+entry c = c .before .before .before .before .before .before .before .before .before .before
+
 span-bytes-requires : tie.Need-span-bytes-requires Inv-loop μ-loop
 span-bytes-requires c κs =
-    let p = c .before .before .before .before .before .before .before .before .before .before .pre .0 .4 in
-    let m : c .before .before .larger .result ≤ c .smaller .result = omega (arith, c .before .before .before .before .before .before .before .before .before .before .pre .1 (c .before .before .before .before .before .loop .i) (c .before .before .before .before .before .loop .inv .low) (c .before .before .before .before .loop-test .taken), c .before .before .larger .ensures, c .smaller .ensures) in
-    record { node = p .node; order = m; ends = omega (arith, p .ends, c .smaller .ensures, min-most (c .before .before .before .before .before .before .before .before .before .before .args .sp .end) (lib.ListN.getD (c .before .before .before .before .before .before .before .before .before .before .args .end .now) (c .before .before .before .before .before .loop .i) 0)); table = p .table; rising = p .rising }
+    let p = entry c .pre .0 .4 in
+    let m : c .before .before .larger .result ≤ c .smaller .result = omega (arith, entry c .pre .1 (c .before .before .before .before .before .loop .i) (c .before .before .before .before .before .loop .inv .low) (c .before .before .before .before .loop-test .taken), c .before .before .larger .ensures, c .smaller .ensures) in
+    record { node = p .node; order = m; ends = omega (arith, p .ends, c .smaller .ensures, min-most (entry c .args .sp .end) (lib.ListN.getD (entry c .args .end .now) (c .before .before .before .before .before .loop .i) 0)); table = p .table; rising = p .rising }
 
 -- the bytes of the record at hand
-read : (c : tie.After-span-bytes Inv-loop μ-loop) → c .span-bytes .result ≡ bytesOf (onlyDepth (c .before .before .before .before .before .before .before .before .before .before .before .args .depth .now)) (c .before .before .before .before .before .before .before .before .before .before .before .args .bytes .now) (c .before .before .before .before .before .before .before .before .before .before .before .args .sp .node) (max (c .before .before .before .before .before .before .before .before .before .before .before .args .sp .start) (lib.ListN.getD (c .before .before .before .before .before .before .before .before .before .before .before .args .start .now) (c .before .before .before .before .before .before .loop .i) 0)) (min (c .before .before .before .before .before .before .before .before .before .before .before .args .sp .end) (lib.ListN.getD (c .before .before .before .before .before .before .before .before .before .before .before .args .end .now) (c .before .before .before .before .before .before .loop .i) 0))
+read : (c : tie.After-span-bytes Inv-loop μ-loop) → c .span-bytes .result ≡ bytesOf (onlyDepth (entry (c .before) .args .depth .now)) (entry (c .before) .args .bytes .now) (entry (c .before) .args .sp .node) (max (entry (c .before) .args .sp .start) (lib.ListN.getD (entry (c .before) .args .start .now) (c .before .before .before .before .before .before .loop .i) 0)) (min (entry (c .before) .args .sp .end) (lib.ListN.getD (entry (c .before) .args .end .now) (c .before .before .before .before .before .before .loop .i) 0))
 read c = rw (← c .before .before .before .larger .ensures, ← c .before .smaller .ensures) (c .span-bytes .ensures)
 
 small : (c : tie.After-span-bytes Inv-loop μ-loop) → c .span-bytes .result ≤ maxBytes
-small c = rw (read c) (bytes-small _ _ _ _ _ (c .before .before .before .before .before .before .before .before .before .before .before .pre .0 .4) (min-most _ _))
+small c = rw (read c) (bytes-small _ _ _ _ _ (entry (c .before) .pre .0 .4) (min-most _ _))
 
 add-sum : tie.Need-add-sum Inv-loop μ-loop
 add-sum c = omega (arith, small c, c .before .before .before .before .before .before .loop .inv .small, c .before .before .before .before .before .before .loop .inv .high)
@@ -39,18 +43,6 @@ pub held-bytes-spec : {M : Type 1} → statement M
 held-bytes-spec =
     tie.close
     (tie.spec
-    Inv-loop
-    μ-loop
-    (λ c. sum-start _ _ _ _ _ _ _ (c .before .before .before .before .pre .0 .0))
-    (λ c. search needs)
-    (λ c. search needs)
-    (λ c κs. search needs)
-    (λ c. search needs)
-    (λ c. search needs)
-    (λ c κs. search needs)
-    span-bytes-requires
-    add-sum
-    (λ c. search needs)
-    (λ c. search needs)
-    loop-again
-    (λ c. sum-end _ _ _ _ _ _ _ _ _ (c .before .loop .inv) (c .loop-test .left)))
+    Inv-loop μ-loop (λ c. sum-start _ _ _ _ _ _ _ (c .before .before .before .before .pre .0 .0)) (λ c. search needs) (λ c. search needs)
+    (λ c κs. search needs) (λ c. search needs) (λ c. search needs) (λ c κs. search needs) span-bytes-requires add-sum (λ c. search needs)
+    (λ c. search needs) loop-again (λ c. sum-end _ _ _ _ _ _ _ _ _ (c .before .loop .inv) (c .loop-test .left)))

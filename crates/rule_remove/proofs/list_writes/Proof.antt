@@ -30,16 +30,6 @@ pub list-writes-spec : {M : Type 1} → statement M
 list-writes-spec =
     tie.close
     (tie.spec
-    Inv-loop
-    μ-loop
-    (λ c. list-start _ _ _ _ (c .pre .0))
-    (λ c. search needs)
-    (λ c. search needs)
-    (λ c. search needs)
-    slice-write-list
-    add-k
-    (λ c. search needs)
-    (λ c. search needs)
-    loop-again
-    (λ c. c .before .loop .inv .same)
+    Inv-loop μ-loop (λ c. list-start _ _ _ _ (c .pre .0)) (λ c. search needs) (λ c. search needs) (λ c. search needs) slice-write-list add-k
+    (λ c. search needs) (λ c. search needs) loop-again (λ c. c .before .loop .inv .same)
     (λ c. list-end _ _ _ _ _ _ _ (c .before .loop .inv) (c .loop-test .left)))

@@ -7,5 +7,4 @@ pub past-both-spec : {M : Type 1} → statement M
 past-both-spec =
     tie.close
     (tie.spec
-    (λ c. simp (le-ltb _ _ (c .if1 .taken)))
-    (λ c. simp (lt-ltb _ _ (c .before .if1 .left))))
+    (λ c. simp (le-ltb _ _ (c .if1 .taken))) (λ c. simp (lt-ltb _ _ (c .before .if1 .left))))

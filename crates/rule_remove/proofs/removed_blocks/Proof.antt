@@ -31,18 +31,6 @@ pub removed-blocks-spec : {M : Type 1} → statement M
 removed-blocks-spec =
     tie.close
     (tie.spec
-    Inv-loop
-    μ-loop
-    (λ c. count-start _ _ _ _ _ (c .before .before .pre .0 .0))
-    (λ c. search needs)
-    (λ c. search needs)
-    (λ c κs. search needs)
-    (λ c. search needs)
-    (λ c. search needs)
-    (λ c κs. search needs)
-    (λ c. omega (arith, more c))
-    add-sum
-    (λ c. search needs)
-    (λ c. search needs)
-    loop-again
-    (λ c. count-end _ _ _ _ _ _ _ (c .before .loop .inv) (c .loop-test .left)))
+    Inv-loop μ-loop (λ c. count-start _ _ _ _ _ (c .before .before .pre .0 .0)) (λ c. search needs) (λ c. search needs) (λ c κs. search needs)
+    (λ c. search needs) (λ c. search needs) (λ c κs. search needs) (λ c. omega (arith, more c)) add-sum (λ c. search needs) (λ c. search needs)
+    loop-again (λ c. count-end _ _ _ _ _ _ _ (c .before .loop .inv) (c .loop-test .left)))

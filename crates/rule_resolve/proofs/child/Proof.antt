@@ -45,18 +45,8 @@ pub child-spec : {M : Type 1} → statement M
 child-spec =
     tie.close
     (tie.spec
-    Inv-loop
-    μ-loop
-    (λ c. λ depth len used. scan-start _ _ _)
-    (λ c. search needs)
-    (λ c. let p = c .before .before .before .before .before .before .pre in omega (arith, p .parent))
-    (λ c. search needs)
+    Inv-loop μ-loop (λ c. λ depth len used. scan-start _ _ _) (λ c. search needs)
+    (λ c. let p = c .before .before .before .before .before .before .pre in omega (arith, p .parent)) (λ c. search needs)
     (λ c κs. let p = c .before .before .before .before .before .before .before .pre in (omega arith, p .parent))
-    (λ c. let e = c .pass-others .ensures in omega (arith, e .0, e .1))
-    loop-again
-    is-child-requires
-    returns
-    (λ c. search needs)
-    (λ c. search needs)
-    loop-again-2
-    (λ c. λ depth len used. scan-end (c .before .loop .inv depth len used) (c .loop-test .left)))
+    (λ c. let e = c .pass-others .ensures in omega (arith, e .0, e .1)) loop-again is-child-requires returns (λ c. search needs) (λ c. search needs)
+    loop-again-2 (λ c. λ depth len used. scan-end (c .before .loop .inv depth len used) (c .loop-test .left)))

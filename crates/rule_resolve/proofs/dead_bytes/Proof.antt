@@ -7,16 +7,10 @@ use borrow.Author.Needs.{needs}
 use Rattle.rule_resolve.proofs.dead_bytes.Statement.{statement}
 use Rattle.rule_resolve.proofs.dead_bytes.Tie as tie
 
-dead-from-requires : tie.Need-dead-from-requires
-dead-from-requires c κs = search needs
-
-span-bytes-requires : tie.Need-span-bytes-requires
-span-bytes-requires c κs = search needs
-
 returns : tie.Need-returns
 returns c =
     let a = c .before .before .before .before .args in
     c .span-bytes .ensures ∙ ap (λ (from : ℕ). bytesOf (onlyDepth (a .depth .now)) (a .bytes .now) (a .sp .node) from (a .sp .end)) (c .before .dead-from .ensures)
 
 pub dead-bytes-spec : {M : Type 1} → statement M
-dead-bytes-spec = tie.close (tie.spec dead-from-requires span-bytes-requires returns)
+dead-bytes-spec = tie.close (tie.spec (λ c κs. search needs) (λ c κs. search needs) returns)

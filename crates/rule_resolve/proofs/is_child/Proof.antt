@@ -8,11 +8,5 @@ pub is-child-spec : {M : Type 1} → statement M
 is-child-spec =
     tie.close
     (tie.spec
-    (λ c. search needs)
-    (λ c. search needs)
-    (λ c. simp (ne-eqb _ _ (c .if1 .taken)))
-    (λ c. search needs)
-    (λ c. search needs)
-    (λ c. search needs)
-    (λ c. search needs)
-    (λ c. simp (eq-eqb _ _ (c .before .before .if1 .left))))
+    (λ c. search needs) (λ c. search needs) (λ c. simp (ne-eqb _ _ (c .if1 .taken))) (λ c. search needs) (λ c. search needs) (λ c. search needs)
+    (λ c. search needs) (λ c. simp (eq-eqb _ _ (c .before .before .if1 .left))))

@@ -26,34 +26,9 @@ pub matched-spec : {M : Type 1} → statement M
 matched-spec =
     tie.close
     (tie.spec
-    Inv-loop
-    μ-loop
-    (λ c. search needs)
-    (λ c. search needs)
-    (λ c. search needs)
-    (λ c. search needs)
-    (λ c. search needs)
-    (λ c κs. search needs)
-    (λ c. search needs)
-    (λ c. search needs)
-    (λ c. search needs)
-    (λ c. search needs)
-    (λ c. search needs)
-    (λ c. search needs)
-    (λ c. search needs)
-    returns
-    (λ c. halve-start _ (omega arith) (ne-eqb _ _ (c .if1 .left)))
-    (λ c. search needs)
-    (λ c. search needs)
-    (λ c. search needs)
-    (λ c. search needs)
-    (λ c. search needs)
-    (λ c. search needs)
-    (λ c. search needs)
-    (λ c. search needs)
-    (λ c. search needs)
-    (λ c. halve-up _ (c .before .before .before .before .loop .inv) (omega arith) (eq-eqb _ _ (c .if2 .taken)))
-    (λ c. search needs)
-    (λ c. halve-down _ (c .before .before .before .before .loop .inv) (omega arith) (ne-eqb _ _ (c .if2 .left)))
-    (λ c. search needs)
-    returns-2)
+    Inv-loop μ-loop (λ c. search needs) (λ c. search needs) (λ c. search needs) (λ c. search needs) (λ c. search needs) (λ c κs. search needs)
+    (λ c. search needs) (λ c. search needs) (λ c. search needs) (λ c. search needs) (λ c. search needs) (λ c. search needs) (λ c. search needs) returns
+    (λ c. halve-start _ (omega arith) (ne-eqb _ _ (c .if1 .left))) (λ c. search needs) (λ c. search needs) (λ c. search needs) (λ c. search needs)
+    (λ c. search needs) (λ c. search needs) (λ c. search needs) (λ c. search needs) (λ c. search needs)
+    (λ c. halve-up _ (c .before .before .before .before .loop .inv) (omega arith) (eq-eqb _ _ (c .if2 .taken))) (λ c. search needs)
+    (λ c. halve-down _ (c .before .before .before .before .loop .inv) (omega arith) (ne-eqb _ _ (c .if2 .left))) (λ c. search needs) returns-2)

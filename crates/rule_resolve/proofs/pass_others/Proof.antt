@@ -26,29 +26,8 @@ pub pass-others-spec : {M : Type 1} → statement M
 pass-others-spec =
     tie.close
     (tie.spec
-    Inv-loop
-    μ-loop
-    (λ c. (omega arith, omega arith, others-none _ _ _))
-    (λ c. search needs)
-    (λ c. search needs)
-    (λ c. search needs)
-    (λ c. c .before .before .before .loop .inv)
-    (λ c. search needs)
-    (λ c. search needs)
-    (λ c. search needs)
-    (λ c. search needs)
+    Inv-loop μ-loop (λ c. (omega arith, omega arith, others-none _ _ _)) (λ c. search needs) (λ c. search needs) (λ c. search needs)
+    (λ c. c .before .before .before .loop .inv) (λ c. search needs) (λ c. search needs) (λ c. search needs) (λ c. search needs)
     (λ c. (omega arith, omega arith, others-one (c .before .before .before .before .before .loop .inv .2) (c .before .before .if1 .left)))
-    (λ c. search needs)
-    (λ c. search needs)
-    (λ c. search needs)
-    (λ c. search needs)
-    returns-3
-    (λ c. search needs)
-    (λ c. search needs)
-    (λ c. search needs)
-    (λ c. search needs)
-    returns-4
-    (λ c. search needs)
-    (λ c. search needs)
-    loop-again
-    (λ c. c .before .loop .inv))
+    (λ c. search needs) (λ c. search needs) (λ c. search needs) (λ c. search needs) returns-3 (λ c. search needs) (λ c. search needs)
+    (λ c. search needs) (λ c. search needs) returns-4 (λ c. search needs) (λ c. search needs) loop-again (λ c. c .before .loop .inv))

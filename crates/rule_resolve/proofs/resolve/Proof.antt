@@ -27,18 +27,22 @@ abbrev μ-loop : tie.MeasureT-loop
 μ-loop parent len run words nodes hashes path-node₀ path-len₀ cur₀ pos₀ segs₀ last₀ path-node path-len cur pos segs last =
     length hashes - pos
 
+-- earlier places of the function, by name
+abbrev entry : tie.After-shared-slice-known6 Inv-loop μ-loop → tie.Start Inv-loop μ-loop
+entry c = c .before .before .before .before .before .before .before .before .before .before
+
 -- where a child was found, it is the next one for any depths and used words
 next : (c : tie.After-known-told Inv-loop μ-loop) (depth : List ℕ) (used : ℕ)
-    → let a = c .before .before .before .before .before .before .before .before .before .before .before .before .before .before .args in
+    → let a = entry (c .before .before .before .before) .args in
     let l = c .before .before .before .before .before .before .loop in
     nextChild (treeOf (a .parent .now) depth (a .len .now) (a .run .now) (a .words .now) (a .nodes) used) (a .hashes .now) (l .pos) (l .cur) ≡ some (c .before .k .given .0 .0)
-next c depth used = next-some _ _ _ _ _ (c .before .before .before .child .result) (c .before .before .before .before .before .loop-test .taken) (c .before .before .before .child .ensures depth (c .before .before .before .before .before .before .before .before .before .before .before .before .before .before .args .len .now) used) (c .before .k .given .1)
+next c depth used = next-some _ _ _ _ _ (c .before .before .before .child .result) (c .before .before .before .before .before .loop-test .taken) (c .before .before .before .child .ensures depth (entry (c .before .before .before .before) .args .len .now) used) (c .before .k .given .1)
 
 met : (c : tie.After-known-told Inv-loop μ-loop)
-    → let a = c .before .before .before .before .before .before .before .before .before .before .before .before .before .before .args in
+    → let a = entry (c .before .before .before .before) .args in
     Stored (a .len .now) (a .run .now) (a .words .now) (c .before .k .given .0 .0) × (c .before .before .before .before .before .before .loop .segs < length (a .path-node .now)) × (c .before .before .before .before .before .before .loop .segs < length (a .path-len .now))
 met c =
-    let p = c .before .before .before .before .before .before .before .before .before .before .before .before .before .before .pre in
+    let p = entry (c .before .before .before .before) .pre in
     entered (p .0 .2) (p .1) (c .before .before .before .before .before .loop-test .taken) (next c (p .0 .0) (p .0 .1)) (c .before .before .before .before .before .before .loop .inv .2 (p .0 .0) (p .0 .1))
 
 loop-again : tie.Need-loop-again Inv-loop μ-loop
@@ -48,7 +52,7 @@ loop-again c =
 
 returns-2 : tie.Need-returns-2 Inv-loop μ-loop
 returns-2 c = λ depth used.
-    walk-end (rw (next-nothing _ _ _ _ (c .before .before .child .result) (c .before .before .before .before .loop-test .taken) (c .before .before .child .ensures depth (c .before .before .before .before .before .before .before .before .before .before .before .before .before .args .len .now) used) (c .enum-told .given .1)) at (c .before .before .before .before .before .loop .inv .2 depth used))
+    walk-end (rw (next-nothing _ _ _ _ (c .before .before .child .result) (c .before .before .before .before .loop-test .taken) (c .before .before .child .ensures depth (entry (c .before .before .before) .args .len .now) used) (c .enum-told .given .1)) at (c .before .before .before .before .before .loop .inv .2 depth used))
 
 returns-3 : tie.Need-returns-3 Inv-loop μ-loop
 returns-3 c =
@@ -59,31 +63,11 @@ pub resolve-spec : {M : Type 1} → statement M
 resolve-spec =
     tie.close
     (tie.spec
-    Inv-loop
-    μ-loop
-    (λ c. (refl, refl, λ depth used. walk-start _ _ _))
-    (λ c. search needs)
-    (λ c. search needs)
-    (λ c κs. c .before .before .before .before .before .before .before .before .before .before .pre .0 .2 .scanned)
-    (λ c. search needs)
-    (λ c. search needs)
-    (λ c κs. (met c .0, c .before .before .before .before .before .loop-test .taken))
-    (λ c. let h = met (c .before) in search needs)
-    (λ c. let h = met (c .before) in search needs)
-    (λ c. let h = met (c .before) in search needs)
-    (λ c. let h = met (c .before) in search needs)
-    (λ c. let h = met (c .before) in search needs)
-    (λ c. let h = met (c .before) in search needs)
-    (λ c. let h = met (c .before) in search needs)
-    (λ c. let h = met (c .before .before) in search needs)
-    (λ c. search needs)
-    loop-again
-    (λ c. search needs)
-    (λ c. search needs)
-    (λ c. λ depth used. walk-end (rw (next-none _ _ _ _ (c .loop-test .left)) at (c .before .loop .inv .2 depth used)))
-    (λ c. search needs)
-    (λ c. search needs)
-    returns-2
-    (λ c. search needs)
-    (λ c. search needs)
-    returns-3)
+    Inv-loop μ-loop (λ c. (refl, refl, λ depth used. walk-start _ _ _)) (λ c. search needs) (λ c. search needs) (λ c κs. entry c .pre .0 .2 .scanned)
+    (λ c. search needs) (λ c. search needs) (λ c κs. (met c .0, c .before .before .before .before .before .loop-test .taken))
+    (λ c. let h = met (c .before) in search needs) (λ c. let h = met (c .before) in search needs) (λ c. let h = met (c .before) in search needs)
+    (λ c. let h = met (c .before) in search needs) (λ c. let h = met (c .before) in search needs) (λ c. let h = met (c .before) in search needs)
+    (λ c. let h = met (c .before) in search needs) (λ c. let h = met (c .before .before) in search needs) (λ c. search needs) loop-again
+    (λ c. search needs) (λ c. search needs)
+    (λ c. λ depth used. walk-end (rw (next-none _ _ _ _ (c .loop-test .left)) at (c .before .loop .inv .2 depth used))) (λ c. search needs)
+    (λ c. search needs) returns-2 (λ c. search needs) (λ c. search needs) returns-3)

@@ -16,28 +16,41 @@ abbrev μ-loop : tie.MeasureT-loop
 loop-holds : tie.Need-loop-holds Inv-loop μ-loop
 loop-holds c = joining-start _ _ _ (c .before .before .before .before .before .before .before .pre .2) (c .before .before .before .before .before .before .before .pre .0) (c .before .before .before .before .before .before .before .pre .1)
 
+-- earlier places of the function, by name
+abbrev entry : tie.After-joins-at-arg5 Inv-loop μ-loop → tie.Start Inv-loop μ-loop
+entry c = c .before .before .before .before .before .before .before .before .before .before .before .before .before .before
+
+abbrev in-loop : tie.After-merge-arg7 Inv-loop μ-loop → tie.In-loop Inv-loop μ-loop
+in-loop c = c .before .before .before .before .before .before .before .before .before .before .before .before .before .before
+
+abbrev after-merge : tie.After-slice-known14 Inv-loop μ-loop → tie.After-merge Inv-loop μ-loop
+after-merge c = c .before .before .before .before .before .before .before .before .before .before .before .before .before .before
+
+abbrev then1 : tie.After-slice-known14 Inv-loop μ-loop → tie.Then1 Inv-loop μ-loop
+then1 c = after-merge c .before .before .before .before .before .before .before .before
+
+abbrev in-loop-2 : tie.After-slice-known14 Inv-loop μ-loop → tie.In-loop Inv-loop μ-loop
+in-loop-2 c = then1 c .before .before .before .before .before .before .before
+
+abbrev entry-2 : tie.After-slice-known14 Inv-loop μ-loop → tie.Start Inv-loop μ-loop
+entry-2 c = in-loop-2 c .before .before .before .before .before .before .before .before .before
+
 joins-at-requires : tie.Need-joins-at-requires Inv-loop μ-loop
 joins-at-requires c κs =
-    let s = joining-sized (rangesOf (c .before .before .before .before .before .before .before .before .before .before .before .before .before .before .args .node .now) (c .before .before .before .before .before .before .before .before .before .before .before .before .before .before .args .start .now) (c .before .before .before .before .before .before .before .before .before .before .before .before .before .before .args .end .now) (c .before .before .before .before .before .before .before .before .before .before .before .before .before .before .args .id .now) (c .before .before .before .before .before .before .before .before .before .before .before .before .before .before .args .stamp .now) (c .before .before .before .before .before .before .before .before .before .before .before .before .before .before .args .touched .now) (c .before .before .before .before .before .before .before .before .before .before .before .before .before .before .args .write .now)) (rangesOf (c .before .before .before .before .before .before .loop .node) (c .before .before .before .before .before .before .loop .start) (c .before .before .before .before .before .before .loop .end) (c .before .before .before .before .before .before .loop .id) (c .before .before .before .before .before .before .loop .stamp) (c .before .before .before .before .before .before .loop .touched) (c .before .before .before .before .before .before .loop .write)) (c .before .before .before .before .before .before .before .before .before .before .before .before .before .before .args .n) (c .before .before .before .before .before .before .before .before .before .before .before .before .before .before .args .v) (c .before .before .before .before .before .before .loop .m) (c .before .before .before .before .before .before .loop .i) (c .before .before .before .before .before .before .before .before .before .before .before .before .before .before .pre .2) (c .before .before .before .before .before .before .before .before .before .before .before .before .before .before .pre .1) (c .before .before .before .before .before .before .loop .inv) in
-    (omega (arith, c .before .before .before .before .before .loop-test .taken, c .before .before .before .before .before .before .loop .inv .few, c .before .before .before .before .before .before .before .before .before .before .before .before .before .before .pre .1), s .node, s .start, s .end, s .stamp, s .write)
+    let s = joining-sized (rangesOf (entry c .args .node .now) (entry c .args .start .now) (entry c .args .end .now) (entry c .args .id .now) (entry c .args .stamp .now) (entry c .args .touched .now) (entry c .args .write .now)) (rangesOf (c .before .before .before .before .before .before .loop .node) (c .before .before .before .before .before .before .loop .start) (c .before .before .before .before .before .before .loop .end) (c .before .before .before .before .before .before .loop .id) (c .before .before .before .before .before .before .loop .stamp) (c .before .before .before .before .before .before .loop .touched) (c .before .before .before .before .before .before .loop .write)) (entry c .args .n) (entry c .args .v) (c .before .before .before .before .before .before .loop .m) (c .before .before .before .before .before .before .loop .i) (entry c .pre .2) (entry c .pre .1) (c .before .before .before .before .before .before .loop .inv) in
+    (omega (arith, c .before .before .before .before .before .loop-test .taken, c .before .before .before .before .before .before .loop .inv .few, entry c .pre .1), s .node, s .start, s .end, s .stamp, s .write)
 
 merge-requires : tie.Need-merge-requires Inv-loop μ-loop
-merge-requires c κs = (c .before .before .before .before .before .before .before .before .before .before .before .before .before .before .loop-test .taken, omega (arith, c .before .before .before .before .before .before .before .before .before .before .before .before .before .before .before .loop .inv .few, c .before .before .before .before .before .before .before .before .before .before .before .before .before .before .before .before .before .before .before .before .before .before .before .pre .1), joining-sized (rangesOf (c .before .before .before .before .before .before .before .before .before .before .before .before .before .before .before .before .before .before .before .before .before .before .before .args .node .now) (c .before .before .before .before .before .before .before .before .before .before .before .before .before .before .before .before .before .before .before .before .before .before .before .args .start .now) (c .before .before .before .before .before .before .before .before .before .before .before .before .before .before .before .before .before .before .before .before .before .before .before .args .end .now) (c .before .before .before .before .before .before .before .before .before .before .before .before .before .before .before .before .before .before .before .before .before .before .before .args .id .now) (c .before .before .before .before .before .before .before .before .before .before .before .before .before .before .before .before .before .before .before .before .before .before .before .args .stamp .now) (c .before .before .before .before .before .before .before .before .before .before .before .before .before .before .before .before .before .before .before .before .before .before .before .args .touched .now) (c .before .before .before .before .before .before .before .before .before .before .before .before .before .before .before .before .before .before .before .before .before .before .before .args .write .now)) (rangesOf (c .before .before .before .before .before .before .before .before .before .before .before .before .before .before .before .loop .node) (c .before .before .before .before .before .before .before .before .before .before .before .before .before .before .before .loop .start) (c .before .before .before .before .before .before .before .before .before .before .before .before .before .before .before .loop .end) (c .before .before .before .before .before .before .before .before .before .before .before .before .before .before .before .loop .id) (c .before .before .before .before .before .before .before .before .before .before .before .before .before .before .before .loop .stamp) (c .before .before .before .before .before .before .before .before .before .before .before .before .before .before .before .loop .touched) (c .before .before .before .before .before .before .before .before .before .before .before .before .before .before .before .loop .write)) (c .before .before .before .before .before .before .before .before .before .before .before .before .before .before .before .before .before .before .before .before .before .before .before .args .n) (c .before .before .before .before .before .before .before .before .before .before .before .before .before .before .before .before .before .before .before .before .before .before .before .args .v) (c .before .before .before .before .before .before .before .before .before .before .before .before .before .before .before .loop .m) (c .before .before .before .before .before .before .before .before .before .before .before .before .before .before .before .loop .i) (c .before .before .before .before .before .before .before .before .before .before .before .before .before .before .before .before .before .before .before .before .before .before .before .pre .2) (c .before .before .before .before .before .before .before .before .before .before .before .before .before .before .before .before .before .before .before .before .before .before .before .pre .1) (c .before .before .before .before .before .before .before .before .before .before .before .before .before .before .before .loop .inv))
-
-sub-m : tie.Need-sub-m Inv-loop μ-loop
-sub-m c = omega (arith, c .before .before .before .before .before .before .before .before .before .before .before .before .before .before .before .before .before .before .before .before .before .before .before .before .before .before .before .before .before .loop-test .taken)
-
-loop-less : tie.Need-loop-less Inv-loop μ-loop
-loop-less c = omega (arith, c .before .before .before .before .before .before .before .before .before .before .before .before .before .before .before .before .before .before .before .before .before .before .before .before .before .before .before .before .before .loop-test .taken)
+merge-requires c κs = (in-loop c .loop-test .taken, omega (arith, in-loop c .before .loop .inv .few, entry (c .before .before .before .before .before .before .before .before .before) .pre .1), joining-sized (rangesOf (entry (c .before .before .before .before .before .before .before .before .before) .args .node .now) (entry (c .before .before .before .before .before .before .before .before .before) .args .start .now) (entry (c .before .before .before .before .before .before .before .before .before) .args .end .now) (entry (c .before .before .before .before .before .before .before .before .before) .args .id .now) (entry (c .before .before .before .before .before .before .before .before .before) .args .stamp .now) (entry (c .before .before .before .before .before .before .before .before .before) .args .touched .now) (entry (c .before .before .before .before .before .before .before .before .before) .args .write .now)) (rangesOf (in-loop c .before .loop .node) (in-loop c .before .loop .start) (in-loop c .before .loop .end) (in-loop c .before .loop .id) (in-loop c .before .loop .stamp) (in-loop c .before .loop .touched) (in-loop c .before .loop .write)) (entry (c .before .before .before .before .before .before .before .before .before) .args .n) (entry (c .before .before .before .before .before .before .before .before .before) .args .v) (in-loop c .before .loop .m) (in-loop c .before .loop .i) (entry (c .before .before .before .before .before .before .before .before .before) .pre .2) (entry (c .before .before .before .before .before .before .before .before .before) .pre .1) (in-loop c .before .loop .inv))
 
 loop-again : tie.Need-loop-again Inv-loop μ-loop
-loop-again c = joining-yes (rangesOf (c .before .before .before .before .before .before .before .before .before .before .before .before .before .before .before .before .before .before .before .before .before .before .before .before .before .before .before .before .before .before .before .before .before .before .before .before .before .before .args .node .now) (c .before .before .before .before .before .before .before .before .before .before .before .before .before .before .before .before .before .before .before .before .before .before .before .before .before .before .before .before .before .before .before .before .before .before .before .before .before .before .args .start .now) (c .before .before .before .before .before .before .before .before .before .before .before .before .before .before .before .before .before .before .before .before .before .before .before .before .before .before .before .before .before .before .before .before .before .before .before .before .before .before .args .end .now) (c .before .before .before .before .before .before .before .before .before .before .before .before .before .before .before .before .before .before .before .before .before .before .before .before .before .before .before .before .before .before .before .before .before .before .before .before .before .before .args .id .now) (c .before .before .before .before .before .before .before .before .before .before .before .before .before .before .before .before .before .before .before .before .before .before .before .before .before .before .before .before .before .before .before .before .before .before .before .before .before .before .args .stamp .now) (c .before .before .before .before .before .before .before .before .before .before .before .before .before .before .before .before .before .before .before .before .before .before .before .before .before .before .before .before .before .before .before .before .before .before .before .before .before .before .args .touched .now) (c .before .before .before .before .before .before .before .before .before .before .before .before .before .before .before .before .before .before .before .before .before .before .before .before .before .before .before .before .before .before .before .before .before .before .before .before .before .before .args .write .now)) (rangesOf (c .before .before .before .before .before .before .before .before .before .before .before .before .before .before .before .before .before .before .before .before .before .before .before .before .before .before .before .before .before .before .loop .node) (c .before .before .before .before .before .before .before .before .before .before .before .before .before .before .before .before .before .before .before .before .before .before .before .before .before .before .before .before .before .before .loop .start) (c .before .before .before .before .before .before .before .before .before .before .before .before .before .before .before .before .before .before .before .before .before .before .before .before .before .before .before .before .before .before .loop .end) (c .before .before .before .before .before .before .before .before .before .before .before .before .before .before .before .before .before .before .before .before .before .before .before .before .before .before .before .before .before .before .loop .id) (c .before .before .before .before .before .before .before .before .before .before .before .before .before .before .before .before .before .before .before .before .before .before .before .before .before .before .before .before .before .before .loop .stamp) (c .before .before .before .before .before .before .before .before .before .before .before .before .before .before .before .before .before .before .before .before .before .before .before .before .before .before .before .before .before .before .loop .touched) (c .before .before .before .before .before .before .before .before .before .before .before .before .before .before .before .before .before .before .before .before .before .before .before .before .before .before .before .before .before .before .loop .write)) (c .before .before .before .before .before .before .before .before .before .before .before .before .before .before .before .before .before .before .before .before .before .before .before .before .before .before .before .before .before .before .before .before .before .before .before .before .before .before .args .n) (c .before .before .before .before .before .before .before .before .before .before .before .before .before .before .before .before .before .before .before .before .before .before .before .before .before .before .before .before .before .before .before .before .before .before .before .before .before .before .args .v) (c .before .before .before .before .before .before .before .before .before .before .before .before .before .before .before .before .before .before .before .before .before .before .before .before .before .before .before .before .before .before .loop .m) (c .before .before .before .before .before .before .before .before .before .before .before .before .before .before .before .before .before .before .before .before .before .before .before .before .before .before .before .before .before .before .loop .i) (c .before .before .before .before .before .before .before .before .before .before .before .before .before .before .before .before .before .before .before .before .before .before .before .before .before .before .before .before .before .before .before .before .before .before .before .before .before .before .pre .2) (c .before .before .before .before .before .before .before .before .before .before .before .before .before .before .before .before .before .before .before .before .before .before .before .before .before .before .before .before .before .before .before .before .before .before .before .before .before .before .pre .1) (c .before .before .before .before .before .before .before .before .before .before .before .before .before .before .before .before .before .before .before .before .before .before .before .before .before .before .before .before .before .before .loop .inv) (c .before .before .before .before .before .before .before .before .before .before .before .before .before .before .before .before .before .before .before .before .before .before .before .before .before .before .before .before .before .loop-test .taken) (sym (c .before .before .before .before .before .before .before .before .before .before .before .before .before .before .before .before .before .before .before .before .before .before .if1 .taken) ∙ c .before .before .before .before .before .before .before .before .before .before .before .before .before .before .before .before .before .before .before .before .before .before .before .joins-at .ensures) _ (c .before .before .before .before .before .before .before .before .before .before .before .before .before .before .merge .ensures)
+loop-again c = joining-yes (rangesOf (entry-2 c .args .node .now) (entry-2 c .args .start .now) (entry-2 c .args .end .now) (entry-2 c .args .id .now) (entry-2 c .args .stamp .now) (entry-2 c .args .touched .now) (entry-2 c .args .write .now)) (rangesOf (in-loop-2 c .before .loop .node) (in-loop-2 c .before .loop .start) (in-loop-2 c .before .loop .end) (in-loop-2 c .before .loop .id) (in-loop-2 c .before .loop .stamp) (in-loop-2 c .before .loop .touched) (in-loop-2 c .before .loop .write)) (entry-2 c .args .n) (entry-2 c .args .v) (in-loop-2 c .before .loop .m) (in-loop-2 c .before .loop .i) (entry-2 c .pre .2) (entry-2 c .pre .1) (in-loop-2 c .before .loop .inv) (in-loop-2 c .loop-test .taken) (sym (then1 c .if1 .taken) ∙ then1 c .before .joins-at .ensures) _ (after-merge c .merge .ensures)
 
 add-i : tie.Need-add-i Inv-loop μ-loop
-add-i c = omega (arith, c .before .before .before .before .before .before .before .loop-test .taken, c .before .before .before .before .before .before .before .before .loop .inv .few, c .before .before .before .before .before .before .before .before .before .before .before .before .before .before .before .before .pre .1)
+add-i c = omega (arith, c .before .before .before .before .before .before .before .loop-test .taken, c .before .before .before .before .before .before .before .before .loop .inv .few, entry (c .before .before) .pre .1)
 
 loop-again-2 : tie.Need-loop-again-2 Inv-loop μ-loop
-loop-again-2 c = joining-no (rangesOf (c .before .before .before .before .before .before .before .before .before .before .before .before .before .before .before .before .args .node .now) (c .before .before .before .before .before .before .before .before .before .before .before .before .before .before .before .before .args .start .now) (c .before .before .before .before .before .before .before .before .before .before .before .before .before .before .before .before .args .end .now) (c .before .before .before .before .before .before .before .before .before .before .before .before .before .before .before .before .args .id .now) (c .before .before .before .before .before .before .before .before .before .before .before .before .before .before .before .before .args .stamp .now) (c .before .before .before .before .before .before .before .before .before .before .before .before .before .before .before .before .args .touched .now) (c .before .before .before .before .before .before .before .before .before .before .before .before .before .before .before .before .args .write .now)) (rangesOf (c .before .before .before .before .before .before .before .before .loop .node) (c .before .before .before .before .before .before .before .before .loop .start) (c .before .before .before .before .before .before .before .before .loop .end) (c .before .before .before .before .before .before .before .before .loop .id) (c .before .before .before .before .before .before .before .before .loop .stamp) (c .before .before .before .before .before .before .before .before .loop .touched) (c .before .before .before .before .before .before .before .before .loop .write)) (c .before .before .before .before .before .before .before .before .before .before .before .before .before .before .before .before .args .n) (c .before .before .before .before .before .before .before .before .before .before .before .before .before .before .before .before .args .v) (c .before .before .before .before .before .before .before .before .loop .m) (c .before .before .before .before .before .before .before .before .loop .i) (c .before .before .before .before .before .before .before .before .before .before .before .before .before .before .before .before .pre .2) (c .before .before .before .before .before .before .before .before .before .before .before .before .before .before .before .before .pre .1) (c .before .before .before .before .before .before .before .before .loop .inv) (c .before .before .before .before .before .before .before .loop-test .taken) (sym (c .if1 .left) ∙ c .before .joins-at .ensures)
+loop-again-2 c = joining-no (rangesOf (entry (c .before .before) .args .node .now) (entry (c .before .before) .args .start .now) (entry (c .before .before) .args .end .now) (entry (c .before .before) .args .id .now) (entry (c .before .before) .args .stamp .now) (entry (c .before .before) .args .touched .now) (entry (c .before .before) .args .write .now)) (rangesOf (c .before .before .before .before .before .before .before .before .loop .node) (c .before .before .before .before .before .before .before .before .loop .start) (c .before .before .before .before .before .before .before .before .loop .end) (c .before .before .before .before .before .before .before .before .loop .id) (c .before .before .before .before .before .before .before .before .loop .stamp) (c .before .before .before .before .before .before .before .before .loop .touched) (c .before .before .before .before .before .before .before .before .loop .write)) (entry (c .before .before) .args .n) (entry (c .before .before) .args .v) (c .before .before .before .before .before .before .before .before .loop .m) (c .before .before .before .before .before .before .before .before .loop .i) (entry (c .before .before) .pre .2) (entry (c .before .before) .pre .1) (c .before .before .before .before .before .before .before .before .loop .inv) (c .before .before .before .before .before .before .before .loop-test .taken) (sym (c .if1 .left) ∙ c .before .joins-at .ensures)
 
 same-length : tie.Need-same-length Inv-loop μ-loop
 same-length c = joining-sized (rangesOf (c .before .before .before .before .before .before .before .before .before .args .node .now) (c .before .before .before .before .before .before .before .before .before .args .start .now) (c .before .before .before .before .before .before .before .before .before .args .end .now) (c .before .before .before .before .before .before .before .before .before .args .id .now) (c .before .before .before .before .before .before .before .before .before .args .stamp .now) (c .before .before .before .before .before .before .before .before .before .args .touched .now) (c .before .before .before .before .before .before .before .before .before .args .write .now)) (rangesOf (c .before .loop .node) (c .before .loop .start) (c .before .loop .end) (c .before .loop .id) (c .before .loop .stamp) (c .before .loop .touched) (c .before .loop .write)) (c .before .before .before .before .before .before .before .before .before .args .n) (c .before .before .before .before .before .before .before .before .before .args .v) (c .before .loop .m) (c .before .loop .i) (c .before .before .before .before .before .before .before .before .before .pre .2) (c .before .before .before .before .before .before .before .before .before .pre .1) (c .before .loop .inv) .node ∙ sym (c .before .before .before .before .before .before .before .before .before .pre .2 .node)
@@ -67,23 +80,8 @@ pub join-ranges-spec : {M : Type 1} → statement M
 join-ranges-spec =
     tie.close
     (tie.spec
-    Inv-loop
-    μ-loop
-    loop-holds
+    Inv-loop μ-loop loop-holds
     (λ c. omega (arith, c .loop .inv .size, c .loop .inv .few, c .before .before .before .before .before .before .before .before .pre .1))
-    joins-at-requires
-    merge-requires
-    sub-m
-    loop-less
-    loop-again
-    add-i
-    (λ c. omega (arith, c .before .before .before .before .before .before .before .loop-test .taken))
-    loop-again-2
-    same-length
-    same-length-2
-    same-length-3
-    same-length-4
-    same-length-5
-    same-length-6
-    same-length-7
-    returns)
+    joins-at-requires merge-requires (λ c. omega (arith, in-loop-2 c .loop-test .taken)) (λ c. omega (arith, in-loop-2 c .loop-test .taken)) loop-again
+    add-i (λ c. omega (arith, c .before .before .before .before .before .before .before .loop-test .taken)) loop-again-2 same-length same-length-2
+    same-length-3 same-length-4 same-length-5 same-length-6 same-length-7 returns)

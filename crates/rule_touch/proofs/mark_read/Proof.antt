@@ -12,10 +12,4 @@ mark-read-spec =
     tie.close
     (tie.spec
     (λ c. mark-off (c .before .before .args .counted) (c .before .before .args .sp) (c .before .before .args .marks .now) (c .if1 .taken))
-    (λ c. search needs)
-    (λ c. search needs)
-    (λ c κs. search needs)
-    (λ c. search needs)
-    (λ c. search needs)
-    (λ c. search needs)
-    returns-2)
+    (λ c. search needs) (λ c. search needs) (λ c κs. search needs) (λ c. search needs) (λ c. search needs) (λ c. search needs) returns-2)

@@ -18,6 +18,4 @@ pub read-bytes-spec : {M : Type 1} → statement M
 read-bytes-spec =
     tie.close
     (tie.spec
-    returns
-    (λ c κs. c .before .before .before .before .before .pre)
-    returns-2)
+    returns (λ c κs. c .before .before .before .before .before .pre) returns-2)

@@ -17,12 +17,8 @@ pub counter-of-spec : {M : Type 1} → statement M
 counter-of-spec =
     tie.close
     (tie.spec
-    (λ c κs. c .before .before .pre)
-    (λ c κs. c .before .before .pre)
-    (λ c κs. c .before .before .pre)
-    (λ c κs. c .before .before .pre)
-    (λ c κs. c .before .before .pre)
-    (λ c κs. c .before .before .pre .1)
+    (λ c κs. c .before .before .pre) (λ c κs. c .before .before .pre) (λ c κs. c .before .before .pre) (λ c κs. c .before .before .pre)
+    (λ c κs. c .before .before .pre) (λ c κs. c .before .before .pre .1)
     (λ c st same sound. by-number 0 st (c .before .before .before .args .s) (c .before .match .keys1) (c .store-held-blocks .ensures st (record { books = same; sound = sound })))
     (λ c st same sound. by-number 1 st (c .before .before .before .args .s) (c .before .match .keys2) (c .store-capacity-blocks .ensures st (record { books = same; sound = sound })))
     (λ c st same sound. by-number 2 st (c .before .before .before .args .s) (c .before .match .keys3) (c .store-pinned-blocks .ensures st (record { books = same; sound = sound })))

@@ -14,9 +14,13 @@ use Rattle.rust_store.proofs.scorebeetle_counter.Tie as tie
 abbrev state : tie.Start → State
 state z = stateFrom (z .args .parent .now) (z .args .depth .now) (z .args .len .now) (z .args .run .now) (z .args .words .now) (z .args .node .now) (z .args .start .now) (z .args .end .now) (z .args .id .now) (z .args .stamp .now) (z .args .touched .now) (z .args .write .now) (z .args .pin-node .now) (z .args .pin-start .now) (z .args .pin-end .now) (z .args .pin-count .now) (z .args .marks .now) (z .args .bytes .now) (z .args .books .now)
 
+-- earlier places of the function, by name
+abbrev entry : tie.After-shared-slice-known19 → tie.Start
+entry c = c .before .before .before .before .before .before .before .before .before .before .before .before .before .before .before .before .before .before .before
+
 returns : tie.Need-returns
 returns c =
-    let z = c .before .before .before .before .before .before .before .before .before .before .before .before .before .before .before .before .before .before .before .before .before in
+    let z = entry (c .before .before) in
     let e = counter-unsound (z .args .which) (state z) (z .args .s) (says-no (c .before .state-is-sound .result) (c .if1 .taken) (c .before .state-is-sound .ensures)) in
     telling countAt countValues (refused 1) (count-told _) (z .args .answer .now) e (counter-numbered (z .args .which) (state z) (z .args .s)) (z .pre .0) refl refl
 
@@ -27,7 +31,7 @@ counter-of-requires c κs =
 
 returns-2 : tie.Need-returns-2
 returns-2 c =
-    let z = c .before .before .before .before .before .before .before .before .before .before .before .before .before .before .before .before .before .before .before .before .before .before .before .before in
+    let z = entry (c .before .before .before .before .before) in
     let k = c .before .before .counter-of in
     let e = counter-whole (z .args .which) (state z) (z .args .s) (k .ensures (state z) refl (says-yes (c .before .before .before .before .state-is-sound .result) (c .before .before .before .if1 .left) (c .before .before .before .before .state-is-sound .ensures))) in
     telling countAt countValues (countOf (k .result)) (count-told _) (z .args .answer .now) e (counter-numbered (z .args .which) (state z) (z .args .s)) (z .pre .0) (c .count .ensures .0) (c .count .ensures .1)
@@ -36,8 +40,4 @@ pub scorebeetle-counter-spec : {M : Type 1} → statement M
 scorebeetle-counter-spec =
     tie.close
     (tie.spec
-    (λ c κs. c .before .before .before .before .before .before .before .before .before .before .before .before .before .before .before .before .before .before .before .pre .1)
-    returns
-    counter-of-requires
-    (λ c κs. tt)
-    returns-2)
+    (λ c κs. entry c .pre .1) returns counter-of-requires (λ c κs. tt) returns-2)

@@ -11,8 +11,9 @@ known-left c = c .before .before .before .before .before .before .before .before
 abbrev public-left : tie.After-plain2 → tie.After-pin-source2
 public-left c = c .before .before .before .before .before .before .before .before .before .before .before
 
-pin-source-requires : tie.Need-pin-source-requires
-pin-source-requires c κs = c .before .before .before .before .before .before .before .before .before .before .before .before .before .before .before .before .before .before .before .before .before .before .before .before .before .pre (c .before .before .before .before .before .if1 .taken)
+-- earlier places of the function, by name
+abbrev entry : tie.After-pin-source-arg5 → tie.Start
+entry c = c .before .before .before .before .before .before .before .before .before .before .before .before .before .before .before .before .before .before .before .before .before .before .before .before .before
 
 returns : tie.Need-returns
 returns c =
@@ -28,19 +29,14 @@ pub scorebeetle-pin-source-spec : {M : Type 1} → statement M
 scorebeetle-pin-source-spec =
     tie.close
     (tie.spec
-    pin-source-requires
-    (λ c κs. tt)
+    (λ c κs. entry c .pre (c .before .before .before .before .before .if1 .taken)) (λ c κs. tt)
     (λ c. known-left c .pin-source .kept .1 .1 .1 .1 .1 .1 .1 .1 .1 .1 .1 .1 .0)
     (λ c. known-left c .pin-source .kept .1 .1 .1 .1 .1 .1 .1 .1 .1 .1 .1 .1 .1 .0)
     (λ c. known-left c .pin-source .kept .1 .1 .1 .1 .1 .1 .1 .1 .1 .1 .1 .1 .1 .1 .0)
     (λ c. known-left c .pin-source .kept .1 .1 .1 .1 .1 .1 .1 .1 .1 .1 .1 .1 .1 .1 .1 .0)
-    (λ c. known-left c .pin-source .kept .1 .1 .1 .1 .1 .1 .1 .1 .1 .1 .1 .1 .1 .1 .1 .1 .1 .1 .0)
-    returns
-    (λ c κs. tt)
-    (λ c κs. tt)
+    (λ c. known-left c .pin-source .kept .1 .1 .1 .1 .1 .1 .1 .1 .1 .1 .1 .1 .1 .1 .1 .1 .1 .1 .0) returns (λ c κs. tt) (λ c κs. tt)
     (λ c. public-left c .pin-source2 .kept .1 .1 .1 .1 .1 .1 .1 .1 .1 .1 .1 .1 .0)
     (λ c. public-left c .pin-source2 .kept .1 .1 .1 .1 .1 .1 .1 .1 .1 .1 .1 .1 .1 .0)
     (λ c. public-left c .pin-source2 .kept .1 .1 .1 .1 .1 .1 .1 .1 .1 .1 .1 .1 .1 .1 .0)
     (λ c. public-left c .pin-source2 .kept .1 .1 .1 .1 .1 .1 .1 .1 .1 .1 .1 .1 .1 .1 .1 .0)
-    (λ c. public-left c .pin-source2 .kept .1 .1 .1 .1 .1 .1 .1 .1 .1 .1 .1 .1 .1 .1 .1 .1 .1 .1 .0)
-    returns-2)
+    (λ c. public-left c .pin-source2 .kept .1 .1 .1 .1 .1 .1 .1 .1 .1 .1 .1 .1 .1 .1 .1 .1 .1 .1 .0) returns-2)

@@ -18,8 +18,12 @@ public-begun c = c .before .before .before .before .before .before .before .befo
 abbrev public-left : tie.After-store-expired2 → tie.After-store-expire2
 public-left c = c .before .before .before .before .before .before .before .before .before .before .before .before .before .before .before .before .before .before .before .before .before .before .before .before .before .before .before .before .before .before .before .before
 
-store-expire-requires : tie.Need-store-expire-requires
-store-expire-requires c κs = c .before .before .before .before .before .before .before .before .before .before .before .before .before .before .before .before .before .before .before .before .before .before .before .before .before .before .before .before .before .before .before .before .before .before .before .before .before .before .before .before .before .pre .1 (c .before .before .before .before .before .before .before .before .before .before .before .before .before .before .before .if1 .taken)
+-- earlier places of the function, by name
+abbrev then1 : tie.After-store-expire-arg15 → tie.Then1
+then1 c = c .before .before .before .before .before .before .before .before .before .before .before .before .before .before .before
+
+abbrev entry : tie.After-store-expire-arg15 → tie.Start
+entry c = then1 c .before .before .before .before .before .before .before .before .before .before .before .before .before .before .before .before .before .before .before .before .before .before .before .before .before .before
 
 returns : tie.Need-returns
 returns c =
@@ -37,13 +41,9 @@ pub scorebeetle-store-expire-spec : {M : Type 1} → statement M
 scorebeetle-store-expire-spec =
     tie.close
     (tie.spec
-    store-expire-requires
-    (λ c κs. tt)
-    (λ c. known-left c .store-expire .kept .1 .1 .1 .1 .1 .0)
-    (λ c. known-left c .store-expire .kept .1 .1 .1 .1 .1 .1 .0)
-    (λ c. known-left c .store-expire .kept .1 .1 .1 .1 .1 .1 .1 .0)
-    (λ c. known-left c .store-expire .kept .1 .1 .1 .1 .1 .1 .1 .1 .0)
-    (λ c. known-left c .store-expire .kept .1 .1 .1 .1 .1 .1 .1 .1 .1 .0)
+    (λ c κs. entry c .pre .1 (then1 c .if1 .taken)) (λ c κs. tt) (λ c. known-left c .store-expire .kept .1 .1 .1 .1 .1 .0)
+    (λ c. known-left c .store-expire .kept .1 .1 .1 .1 .1 .1 .0) (λ c. known-left c .store-expire .kept .1 .1 .1 .1 .1 .1 .1 .0)
+    (λ c. known-left c .store-expire .kept .1 .1 .1 .1 .1 .1 .1 .1 .0) (λ c. known-left c .store-expire .kept .1 .1 .1 .1 .1 .1 .1 .1 .1 .0)
     (λ c. known-left c .store-expire .kept .1 .1 .1 .1 .1 .1 .1 .1 .1 .1 .0)
     (λ c. known-left c .store-expire .kept .1 .1 .1 .1 .1 .1 .1 .1 .1 .1 .1 .0)
     (λ c. known-left c .store-expire .kept .1 .1 .1 .1 .1 .1 .1 .1 .1 .1 .1 .1 .1 .1 .1 .1 .0)
@@ -53,16 +53,10 @@ scorebeetle-store-expire-spec =
     (λ c. known-left c .store-expire .kept .1 .1 .1 .1 .1 .1 .1 .1 .1 .1 .1 .1 .1 .1 .1 .1 .1 .1 .1 .1 .1 .0)
     (λ c. known-left c .store-expire .kept .1 .1 .1 .1 .1 .1 .1 .1 .1 .1 .1 .1 .1 .1 .1 .1 .1 .1 .1 .1 .1 .1 .0)
     (λ c. known-left c .store-expire .kept .1 .1 .1 .1 .1 .1 .1 .1 .1 .1 .1 .1 .1 .1 .1 .1 .1 .1 .1 .1 .1 .1 .1 .0)
-    (λ c. known-left c .store-expire .kept .1 .1 .1 .1 .1 .1 .1 .1 .1 .1 .1 .1 .1 .1 .1 .1 .1 .1 .1 .1 .1 .1 .1 .1 .0)
-    returns
-    (λ c κs. tt)
-    (λ c κs. tt)
-    (λ c. public-left c .store-expire2 .kept .1 .1 .1 .1 .1 .0)
-    (λ c. public-left c .store-expire2 .kept .1 .1 .1 .1 .1 .1 .0)
-    (λ c. public-left c .store-expire2 .kept .1 .1 .1 .1 .1 .1 .1 .0)
-    (λ c. public-left c .store-expire2 .kept .1 .1 .1 .1 .1 .1 .1 .1 .0)
-    (λ c. public-left c .store-expire2 .kept .1 .1 .1 .1 .1 .1 .1 .1 .1 .0)
-    (λ c. public-left c .store-expire2 .kept .1 .1 .1 .1 .1 .1 .1 .1 .1 .1 .0)
+    (λ c. known-left c .store-expire .kept .1 .1 .1 .1 .1 .1 .1 .1 .1 .1 .1 .1 .1 .1 .1 .1 .1 .1 .1 .1 .1 .1 .1 .1 .0) returns (λ c κs. tt)
+    (λ c κs. tt) (λ c. public-left c .store-expire2 .kept .1 .1 .1 .1 .1 .0) (λ c. public-left c .store-expire2 .kept .1 .1 .1 .1 .1 .1 .0)
+    (λ c. public-left c .store-expire2 .kept .1 .1 .1 .1 .1 .1 .1 .0) (λ c. public-left c .store-expire2 .kept .1 .1 .1 .1 .1 .1 .1 .1 .0)
+    (λ c. public-left c .store-expire2 .kept .1 .1 .1 .1 .1 .1 .1 .1 .1 .0) (λ c. public-left c .store-expire2 .kept .1 .1 .1 .1 .1 .1 .1 .1 .1 .1 .0)
     (λ c. public-left c .store-expire2 .kept .1 .1 .1 .1 .1 .1 .1 .1 .1 .1 .1 .0)
     (λ c. public-left c .store-expire2 .kept .1 .1 .1 .1 .1 .1 .1 .1 .1 .1 .1 .1 .1 .1 .1 .1 .0)
     (λ c. public-left c .store-expire2 .kept .1 .1 .1 .1 .1 .1 .1 .1 .1 .1 .1 .1 .1 .1 .1 .1 .1 .1 .0)
@@ -71,5 +65,4 @@ scorebeetle-store-expire-spec =
     (λ c. public-left c .store-expire2 .kept .1 .1 .1 .1 .1 .1 .1 .1 .1 .1 .1 .1 .1 .1 .1 .1 .1 .1 .1 .1 .1 .0)
     (λ c. public-left c .store-expire2 .kept .1 .1 .1 .1 .1 .1 .1 .1 .1 .1 .1 .1 .1 .1 .1 .1 .1 .1 .1 .1 .1 .1 .0)
     (λ c. public-left c .store-expire2 .kept .1 .1 .1 .1 .1 .1 .1 .1 .1 .1 .1 .1 .1 .1 .1 .1 .1 .1 .1 .1 .1 .1 .1 .0)
-    (λ c. public-left c .store-expire2 .kept .1 .1 .1 .1 .1 .1 .1 .1 .1 .1 .1 .1 .1 .1 .1 .1 .1 .1 .1 .1 .1 .1 .1 .1 .0)
-    returns-2)
+    (λ c. public-left c .store-expire2 .kept .1 .1 .1 .1 .1 .1 .1 .1 .1 .1 .1 .1 .1 .1 .1 .1 .1 .1 .1 .1 .1 .1 .1 .1 .0) returns-2)

@@ -18,8 +18,12 @@ public-begun c = c .before .before .before .before .before .before .before .befo
 abbrev public-left : tie.After-store-inserted2 → tie.After-store-insert2
 public-left c = c .before .before .before .before .before .before .before .before .before .before .before .before .before .before .before .before .before .before .before .before .before .before .before .before .before .before .before .before .before .before .before .before
 
-store-insert-requires : tie.Need-store-insert-requires
-store-insert-requires c κs = c .before .before .before .before .before .before .before .before .before .before .before .before .before .before .before .before .before .before .before .before .before .before .before .before .before .before .before .before .before .before .before .before .before .before .before .before .before .before .before .before .before .pre .1 (c .before .before .before .before .before .before .before .before .before .before .before .before .before .before .before .if1 .taken)
+-- earlier places of the function, by name
+abbrev then1 : tie.After-store-insert-arg15 → tie.Then1
+then1 c = c .before .before .before .before .before .before .before .before .before .before .before .before .before .before .before
+
+abbrev entry : tie.After-store-insert-arg15 → tie.Start
+entry c = then1 c .before .before .before .before .before .before .before .before .before .before .before .before .before .before .before .before .before .before .before .before .before .before .before .before .before .before
 
 returns : tie.Need-returns
 returns c =
@@ -37,13 +41,9 @@ pub scorebeetle-store-insert-spec : {M : Type 1} → statement M
 scorebeetle-store-insert-spec =
     tie.close
     (tie.spec
-    store-insert-requires
-    (λ c κs. tt)
-    (λ c. known-left c .store-insert .kept .1 .1 .1 .1 .1 .0)
-    (λ c. known-left c .store-insert .kept .1 .1 .1 .1 .1 .1 .0)
-    (λ c. known-left c .store-insert .kept .1 .1 .1 .1 .1 .1 .1 .0)
-    (λ c. known-left c .store-insert .kept .1 .1 .1 .1 .1 .1 .1 .1 .0)
-    (λ c. known-left c .store-insert .kept .1 .1 .1 .1 .1 .1 .1 .1 .1 .0)
+    (λ c κs. entry c .pre .1 (then1 c .if1 .taken)) (λ c κs. tt) (λ c. known-left c .store-insert .kept .1 .1 .1 .1 .1 .0)
+    (λ c. known-left c .store-insert .kept .1 .1 .1 .1 .1 .1 .0) (λ c. known-left c .store-insert .kept .1 .1 .1 .1 .1 .1 .1 .0)
+    (λ c. known-left c .store-insert .kept .1 .1 .1 .1 .1 .1 .1 .1 .0) (λ c. known-left c .store-insert .kept .1 .1 .1 .1 .1 .1 .1 .1 .1 .0)
     (λ c. known-left c .store-insert .kept .1 .1 .1 .1 .1 .1 .1 .1 .1 .1 .0)
     (λ c. known-left c .store-insert .kept .1 .1 .1 .1 .1 .1 .1 .1 .1 .1 .1 .0)
     (λ c. known-left c .store-insert .kept .1 .1 .1 .1 .1 .1 .1 .1 .1 .1 .1 .1 .1 .1 .1 .1 .0)
@@ -53,16 +53,10 @@ scorebeetle-store-insert-spec =
     (λ c. known-left c .store-insert .kept .1 .1 .1 .1 .1 .1 .1 .1 .1 .1 .1 .1 .1 .1 .1 .1 .1 .1 .1 .1 .1 .0)
     (λ c. known-left c .store-insert .kept .1 .1 .1 .1 .1 .1 .1 .1 .1 .1 .1 .1 .1 .1 .1 .1 .1 .1 .1 .1 .1 .1 .0)
     (λ c. known-left c .store-insert .kept .1 .1 .1 .1 .1 .1 .1 .1 .1 .1 .1 .1 .1 .1 .1 .1 .1 .1 .1 .1 .1 .1 .1 .0)
-    (λ c. known-left c .store-insert .kept .1 .1 .1 .1 .1 .1 .1 .1 .1 .1 .1 .1 .1 .1 .1 .1 .1 .1 .1 .1 .1 .1 .1 .1 .0)
-    returns
-    (λ c κs. tt)
-    (λ c κs. tt)
-    (λ c. public-left c .store-insert2 .kept .1 .1 .1 .1 .1 .0)
-    (λ c. public-left c .store-insert2 .kept .1 .1 .1 .1 .1 .1 .0)
-    (λ c. public-left c .store-insert2 .kept .1 .1 .1 .1 .1 .1 .1 .0)
-    (λ c. public-left c .store-insert2 .kept .1 .1 .1 .1 .1 .1 .1 .1 .0)
-    (λ c. public-left c .store-insert2 .kept .1 .1 .1 .1 .1 .1 .1 .1 .1 .0)
-    (λ c. public-left c .store-insert2 .kept .1 .1 .1 .1 .1 .1 .1 .1 .1 .1 .0)
+    (λ c. known-left c .store-insert .kept .1 .1 .1 .1 .1 .1 .1 .1 .1 .1 .1 .1 .1 .1 .1 .1 .1 .1 .1 .1 .1 .1 .1 .1 .0) returns (λ c κs. tt)
+    (λ c κs. tt) (λ c. public-left c .store-insert2 .kept .1 .1 .1 .1 .1 .0) (λ c. public-left c .store-insert2 .kept .1 .1 .1 .1 .1 .1 .0)
+    (λ c. public-left c .store-insert2 .kept .1 .1 .1 .1 .1 .1 .1 .0) (λ c. public-left c .store-insert2 .kept .1 .1 .1 .1 .1 .1 .1 .1 .0)
+    (λ c. public-left c .store-insert2 .kept .1 .1 .1 .1 .1 .1 .1 .1 .1 .0) (λ c. public-left c .store-insert2 .kept .1 .1 .1 .1 .1 .1 .1 .1 .1 .1 .0)
     (λ c. public-left c .store-insert2 .kept .1 .1 .1 .1 .1 .1 .1 .1 .1 .1 .1 .0)
     (λ c. public-left c .store-insert2 .kept .1 .1 .1 .1 .1 .1 .1 .1 .1 .1 .1 .1 .1 .1 .1 .1 .0)
     (λ c. public-left c .store-insert2 .kept .1 .1 .1 .1 .1 .1 .1 .1 .1 .1 .1 .1 .1 .1 .1 .1 .1 .1 .0)
@@ -71,5 +65,4 @@ scorebeetle-store-insert-spec =
     (λ c. public-left c .store-insert2 .kept .1 .1 .1 .1 .1 .1 .1 .1 .1 .1 .1 .1 .1 .1 .1 .1 .1 .1 .1 .1 .1 .0)
     (λ c. public-left c .store-insert2 .kept .1 .1 .1 .1 .1 .1 .1 .1 .1 .1 .1 .1 .1 .1 .1 .1 .1 .1 .1 .1 .1 .1 .0)
     (λ c. public-left c .store-insert2 .kept .1 .1 .1 .1 .1 .1 .1 .1 .1 .1 .1 .1 .1 .1 .1 .1 .1 .1 .1 .1 .1 .1 .1 .0)
-    (λ c. public-left c .store-insert2 .kept .1 .1 .1 .1 .1 .1 .1 .1 .1 .1 .1 .1 .1 .1 .1 .1 .1 .1 .1 .1 .1 .1 .1 .1 .0)
-    returns-2)
+    (λ c. public-left c .store-insert2 .kept .1 .1 .1 .1 .1 .1 .1 .1 .1 .1 .1 .1 .1 .1 .1 .1 .1 .1 .1 .1 .1 .1 .1 .1 .0) returns-2)

@@ -18,8 +18,12 @@ public-begun c = c .before .before .before .before .before .before .before .befo
 abbrev public-left : tie.After-store-removed2 → tie.After-store-remove2
 public-left c = c .before .before .before .before .before .before .before .before .before .before .before .before .before .before .before .before .before .before .before .before .before .before
 
-store-remove-requires : tie.Need-store-remove-requires
-store-remove-requires c κs = c .before .before .before .before .before .before .before .before .before .before .before .before .before .before .before .before .before .before .before .before .before .before .before .before .before .before .before .before .before .before .before .pre .1 (c .before .before .before .before .before .before .before .before .before .before .if1 .taken)
+-- earlier places of the function, by name
+abbrev then1 : tie.After-store-remove-arg10 → tie.Then1
+then1 c = c .before .before .before .before .before .before .before .before .before .before
+
+abbrev entry : tie.After-store-remove-arg10 → tie.Start
+entry c = then1 c .before .before .before .before .before .before .before .before .before .before .before .before .before .before .before .before .before .before .before .before .before
 
 returns : tie.Need-returns
 returns c =
@@ -37,29 +41,18 @@ pub scorebeetle-store-remove-spec : {M : Type 1} → statement M
 scorebeetle-store-remove-spec =
     tie.close
     (tie.spec
-    store-remove-requires
-    (λ c κs. tt)
-    (λ c. known-left c .store-remove .kept .1 .1 .1 .1 .1 .0)
-    (λ c. known-left c .store-remove .kept .1 .1 .1 .1 .1 .1 .0)
-    (λ c. known-left c .store-remove .kept .1 .1 .1 .1 .1 .1 .1 .0)
-    (λ c. known-left c .store-remove .kept .1 .1 .1 .1 .1 .1 .1 .1 .0)
-    (λ c. known-left c .store-remove .kept .1 .1 .1 .1 .1 .1 .1 .1 .1 .0)
+    (λ c κs. entry c .pre .1 (then1 c .if1 .taken)) (λ c κs. tt) (λ c. known-left c .store-remove .kept .1 .1 .1 .1 .1 .0)
+    (λ c. known-left c .store-remove .kept .1 .1 .1 .1 .1 .1 .0) (λ c. known-left c .store-remove .kept .1 .1 .1 .1 .1 .1 .1 .0)
+    (λ c. known-left c .store-remove .kept .1 .1 .1 .1 .1 .1 .1 .1 .0) (λ c. known-left c .store-remove .kept .1 .1 .1 .1 .1 .1 .1 .1 .1 .0)
     (λ c. known-left c .store-remove .kept .1 .1 .1 .1 .1 .1 .1 .1 .1 .1 .0)
     (λ c. known-left c .store-remove .kept .1 .1 .1 .1 .1 .1 .1 .1 .1 .1 .1 .0)
     (λ c. known-left c .store-remove .kept .1 .1 .1 .1 .1 .1 .1 .1 .1 .1 .1 .1 .1 .1 .1 .1 .0)
     (λ c. known-left c .store-remove .kept .1 .1 .1 .1 .1 .1 .1 .1 .1 .1 .1 .1 .1 .1 .1 .1 .1 .1 .0)
-    (λ c. known-left c .store-remove .kept .1 .1 .1 .1 .1 .1 .1 .1 .1 .1 .1 .1 .1 .1 .1 .1 .1 .1 .1 .0)
-    returns
-    (λ c κs. tt)
-    (λ c κs. tt)
-    (λ c. public-left c .store-remove2 .kept .1 .1 .1 .1 .1 .0)
-    (λ c. public-left c .store-remove2 .kept .1 .1 .1 .1 .1 .1 .0)
-    (λ c. public-left c .store-remove2 .kept .1 .1 .1 .1 .1 .1 .1 .0)
-    (λ c. public-left c .store-remove2 .kept .1 .1 .1 .1 .1 .1 .1 .1 .0)
-    (λ c. public-left c .store-remove2 .kept .1 .1 .1 .1 .1 .1 .1 .1 .1 .0)
-    (λ c. public-left c .store-remove2 .kept .1 .1 .1 .1 .1 .1 .1 .1 .1 .1 .0)
+    (λ c. known-left c .store-remove .kept .1 .1 .1 .1 .1 .1 .1 .1 .1 .1 .1 .1 .1 .1 .1 .1 .1 .1 .1 .0) returns (λ c κs. tt) (λ c κs. tt)
+    (λ c. public-left c .store-remove2 .kept .1 .1 .1 .1 .1 .0) (λ c. public-left c .store-remove2 .kept .1 .1 .1 .1 .1 .1 .0)
+    (λ c. public-left c .store-remove2 .kept .1 .1 .1 .1 .1 .1 .1 .0) (λ c. public-left c .store-remove2 .kept .1 .1 .1 .1 .1 .1 .1 .1 .0)
+    (λ c. public-left c .store-remove2 .kept .1 .1 .1 .1 .1 .1 .1 .1 .1 .0) (λ c. public-left c .store-remove2 .kept .1 .1 .1 .1 .1 .1 .1 .1 .1 .1 .0)
     (λ c. public-left c .store-remove2 .kept .1 .1 .1 .1 .1 .1 .1 .1 .1 .1 .1 .0)
     (λ c. public-left c .store-remove2 .kept .1 .1 .1 .1 .1 .1 .1 .1 .1 .1 .1 .1 .1 .1 .1 .1 .0)
     (λ c. public-left c .store-remove2 .kept .1 .1 .1 .1 .1 .1 .1 .1 .1 .1 .1 .1 .1 .1 .1 .1 .1 .1 .0)
-    (λ c. public-left c .store-remove2 .kept .1 .1 .1 .1 .1 .1 .1 .1 .1 .1 .1 .1 .1 .1 .1 .1 .1 .1 .1 .0)
-    returns-2)
+    (λ c. public-left c .store-remove2 .kept .1 .1 .1 .1 .1 .1 .1 .1 .1 .1 .1 .1 .1 .1 .1 .1 .1 .1 .1 .0) returns-2)

@@ -11,8 +11,9 @@ known-left c = c .before .before .before .before .before .before .before .before
 abbrev public-left : tie.After-plain2 → tie.After-unpin-source2
 public-left c = c .before .before .before .before .before .before .before .before .before .before .before
 
-unpin-source-requires : tie.Need-unpin-source-requires
-unpin-source-requires c κs = c .before .before .before .before .before .before .before .before .before .before .before .before .before .before .before .before .before .before .before .before .before .before .before .before .before .pre (c .before .before .before .before .before .if1 .taken)
+-- earlier places of the function, by name
+abbrev entry : tie.After-unpin-source-arg5 → tie.Start
+entry c = c .before .before .before .before .before .before .before .before .before .before .before .before .before .before .before .before .before .before .before .before .before .before .before .before .before
 
 returns : tie.Need-returns
 returns c =
@@ -28,19 +29,14 @@ pub scorebeetle-unpin-source-spec : {M : Type 1} → statement M
 scorebeetle-unpin-source-spec =
     tie.close
     (tie.spec
-    unpin-source-requires
-    (λ c κs. tt)
+    (λ c κs. entry c .pre (c .before .before .before .before .before .if1 .taken)) (λ c κs. tt)
     (λ c. known-left c .unpin-source .kept .1 .1 .1 .1 .1 .1 .1 .1 .1 .1 .1 .1 .0)
     (λ c. known-left c .unpin-source .kept .1 .1 .1 .1 .1 .1 .1 .1 .1 .1 .1 .1 .1 .0)
     (λ c. known-left c .unpin-source .kept .1 .1 .1 .1 .1 .1 .1 .1 .1 .1 .1 .1 .1 .1 .0)
     (λ c. known-left c .unpin-source .kept .1 .1 .1 .1 .1 .1 .1 .1 .1 .1 .1 .1 .1 .1 .1 .0)
-    (λ c. known-left c .unpin-source .kept .1 .1 .1 .1 .1 .1 .1 .1 .1 .1 .1 .1 .1 .1 .1 .1 .1 .1 .0)
-    returns
-    (λ c κs. tt)
-    (λ c κs. tt)
+    (λ c. known-left c .unpin-source .kept .1 .1 .1 .1 .1 .1 .1 .1 .1 .1 .1 .1 .1 .1 .1 .1 .1 .1 .0) returns (λ c κs. tt) (λ c κs. tt)
     (λ c. public-left c .unpin-source2 .kept .1 .1 .1 .1 .1 .1 .1 .1 .1 .1 .1 .1 .0)
     (λ c. public-left c .unpin-source2 .kept .1 .1 .1 .1 .1 .1 .1 .1 .1 .1 .1 .1 .1 .0)
     (λ c. public-left c .unpin-source2 .kept .1 .1 .1 .1 .1 .1 .1 .1 .1 .1 .1 .1 .1 .1 .0)
     (λ c. public-left c .unpin-source2 .kept .1 .1 .1 .1 .1 .1 .1 .1 .1 .1 .1 .1 .1 .1 .1 .0)
-    (λ c. public-left c .unpin-source2 .kept .1 .1 .1 .1 .1 .1 .1 .1 .1 .1 .1 .1 .1 .1 .1 .1 .1 .1 .0)
-    returns-2)
+    (λ c. public-left c .unpin-source2 .kept .1 .1 .1 .1 .1 .1 .1 .1 .1 .1 .1 .1 .1 .1 .1 .1 .1 .1 .0) returns-2)

@@ -18,8 +18,12 @@ public-begun c = c .before .before .before .before .before .before .before .befo
 abbrev public-left : tie.After-inserted2 → tie.After-insert2
 public-left c = c .before .before .before .before .before .before .before .before .before .before .before .before .before .before .before .before .before .before .before .before .before .before .before .before .before .before .before .before .before .before .before .before .before .before .before .before .before .before .before .before .before .before
 
-insert-requires : tie.Need-insert-requires
-insert-requires c κs = c .before .before .before .before .before .before .before .before .before .before .before .before .before .before .before .before .before .before .before .before .before .before .before .before .before .before .before .before .before .before .before .before .before .before .before .before .before .before .before .before .before .before .before .pre .1 (c .before .before .before .before .before .before .before .before .before .before .before .before .before .before .before .before .before .before .before .before .if1 .taken)
+-- earlier places of the function, by name
+abbrev then1 : tie.After-insert-arg20 → tie.Then1
+then1 c = c .before .before .before .before .before .before .before .before .before .before .before .before .before .before .before .before .before .before .before .before
+
+abbrev entry : tie.After-insert-arg20 → tie.Start
+entry c = then1 c .before .before .before .before .before .before .before .before .before .before .before .before .before .before .before .before .before .before .before .before .before .before .before
 
 returns : tie.Need-returns
 returns c =
@@ -37,49 +41,29 @@ pub scorebeetle-insert-spec : {M : Type 1} → statement M
 scorebeetle-insert-spec =
     tie.close
     (tie.spec
-    insert-requires
-    (λ c κs. tt)
-    (λ c. known-left c .insert .kept .0)
-    (λ c. known-left c .insert .kept .1 .0)
-    (λ c. known-left c .insert .kept .1 .1 .0)
-    (λ c. known-left c .insert .kept .1 .1 .1 .0)
-    (λ c. known-left c .insert .kept .1 .1 .1 .1 .0)
-    (λ c. known-left c .insert .kept .1 .1 .1 .1 .1 .0)
-    (λ c. known-left c .insert .kept .1 .1 .1 .1 .1 .1 .0)
-    (λ c. known-left c .insert .kept .1 .1 .1 .1 .1 .1 .1 .0)
-    (λ c. known-left c .insert .kept .1 .1 .1 .1 .1 .1 .1 .1 .0)
-    (λ c. known-left c .insert .kept .1 .1 .1 .1 .1 .1 .1 .1 .1 .0)
-    (λ c. known-left c .insert .kept .1 .1 .1 .1 .1 .1 .1 .1 .1 .1 .0)
-    (λ c. known-left c .insert .kept .1 .1 .1 .1 .1 .1 .1 .1 .1 .1 .1 .0)
-    (λ c. known-left c .insert .kept .1 .1 .1 .1 .1 .1 .1 .1 .1 .1 .1 .1 .0)
+    (λ c κs. entry c .pre .1 (then1 c .if1 .taken)) (λ c κs. tt) (λ c. known-left c .insert .kept .0) (λ c. known-left c .insert .kept .1 .0)
+    (λ c. known-left c .insert .kept .1 .1 .0) (λ c. known-left c .insert .kept .1 .1 .1 .0) (λ c. known-left c .insert .kept .1 .1 .1 .1 .0)
+    (λ c. known-left c .insert .kept .1 .1 .1 .1 .1 .0) (λ c. known-left c .insert .kept .1 .1 .1 .1 .1 .1 .0)
+    (λ c. known-left c .insert .kept .1 .1 .1 .1 .1 .1 .1 .0) (λ c. known-left c .insert .kept .1 .1 .1 .1 .1 .1 .1 .1 .0)
+    (λ c. known-left c .insert .kept .1 .1 .1 .1 .1 .1 .1 .1 .1 .0) (λ c. known-left c .insert .kept .1 .1 .1 .1 .1 .1 .1 .1 .1 .1 .0)
+    (λ c. known-left c .insert .kept .1 .1 .1 .1 .1 .1 .1 .1 .1 .1 .1 .0) (λ c. known-left c .insert .kept .1 .1 .1 .1 .1 .1 .1 .1 .1 .1 .1 .1 .0)
     (λ c. known-left c .insert .kept .1 .1 .1 .1 .1 .1 .1 .1 .1 .1 .1 .1 .1 .0)
     (λ c. known-left c .insert .kept .1 .1 .1 .1 .1 .1 .1 .1 .1 .1 .1 .1 .1 .1 .0)
     (λ c. known-left c .insert .kept .1 .1 .1 .1 .1 .1 .1 .1 .1 .1 .1 .1 .1 .1 .1 .0)
     (λ c. known-left c .insert .kept .1 .1 .1 .1 .1 .1 .1 .1 .1 .1 .1 .1 .1 .1 .1 .1 .0)
     (λ c. known-left c .insert .kept .1 .1 .1 .1 .1 .1 .1 .1 .1 .1 .1 .1 .1 .1 .1 .1 .1 .1 .0)
     (λ c. known-left c .insert .kept .1 .1 .1 .1 .1 .1 .1 .1 .1 .1 .1 .1 .1 .1 .1 .1 .1 .1 .1 .0)
-    (λ c. known-left c .insert .kept .1 .1 .1 .1 .1 .1 .1 .1 .1 .1 .1 .1 .1 .1 .1 .1 .1 .1 .1 .1 .0)
-    returns
-    (λ c κs. tt)
-    (λ c κs. tt)
-    (λ c. public-left c .insert2 .kept .0)
-    (λ c. public-left c .insert2 .kept .1 .0)
-    (λ c. public-left c .insert2 .kept .1 .1 .0)
-    (λ c. public-left c .insert2 .kept .1 .1 .1 .0)
-    (λ c. public-left c .insert2 .kept .1 .1 .1 .1 .0)
-    (λ c. public-left c .insert2 .kept .1 .1 .1 .1 .1 .0)
-    (λ c. public-left c .insert2 .kept .1 .1 .1 .1 .1 .1 .0)
-    (λ c. public-left c .insert2 .kept .1 .1 .1 .1 .1 .1 .1 .0)
-    (λ c. public-left c .insert2 .kept .1 .1 .1 .1 .1 .1 .1 .1 .0)
-    (λ c. public-left c .insert2 .kept .1 .1 .1 .1 .1 .1 .1 .1 .1 .0)
-    (λ c. public-left c .insert2 .kept .1 .1 .1 .1 .1 .1 .1 .1 .1 .1 .0)
-    (λ c. public-left c .insert2 .kept .1 .1 .1 .1 .1 .1 .1 .1 .1 .1 .1 .0)
-    (λ c. public-left c .insert2 .kept .1 .1 .1 .1 .1 .1 .1 .1 .1 .1 .1 .1 .0)
+    (λ c. known-left c .insert .kept .1 .1 .1 .1 .1 .1 .1 .1 .1 .1 .1 .1 .1 .1 .1 .1 .1 .1 .1 .1 .0) returns (λ c κs. tt) (λ c κs. tt)
+    (λ c. public-left c .insert2 .kept .0) (λ c. public-left c .insert2 .kept .1 .0) (λ c. public-left c .insert2 .kept .1 .1 .0)
+    (λ c. public-left c .insert2 .kept .1 .1 .1 .0) (λ c. public-left c .insert2 .kept .1 .1 .1 .1 .0)
+    (λ c. public-left c .insert2 .kept .1 .1 .1 .1 .1 .0) (λ c. public-left c .insert2 .kept .1 .1 .1 .1 .1 .1 .0)
+    (λ c. public-left c .insert2 .kept .1 .1 .1 .1 .1 .1 .1 .0) (λ c. public-left c .insert2 .kept .1 .1 .1 .1 .1 .1 .1 .1 .0)
+    (λ c. public-left c .insert2 .kept .1 .1 .1 .1 .1 .1 .1 .1 .1 .0) (λ c. public-left c .insert2 .kept .1 .1 .1 .1 .1 .1 .1 .1 .1 .1 .0)
+    (λ c. public-left c .insert2 .kept .1 .1 .1 .1 .1 .1 .1 .1 .1 .1 .1 .0) (λ c. public-left c .insert2 .kept .1 .1 .1 .1 .1 .1 .1 .1 .1 .1 .1 .1 .0)
     (λ c. public-left c .insert2 .kept .1 .1 .1 .1 .1 .1 .1 .1 .1 .1 .1 .1 .1 .0)
     (λ c. public-left c .insert2 .kept .1 .1 .1 .1 .1 .1 .1 .1 .1 .1 .1 .1 .1 .1 .0)
     (λ c. public-left c .insert2 .kept .1 .1 .1 .1 .1 .1 .1 .1 .1 .1 .1 .1 .1 .1 .1 .0)
     (λ c. public-left c .insert2 .kept .1 .1 .1 .1 .1 .1 .1 .1 .1 .1 .1 .1 .1 .1 .1 .1 .0)
     (λ c. public-left c .insert2 .kept .1 .1 .1 .1 .1 .1 .1 .1 .1 .1 .1 .1 .1 .1 .1 .1 .1 .1 .0)
     (λ c. public-left c .insert2 .kept .1 .1 .1 .1 .1 .1 .1 .1 .1 .1 .1 .1 .1 .1 .1 .1 .1 .1 .1 .0)
-    (λ c. public-left c .insert2 .kept .1 .1 .1 .1 .1 .1 .1 .1 .1 .1 .1 .1 .1 .1 .1 .1 .1 .1 .1 .1 .0)
-    returns-2)
+    (λ c. public-left c .insert2 .kept .1 .1 .1 .1 .1 .1 .1 .1 .1 .1 .1 .1 .1 .1 .1 .1 .1 .1 .1 .1 .0) returns-2)

@@ -18,8 +18,9 @@ public-begun c = c .before .before .before .before .before .before .before .befo
 abbrev public-left : tie.After-looked2 → tie.After-lookup2
 public-left c = c .before .before .before .before .before .before .before .before .before .before .before .before .before .before
 
-lookup-requires : tie.Need-lookup-requires
-lookup-requires c κs = c .before .before .before .before .before .before .before .before .before .before .before .before .before .before .before .before .before .before .before .before .before .before .before .before .before .before .before .before .before .before .before .before .before .before .pre .1 (c .before .before .before .before .before .before .if1 .taken)
+-- earlier places of the function, by name
+abbrev entry : tie.After-lookup-arg6 → tie.Start
+entry c = c .before .before .before .before .before .before .before .before .before .before .before .before .before .before .before .before .before .before .before .before .before .before .before .before .before .before .before .before .before .before .before .before .before .before
 
 returns : tie.Need-returns
 returns c =
@@ -37,21 +38,16 @@ pub scorebeetle-lookup-spec : {M : Type 1} → statement M
 scorebeetle-lookup-spec =
     tie.close
     (tie.spec
-    lookup-requires
-    (λ c κs. tt)
+    (λ c κs. entry c .pre .1 (c .before .before .before .before .before .before .if1 .taken)) (λ c κs. tt)
     (λ c. known-left c .lookup .kept .1 .1 .1 .1 .1 .1 .1 .1 .1 .1 .1 .1 .1 .1 .1 .1 .1 .1 .1 .0)
     (λ c. known-left c .lookup .kept .1 .1 .1 .1 .1 .1 .1 .1 .1 .1 .1 .1 .1 .1 .1 .1 .1 .1 .1 .1 .0)
     (λ c. known-left c .lookup .kept .1 .1 .1 .1 .1 .1 .1 .1 .1 .1 .1 .1 .1 .1 .1 .1 .1 .1 .1 .1 .1 .0)
     (λ c. known-left c .lookup .kept .1 .1 .1 .1 .1 .1 .1 .1 .1 .1 .1 .1 .1 .1 .1 .1 .1 .1 .1 .1 .1 .1 .0)
     (λ c. known-left c .lookup .kept .1 .1 .1 .1 .1 .1 .1 .1 .1 .1 .1 .1 .1 .1 .1 .1 .1 .1 .1 .1 .1 .1 .1 .0)
-    (λ c. known-left c .lookup .kept .1 .1 .1 .1 .1 .1 .1 .1 .1 .1 .1 .1 .1 .1 .1 .1 .1 .1 .1 .1 .1 .1 .1 .1 .0)
-    returns
-    (λ c κs. tt)
-    (λ c κs. tt)
+    (λ c. known-left c .lookup .kept .1 .1 .1 .1 .1 .1 .1 .1 .1 .1 .1 .1 .1 .1 .1 .1 .1 .1 .1 .1 .1 .1 .1 .1 .0) returns (λ c κs. tt) (λ c κs. tt)
     (λ c. public-left c .lookup2 .kept .1 .1 .1 .1 .1 .1 .1 .1 .1 .1 .1 .1 .1 .1 .1 .1 .1 .1 .1 .0)
     (λ c. public-left c .lookup2 .kept .1 .1 .1 .1 .1 .1 .1 .1 .1 .1 .1 .1 .1 .1 .1 .1 .1 .1 .1 .1 .0)
     (λ c. public-left c .lookup2 .kept .1 .1 .1 .1 .1 .1 .1 .1 .1 .1 .1 .1 .1 .1 .1 .1 .1 .1 .1 .1 .1 .0)
     (λ c. public-left c .lookup2 .kept .1 .1 .1 .1 .1 .1 .1 .1 .1 .1 .1 .1 .1 .1 .1 .1 .1 .1 .1 .1 .1 .1 .0)
     (λ c. public-left c .lookup2 .kept .1 .1 .1 .1 .1 .1 .1 .1 .1 .1 .1 .1 .1 .1 .1 .1 .1 .1 .1 .1 .1 .1 .1 .0)
-    (λ c. public-left c .lookup2 .kept .1 .1 .1 .1 .1 .1 .1 .1 .1 .1 .1 .1 .1 .1 .1 .1 .1 .1 .1 .1 .1 .1 .1 .1 .0)
-    returns-2)
+    (λ c. public-left c .lookup2 .kept .1 .1 .1 .1 .1 .1 .1 .1 .1 .1 .1 .1 .1 .1 .1 .1 .1 .1 .1 .1 .1 .1 .1 .1 .0) returns-2)

@@ -18,8 +18,9 @@ public-begun c = c .before .before .before .before .before .before .before .befo
 abbrev public-left : tie.After-path2 → tie.After-resolve2
 public-left c = c .before .before .before .before .before .before
 
-resolve-requires : tie.Need-resolve-requires
-resolve-requires c κs = c .before .before .before .before .before .before .before .before .before .before .before .before .before .before .before .before .before .before .before .before .before .before .before .before .before .pre .1 (c .before .before .if1 .taken)
+-- earlier places of the function, by name
+abbrev entry : tie.After-resolve-arg2 → tie.Start
+entry c = c .before .before .before .before .before .before .before .before .before .before .before .before .before .before .before .before .before .before .before .before .before .before .before .before .before
 
 returns : tie.Need-returns
 returns c =
@@ -37,13 +38,8 @@ pub scorebeetle-resolve-spec : {M : Type 1} → statement M
 scorebeetle-resolve-spec =
     tie.close
     (tie.spec
-    resolve-requires
-    (λ c κs. tt)
+    (λ c κs. entry c .pre .1 (c .before .before .if1 .taken)) (λ c κs. tt)
     (λ c. known-left c .resolve .kept .1 .1 .1 .1 .1 .1 .1 .1 .1 .1 .1 .1 .1 .1 .1 .1 .1 .1 .1 .0)
-    (λ c. known-left c .resolve .kept .1 .1 .1 .1 .1 .1 .1 .1 .1 .1 .1 .1 .1 .1 .1 .1 .1 .1 .1 .1 .0)
-    returns
-    (λ c κs. tt)
-    (λ c κs. tt)
+    (λ c. known-left c .resolve .kept .1 .1 .1 .1 .1 .1 .1 .1 .1 .1 .1 .1 .1 .1 .1 .1 .1 .1 .1 .1 .0) returns (λ c κs. tt) (λ c κs. tt)
     (λ c. public-left c .resolve2 .kept .1 .1 .1 .1 .1 .1 .1 .1 .1 .1 .1 .1 .1 .1 .1 .1 .1 .1 .1 .0)
-    (λ c. public-left c .resolve2 .kept .1 .1 .1 .1 .1 .1 .1 .1 .1 .1 .1 .1 .1 .1 .1 .1 .1 .1 .1 .1 .0)
-    returns-2)
+    (λ c. public-left c .resolve2 .kept .1 .1 .1 .1 .1 .1 .1 .1 .1 .1 .1 .1 .1 .1 .1 .1 .1 .1 .1 .1 .0) returns-2)

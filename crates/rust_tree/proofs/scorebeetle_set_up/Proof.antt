@@ -17,13 +17,7 @@ pub scorebeetle-set-up-spec : {M : Type 1} → statement M
 scorebeetle-set-up-spec =
     tie.close
     (tie.spec
-    (λ c κs. tt)
-    (λ c κs. tt)
-    (λ c. left c .set-up .kept .0)
-    (λ c. left c .set-up .kept .1 .0)
-    (λ c. left c .set-up .kept .1 .1 .0)
-    (λ c. left c .set-up .kept .1 .1 .1 .0)
-    (λ c. left c .set-up .kept .1 .1 .1 .1 .1 .1 .1 .1 .1 .1 .1 .1 .1 .1 .1 .1 .0)
+    (λ c κs. tt) (λ c κs. tt) (λ c. left c .set-up .kept .0) (λ c. left c .set-up .kept .1 .0) (λ c. left c .set-up .kept .1 .1 .0)
+    (λ c. left c .set-up .kept .1 .1 .1 .0) (λ c. left c .set-up .kept .1 .1 .1 .1 .1 .1 .1 .1 .1 .1 .1 .1 .1 .1 .1 .1 .0)
     (λ c. left c .set-up .kept .1 .1 .1 .1 .1 .1 .1 .1 .1 .1 .1 .1 .1 .1 .1 .1 .1 .0)
-    (λ c. left c .set-up .kept .1 .1 .1 .1 .1 .1 .1 .1 .1 .1 .1 .1 .1 .1 .1 .1 .1 .1 .0)
-    returns)
+    (λ c. left c .set-up .kept .1 .1 .1 .1 .1 .1 .1 .1 .1 .1 .1 .1 .1 .1 .1 .1 .1 .1 .0) returns)

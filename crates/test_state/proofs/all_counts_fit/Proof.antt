@@ -30,14 +30,5 @@ pub all-counts-fit-spec : {M : Type 1} → statement M
 all-counts-fit-spec =
     tie.close
     (tie.spec
-    Inv-loop
-    μ-loop
-    (λ c. search needs)
-    (λ c. (omega arith, each-none _ 0))
-    (λ c κs. search needs)
-    (λ c κs. search needs)
-    returns
-    (λ c. search needs)
-    (λ c. search needs)
-    loop-again
-    (λ c. each-whole (c .before .loop .inv .1) (c .loop-test .left)))
+    Inv-loop μ-loop (λ c. search needs) (λ c. (omega arith, each-none _ 0)) (λ c κs. search needs) (λ c κs. search needs) returns (λ c. search needs)
+    (λ c. search needs) loop-again (λ c. each-whole (c .before .loop .inv .1) (c .loop-test .left)))

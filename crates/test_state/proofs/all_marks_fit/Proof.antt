@@ -17,25 +17,29 @@ Inv-loop len node marks books nodes stores s₀ s = (0 ≤ s) × Each 0 s (Store
 abbrev μ-loop : tie.MeasureT-loop
 μ-loop len node marks books nodes stores s₀ s = stores - s
 
+-- earlier places of the function, by name
+abbrev entry : tie.After-struct-known Inv-loop μ-loop → tie.Start Inv-loop μ-loop
+entry c = c .before .before .before .before .before .before .before .before .before .before
+
 add-marks-fit : tie.Need-add-marks-fit Inv-loop μ-loop
 add-marks-fit c =
     let k =
-    counts-by (c .before .before .before .before .before .before .before .before .before .before .args .books .now) (c .before .before .before .loop .s) (c .before .book-of .ensures)
-    (c .before .before .before .before .before .before .before .before .before .before .pre .6 (c .before .before .before .loop .s) (c .before .before .before .loop .inv .0) (c .before .before .loop-test .taken)) in
+    counts-by (entry c .args .books .now) (c .before .before .before .loop .s) (c .before .book-of .ensures)
+    (entry c .pre .6 (c .before .before .before .loop .s) (c .before .before .before .loop .inv .0) (c .before .before .loop-test .taken)) in
     omega (arith, k .records)
 
 marks-fit-requires : tie.Need-marks-fit-requires Inv-loop μ-loop
 marks-fit-requires c κs =
     let k =
-    counts-by (c .before .before .before .before .before .before .before .before .before .before .args .books .now) (c .before .before .before .loop .s) (c .before .book-of .ensures)
-    (c .before .before .before .before .before .before .before .before .before .before .pre .6 (c .before .before .before .loop .s) (c .before .before .before .loop .inv .0) (c .before .before .loop-test .taken)) in
-    let p = c .before .before .before .before .before .before .before .before .before .before .pre in
-    let on = each-by (c .before .before .before .before .before .before .before .before .before .before .args .books .now) (c .before .before .before .loop .s) (c .before .book-of .ensures) (p .7 (c .before .before .before .loop .s) (c .before .before .before .loop .inv .0) (c .before .before .loop-test .taken)) in
+    counts-by (entry c .args .books .now) (c .before .before .before .loop .s) (c .before .book-of .ensures)
+    (entry c .pre .6 (c .before .before .before .loop .s) (c .before .before .before .loop .inv .0) (c .before .before .loop-test .taken)) in
+    let p = entry c .pre in
+    let on = each-by (entry c .args .books .now) (c .before .before .before .loop .s) (c .before .book-of .ensures) (p .7 (c .before .before .before .loop .s) (c .before .before .before .loop .inv .0) (c .before .before .loop-test .taken)) in
     (omega arith, omega (arith, k .records), omega arith, p .2, p .3, omega (arith, k .records), omega arith, on)
 
 returns : tie.Need-returns Inv-loop μ-loop
 returns c =
-    let a = c .before .before .before .before .before .before .before .before .before .before .before .before .args in
+    let a = entry (c .before .before) .args in
     let said =
     marks-said (a .books .now) (c .before .before .before .before .before .loop .s) (c .before .before .before .book-of .ensures) (a .len .now) (a .node .now) (a .marks .now) (nodesIn (a .books .now))
     (c .before .marks-fit .result) (c .before .marks-fit .ensures) in
@@ -43,7 +47,7 @@ returns c =
 
 loop-again : tie.Need-loop-again Inv-loop μ-loop
 loop-again c =
-    let a = c .before .before .before .before .before .before .before .before .before .before .before .before .args in
+    let a = entry (c .before .before) .args in
     let said =
     marks-said (a .books .now) (c .before .before .before .before .before .loop .s) (c .before .before .before .book-of .ensures) (a .len .now) (a .node .now) (a .marks .now) (nodesIn (a .books .now))
     (c .before .marks-fit .result) (c .before .marks-fit .ensures) in
@@ -53,18 +57,6 @@ pub all-marks-fit-spec : {M : Type 1} → statement M
 all-marks-fit-spec =
     tie.close
     (tie.spec
-    Inv-loop
-    μ-loop
-    (λ c. search needs)
-    (λ c. search needs)
-    (λ c. (omega arith, each-none _ 0))
-    (λ c κs. search needs)
-    (λ c. search needs)
-    add-marks-fit
-    (λ c. search needs)
-    marks-fit-requires
-    returns
-    (λ c. search needs)
-    (λ c. search needs)
-    loop-again
+    Inv-loop μ-loop (λ c. search needs) (λ c. search needs) (λ c. (omega arith, each-none _ 0)) (λ c κs. search needs) (λ c. search needs)
+    add-marks-fit (λ c. search needs) marks-fit-requires returns (λ c. search needs) (λ c. search needs) loop-again
     (λ c. each-whole (c .before .loop .inv .1) (c .loop-test .left)))

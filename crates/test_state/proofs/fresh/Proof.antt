@@ -35,15 +35,5 @@ pub fresh-spec : {M : Type 1} → statement M
 fresh-spec =
     tie.close
     (tie.spec
-    Inv-loop
-    μ-loop
-    (λ c. record { hi = omega arith; here = c .pre .3; past = λ k g l. absurd (omega arith) })
-    (λ c. search needs)
-    (λ c. search needs)
-    (λ c. search needs)
-    returns
-    (λ c. search needs)
-    (λ c. search needs)
-    loop-less
-    loop-again
-    returns-2)
+    Inv-loop μ-loop (λ c. record { hi = omega arith; here = c .pre .3; past = λ k g l. absurd (omega arith) }) (λ c. search needs) (λ c. search needs)
+    (λ c. search needs) returns (λ c. search needs) (λ c. search needs) loop-less loop-again returns-2)

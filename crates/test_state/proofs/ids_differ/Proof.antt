@@ -26,13 +26,20 @@ fresh-requires c κs =
     let h = m .heads .top (idBucket (c .before .before .before .before .before .before .before .before .before .args .id .now) (c .before .before .before .before .loop .i)) in
     (omega arith, omega (arith, m .nprev), chain-less (m .chain) h, m .heads .link _)
 
+-- earlier places of the function, by name
+abbrev entry : tie.Then2 Inv-loop μ-loop → tie.Start Inv-loop μ-loop
+entry c = c .before .before .before .before .before .before .before .before .before .before .before
+
+abbrev entry-2 : tie.Else2 Inv-loop μ-loop → tie.Start Inv-loop μ-loop
+entry-2 c = c .before .before .before .before .before .before .before .before .before .before .before
+
 returns : tie.Need-returns Inv-loop μ-loop
 unfolding Fresh Differ
-returns c = met-miss (c .before .before .before .before .before .before .loop .inv) (c .before .before .before .before .before .loop-test .taken) (live-by (c .before .before .before .before .before .before .before .before .before .before .before .args .books .now) (c .before .before .before .before .before .before .loop .i) (omega (arith, c .before .before .before .before .before .before .before .before .before .before .before .pre .1)) (c .before .before .before .before .before .before .before .records-of .ensures) (c .before .before .before .before .if1 .left)) (says-no (c .before .fresh .result) (c .if2 .taken) (c .before .fresh .ensures))
+returns c = met-miss (c .before .before .before .before .before .before .loop .inv) (c .before .before .before .before .before .loop-test .taken) (live-by (entry c .args .books .now) (c .before .before .before .before .before .before .loop .i) (omega (arith, entry c .pre .1)) (c .before .before .before .before .before .before .before .records-of .ensures) (c .before .before .before .before .if1 .left)) (says-no (c .before .fresh .result) (c .if2 .taken) (c .before .fresh .ensures))
 
 loop-again-2 : tie.Need-loop-again-2 Inv-loop μ-loop
 unfolding Fresh
-loop-again-2 c = met-add (c .before .before .before .before .before .before .loop .inv) (λ j k h. rw h) (λ j k h. sym h) (omega arith) (omega arith) (live-by (c .before .before .before .before .before .before .before .before .before .before .before .args .books .now) (c .before .before .before .before .before .before .loop .i) (omega (arith, c .before .before .before .before .before .before .before .before .before .before .before .pre .1)) (c .before .before .before .before .before .before .before .records-of .ensures) (c .before .before .before .before .if1 .left)) (says-yes (c .before .fresh .result) (c .if2 .left) (c .before .fresh .ensures))
+loop-again-2 c = met-add (c .before .before .before .before .before .before .loop .inv) (λ j k h. rw h) (λ j k h. sym h) (omega arith) (omega arith) (live-by (entry-2 c .args .books .now) (c .before .before .before .before .before .before .loop .i) (omega (arith, entry-2 c .pre .1)) (c .before .before .before .before .before .before .before .records-of .ensures) (c .before .before .before .before .if1 .left)) (says-yes (c .before .fresh .result) (c .if2 .left) (c .before .fresh .ensures))
 
 returns-2 : tie.Need-returns-2 Inv-loop μ-loop
 unfolding Differ
@@ -42,28 +49,8 @@ pub ids-differ-spec : {M : Type 1} → statement M
 ids-differ-spec =
     tie.close
     (tie.spec
-    Inv-loop
-    μ-loop
-    (λ c. search needs)
-    (λ c κs. search needs)
-    (λ c. search needs)
-    (λ c. met-none 1024 _ _ _)
-    (λ c. search needs)
-    (λ c. search needs)
-    (λ c. search needs)
-    (λ c. search needs)
-    loop-again
-    (λ c. search needs)
-    (λ c. search needs)
-    (λ c. search needs)
-    (λ c. omega (arith, c .before .before .before .loop .inv .nlast))
-    (λ c. sym (c .before .before .before .before .loop .inv .nprev))
-    fresh-requires
-    returns
-    (λ c. search needs)
-    (λ c. omega (arith, c .before .before .before .before .before .before .loop .inv .nprev))
-    (λ c. search needs)
-    (λ c. omega (arith, c .before .before .before .before .before .before .loop .inv .nlast))
-    (λ c. search needs)
-    loop-again-2
-    returns-2)
+    Inv-loop μ-loop (λ c. search needs) (λ c κs. search needs) (λ c. search needs) (λ c. met-none 1024 _ _ _) (λ c. search needs) (λ c. search needs)
+    (λ c. search needs) (λ c. search needs) loop-again (λ c. search needs) (λ c. search needs) (λ c. search needs)
+    (λ c. omega (arith, c .before .before .before .loop .inv .nlast)) (λ c. sym (c .before .before .before .before .loop .inv .nprev)) fresh-requires
+    returns (λ c. search needs) (λ c. omega (arith, c .before .before .before .before .before .before .loop .inv .nprev)) (λ c. search needs)
+    (λ c. omega (arith, c .before .before .before .before .before .before .loop .inv .nlast)) (λ c. search needs) loop-again-2 returns-2)

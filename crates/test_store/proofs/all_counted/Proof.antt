@@ -14,20 +14,11 @@ Inv-loop count a b i₀ i = (a ≤ i) × Each a i (CountedAt count)
 abbrev μ-loop : tie.MeasureT-loop
 μ-loop count a b i₀ i = b - i
 
-returns : tie.Need-returns Inv-loop μ-loop
-returns c = λ all. omega (arith, all (c .before .before .before .loop .i) (c .before .before .before .loop .inv .0) (c .before .before .loop-test .taken))
-
 pub all-counted-spec : {M : Type 1} → statement M
 all-counted-spec =
     tie.close
     (tie.spec
-    Inv-loop
-    μ-loop
-    (λ c. (omega arith, each-none _ _))
-    (λ c. search needs)
-    (λ c. search needs)
-    returns
-    (λ c. search needs)
-    (λ c. search needs)
-    (λ c. (omega arith, each-more (c .before .before .before .loop .inv .1) (omega arith)))
+    Inv-loop μ-loop (λ c. (omega arith, each-none _ _)) (λ c. search needs) (λ c. search needs)
+    (λ c. λ all. omega (arith, all (c .before .before .before .loop .i) (c .before .before .before .loop .inv .0) (c .before .before .loop-test .taken)))
+    (λ c. search needs) (λ c. search needs) (λ c. (omega arith, each-more (c .before .before .before .loop .inv .1) (omega arith)))
     (λ c. each-whole (c .before .loop .inv .1) (c .loop-test .left)))

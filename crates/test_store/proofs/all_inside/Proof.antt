@@ -15,26 +15,13 @@ Inv-loop len node start end nodes a b i₀ i = (a ≤ i) × Each a i (InsideAt l
 abbrev μ-loop : tie.MeasureT-loop
 μ-loop len node start end nodes a b i₀ i = b - i
 
-loop-holds : tie.Need-loop-holds Inv-loop μ-loop
-loop-holds c = (omega arith, each-none _ _)
-
-inside-requires : tie.Need-inside-requires Inv-loop μ-loop
-inside-requires c κs = search needs
-
 returns : tie.Need-returns Inv-loop μ-loop
 returns c = each-not (c .before .before .before .loop .inv .0) (c .before .before .loop-test .taken) (says-no (c .before .inside .result) (c .if1 .taken) (c .before .inside .ensures))
-
-add-i : tie.Need-add-i Inv-loop μ-loop
-add-i c = search needs
-
-loop-less : tie.Need-loop-less Inv-loop μ-loop
-loop-less c = search needs
 
 loop-again : tie.Need-loop-again Inv-loop μ-loop
 loop-again c = (omega arith, each-more (c .before .before .before .loop .inv .1) (says-yes (c .before .inside .result) (c .if1 .left) (c .before .inside .ensures)))
 
-returns-2 : tie.Need-returns-2 Inv-loop μ-loop
-returns-2 c = each-whole (c .before .loop .inv .1) (c .loop-test .left)
-
 pub all-inside-spec : {M : Type 1} → statement M
-all-inside-spec = tie.close (tie.spec Inv-loop μ-loop loop-holds inside-requires returns add-i loop-less loop-again returns-2)
+all-inside-spec = tie.close (tie.spec
+    Inv-loop μ-loop (λ c. (omega arith, each-none _ _)) (λ c κs. search needs) returns (λ c. search needs) (λ c. search needs) loop-again
+    (λ c. each-whole (c .before .loop .inv .1) (c .loop-test .left)))

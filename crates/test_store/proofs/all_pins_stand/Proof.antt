@@ -25,14 +25,5 @@ pub all-pins-stand-spec : {M : Type 1} → statement M
 all-pins-stand-spec =
     tie.close
     (tie.spec
-    Inv-loop
-    μ-loop
-    (λ c. search needs)
-    (λ c. (omega arith, pairs-none _ _))
-    (λ c. search needs)
-    (λ c κs. search needs)
-    returns
-    (λ c. search needs)
-    (λ c. search needs)
-    loop-again
-    (λ c. pairs-whole (c .before .loop .inv .1) (c .loop-test .left)))
+    Inv-loop μ-loop (λ c. search needs) (λ c. (omega arith, pairs-none _ _)) (λ c. search needs) (λ c κs. search needs) returns (λ c. search needs)
+    (λ c. search needs) loop-again (λ c. pairs-whole (c .before .loop .inv .1) (c .loop-test .left)))

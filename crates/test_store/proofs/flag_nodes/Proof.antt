@@ -27,14 +27,6 @@ pub flag-nodes-spec : {M : Type 1} → statement M
 flag-nodes-spec =
     tie.close
     (tie.spec
-    Inv-loop
-    μ-loop
-    (λ c. (omega arith, omega arith, c .pre .4))
-    (λ c. search needs)
-    (λ c. search needs)
-    (λ c. search needs)
-    mul-flags
-    element-write-flags
-    (λ c. search needs)
-    loop-again
+    Inv-loop μ-loop (λ c. (omega arith, omega arith, c .pre .4)) (λ c. search needs) (λ c. search needs) (λ c. search needs) mul-flags
+    element-write-flags (λ c. search needs) loop-again
     (λ c. let e : c .before .loop .i ≡ c .before .before .args .b = omega arith in rw (← e) (c .before .loop .inv .2)))

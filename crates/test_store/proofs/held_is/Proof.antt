@@ -37,18 +37,6 @@ pub held-is-spec : {M : Type 1} → statement M
 held-is-spec =
     tie.close
     (tie.spec
-    Inv-loop
-    μ-loop
-    loop-holds
-    (λ c. search needs)
-    (λ c. search needs)
-    (λ c. search needs)
-    (λ c. search needs)
-    (λ c. search needs)
-    (λ c. omega (arith, at-hand (c .before .before)))
-    (λ c. let h = at-hand (c .before .before) in omega arith)
-    (λ c. search needs)
-    (λ c. search needs)
-    loop-again
-    (λ c. λ e. c .if1 .taken (summed (c .before) ∙ sym e))
-    (λ c. sym (c .if1 .left) ∙ summed (c .before)))
+    Inv-loop μ-loop loop-holds (λ c. search needs) (λ c. search needs) (λ c. search needs) (λ c. search needs) (λ c. search needs)
+    (λ c. omega (arith, at-hand (c .before .before))) (λ c. let h = at-hand (c .before .before) in omega arith) (λ c. search needs) (λ c. search needs)
+    loop-again (λ c. λ e. c .if1 .taken (summed (c .before) ∙ sym e)) (λ c. sym (c .if1 .left) ∙ summed (c .before)))

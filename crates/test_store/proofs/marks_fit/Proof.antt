@@ -36,13 +36,5 @@ pub marks-fit-spec : {M : Type 1} → statement M
 marks-fit-spec =
     tie.close
     (tie.spec
-    Inv-loop
-    μ-loop
-    flag-nodes-requires
-    (λ c. (omega arith, each-none _ 0, c .flag-nodes .ensures))
-    mark-fits-requires
-    returns
-    (λ c. search needs)
-    (λ c. search needs)
-    loop-again
-    (λ c. each-whole (c .before .loop .inv .1) (c .loop-test .left)))
+    Inv-loop μ-loop flag-nodes-requires (λ c. (omega arith, each-none _ 0, c .flag-nodes .ensures)) mark-fits-requires returns (λ c. search needs)
+    (λ c. search needs) loop-again (λ c. each-whole (c .before .loop .inv .1) (c .loop-test .left)))

@@ -46,22 +46,7 @@ pub pinned-is-spec : {M : Type 1} → statement M
 pinned-is-spec =
     tie.close
     (tie.spec
-    Inv-loop
-    μ-loop
-    loop-holds
-    (λ c. search needs)
-    (λ c. search needs)
-    (λ c. search needs)
-    returns
-    (λ c. search needs)
-    (λ c. search needs)
-    (λ c. search needs)
-    (λ c. search needs)
-    (λ c. omega (arith, at-hand (c .before .before .before .before)))
-    (λ c. omega (arith, small (c .before .before)))
-    (λ c. let h = small (c .before .before) in omega arith)
-    (λ c. search needs)
-    (λ c. search needs)
-    loop-again
-    (λ c. λ e. c .if2 .taken (summed (c .before) ∙ sym e))
-    (λ c. sym (c .if2 .left) ∙ summed (c .before)))
+    Inv-loop μ-loop loop-holds (λ c. search needs) (λ c. search needs) (λ c. search needs) returns (λ c. search needs) (λ c. search needs)
+    (λ c. search needs) (λ c. search needs) (λ c. omega (arith, at-hand (c .before .before .before .before)))
+    (λ c. omega (arith, small (c .before .before))) (λ c. let h = small (c .before .before) in omega arith) (λ c. search needs) (λ c. search needs)
+    loop-again (λ c. λ e. c .if2 .taken (summed (c .before) ∙ sym e)) (λ c. sym (c .if2 .left) ∙ summed (c .before)))

@@ -9,15 +9,22 @@ use Rattle.test_store.proofs.records_fit.Tie as tie
 all-stand-requires : tie.Need-all-stand-requires
 all-stand-requires c κs = (omega arith, omega arith, omega arith, omega arith, omega arith, filled (says-yes (c .before .all-inside .result) (c .if1 .left) (c .before .all-inside .ensures)))
 
+-- earlier places of the function, by name
+abbrev entry : tie.Else4 → tie.Start
+entry c = c .before .before .before .before .before .before .before .before .before .before .before .before .before .before .before
+
+abbrev else1 : tie.Else6 → tie.Else1
+else1 c = c .before .before .before .before .before .before .before .before .before .before
+
 held-is-requires : tie.Need-held-is-requires
 held-is-requires c κs =
-    let p = c .before .before .before .before .before .before .before .before .before .before .before .before .before .before .before .pre in
+    let p = entry c .pre in
     (p .0, p .1, omega arith, omega arith, ends-by (p .9) (says-yes (c .before .before .before .before .before .before .before .all-inside .result) (c .before .before .before .before .before .before .if1 .left) (c .before .before .before .before .before .before .before .all-inside .ensures)))
 
 returns-7 : tie.Need-returns-7
 returns-7 c =
     record {
-      inside = (says-yes (c .before .before .before .before .before .before .before .before .before .before .before .all-inside .result) (c .before .before .before .before .before .before .before .before .before .before .if1 .left) (c .before .before .before .before .before .before .before .before .before .before .before .all-inside .ensures));
+      inside = (says-yes (else1 c .before .all-inside .result) (else1 c .if1 .left) (else1 c .before .all-inside .ensures));
       stand = (says-yes (c .before .before .before .before .before .before .before .before .before .all-stand .result) (c .before .before .before .before .before .before .before .before .if2 .left) (c .before .before .before .before .before .before .before .before .before .all-stand .ensures));
       numbered = (says-yes (c .before .before .before .before .before .before .before .all-numbered .result) (c .before .before .before .before .before .before .if3 .left) (c .before .before .before .before .before .before .before .all-numbered .ensures));
       finite = (says-yes (c .before .before .before .before .before .all-finite .result) (c .before .before .before .before .if4 .left) (c .before .before .before .before .before .all-finite .ensures));
@@ -31,15 +38,10 @@ records-fit-spec =
     (tie.spec
     (λ c. omega arith)
     (λ c κs. let p = c .before .before .before .before .before .before .before .pre in (p .2, omega arith, omega arith, omega arith))
-    (λ c. λ h. (says-no (c .before .all-inside .result) (c .if1 .taken) (c .before .all-inside .ensures)) (h .inside))
-    all-stand-requires
+    (λ c. λ h. (says-no (c .before .all-inside .result) (c .if1 .taken) (c .before .all-inside .ensures)) (h .inside)) all-stand-requires
     (λ c. λ h. (says-no (c .before .all-stand .result) (c .if2 .taken) (c .before .all-stand .ensures)) (h .stand))
     (λ c κs. (omega arith, omega arith))
-    (λ c. λ h. (says-no (c .before .all-numbered .result) (c .if3 .taken) (c .before .all-numbered .ensures)) (h .numbered))
-    (λ c κs. omega arith)
-    (λ c. λ h. (says-no (c .before .all-finite .result) (c .if4 .taken) (c .before .all-finite .ensures)) (h .finite))
-    held-is-requires
-    (λ c. λ h. (says-no (c .before .held-is .result) (c .if5 .taken) (c .before .held-is .ensures)) (h .sum))
-    (λ c κs. search needs)
-    (λ c. λ h. (says-no (c .before .none-at-zero .result) (c .if6 .taken) (c .before .none-at-zero .ensures)) (h .empty))
-    returns-7)
+    (λ c. λ h. (says-no (c .before .all-numbered .result) (c .if3 .taken) (c .before .all-numbered .ensures)) (h .numbered)) (λ c κs. omega arith)
+    (λ c. λ h. (says-no (c .before .all-finite .result) (c .if4 .taken) (c .before .all-finite .ensures)) (h .finite)) held-is-requires
+    (λ c. λ h. (says-no (c .before .held-is .result) (c .if5 .taken) (c .before .held-is .ensures)) (h .sum)) (λ c κs. search needs)
+    (λ c. λ h. (says-no (c .before .none-at-zero .result) (c .if6 .taken) (c .before .none-at-zero .ensures)) (h .empty)) returns-7)

@@ -35,14 +35,5 @@ pub alone-spec : {M : Type 1} → statement M
 alone-spec =
     tie.close
     (tie.spec
-    Inv-loop
-    μ-loop
-    (λ c. record { hi = omega arith; here = c .before .before .before .before .pre .7; past = λ k g l. absurd (omega arith) })
-    (λ c. search needs)
-    twins-requires
-    returns
-    (λ c. search needs)
-    (λ c. search needs)
-    loop-less
-    loop-again
-    returns-2)
+    Inv-loop μ-loop (λ c. record { hi = omega arith; here = c .before .before .before .before .pre .7; past = λ k g l. absurd (omega arith) })
+    (λ c. search needs) twins-requires returns (λ c. search needs) (λ c. search needs) loop-less loop-again returns-2)

@@ -5,21 +5,10 @@ use borrow.Author.Needs.{needs}
 use Rattle.test_tree.proofs.bucket.Statement.{statement}
 use Rattle.test_tree.proofs.bucket.Tie as tie
 
-mul-spread : tie.Need-mul-spread
-mul-spread c = search needs
-
-mul-spread-2 : tie.Need-mul-spread-2
-mul-spread-2 c = search needs
-
-add-spread : tie.Need-add-spread
-add-spread c = search needs
-
-add-result : tie.Need-add-result
-add-result c = search needs
-
 returns : tie.Need-returns
 unfolding bucketOf
 returns c = refl
 
 pub bucket-spec : {M : Type 1} → statement M
-bucket-spec = tie.close (tie.spec mul-spread mul-spread-2 add-spread add-result returns)
+bucket-spec = tie.close (tie.spec
+    (λ c. search needs) (λ c. search needs) (λ c. search needs) (λ c. search needs) returns)

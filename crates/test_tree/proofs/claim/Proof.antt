@@ -17,17 +17,8 @@ pub claim-spec : {M : Type 1} → statement M
 claim-spec =
     tie.close
     (tie.spec
-    Inv-loop
-    μ-loop
-    (λ c. claiming-none _ _ _ _ (c .pre .0))
-    (λ c. search needs)
-    (λ c. search needs)
-    (λ c. search needs)
+    Inv-loop μ-loop (λ c. claiming-none _ _ _ _ (c .pre .0)) (λ c. search needs) (λ c. search needs) (λ c. search needs)
     (λ c. (claiming-miss (c .before .before .before .loop .inv) (c .before .before .loop-test .taken) (c .if1 .taken), λ e. absurd (false≢true e)))
-    (λ c. search needs)
-    (λ c. search needs)
-    (λ c. search needs)
-    (λ c. search needs)
-    (λ c. claiming-more (c .before .before .before .loop .inv) (c .before .before .loop-test .taken) (omega arith) (search needs))
-    (λ c. search needs)
+    (λ c. search needs) (λ c. search needs) (λ c. search needs) (λ c. search needs)
+    (λ c. claiming-more (c .before .before .before .loop .inv) (c .before .before .loop-test .taken) (omega arith) (search needs)) (λ c. search needs)
     (λ c. (claimed (c .before .loop .inv) (c .loop-test .left) .0, λ e. claimed (c .before .loop .inv) (c .loop-test .left) .1)))

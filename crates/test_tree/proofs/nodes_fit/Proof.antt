@@ -15,26 +15,13 @@ Inv-loop parent depth len run nodes used i₀ i = (1 ≤ i) × Each 1 i (NodeFit
 abbrev μ-loop : tie.MeasureT-loop
 μ-loop parent depth len run nodes used i₀ i = nodes - i
 
-loop-holds : tie.Need-loop-holds Inv-loop μ-loop
-loop-holds c = (omega arith, each-none _ 1)
-
-node-fits-requires : tie.Need-node-fits-requires Inv-loop μ-loop
-node-fits-requires c κs = search needs
-
 returns : tie.Need-returns Inv-loop μ-loop
 returns c = each-not (c .before .before .before .loop .inv .0) (c .before .before .loop-test .taken) (says-no (c .before .node-fits .result) (c .if1 .taken) (c .before .node-fits .ensures))
-
-add-i : tie.Need-add-i Inv-loop μ-loop
-add-i c = search needs
-
-loop-less : tie.Need-loop-less Inv-loop μ-loop
-loop-less c = search needs
 
 loop-again : tie.Need-loop-again Inv-loop μ-loop
 loop-again c = (omega arith, each-more (c .before .before .before .loop .inv .1) (says-yes (c .before .node-fits .result) (c .if1 .left) (c .before .node-fits .ensures)))
 
-returns-2 : tie.Need-returns-2 Inv-loop μ-loop
-returns-2 c = each-whole (c .before .loop .inv .1) (c .loop-test .left)
-
 pub nodes-fit-spec : {M : Type 1} → statement M
-nodes-fit-spec = tie.close (tie.spec Inv-loop μ-loop loop-holds node-fits-requires returns add-i loop-less loop-again returns-2)
+nodes-fit-spec = tie.close (tie.spec
+    Inv-loop μ-loop (λ c. (omega arith, each-none _ 1)) (λ c κs. search needs) returns (λ c. search needs) (λ c. search needs) loop-again
+    (λ c. each-whole (c .before .loop .inv .1) (c .loop-test .left)))

@@ -11,10 +11,10 @@ use Rattle.test_tree.proofs.runs_apart.Statement.{statement}
 use Rattle.test_tree.proofs.runs_apart.Tie as tie
 
 abbrev Inv-loop : tie.InvT-loop
-Inv-loop run len nodes own₀ i₀ own i = (1 ≤ i) × Owned run len own i
+Inv-loop len run nodes own₀ i₀ own i = (1 ≤ i) × Owned run len own i
 
 abbrev μ-loop : tie.MeasureT-loop
-μ-loop run len nodes own₀ i₀ own i = nodes - i
+μ-loop len run nodes own₀ i₀ own i = nodes - i
 
 -- the run of the node at hand ends by 4,096
 bound : (c : tie.In-loop Inv-loop μ-loop) → getD (c .before .before .before .before .args .run .now) (c .before .loop .i) 0 + getD (c .before .before .before .before .args .len .now) (c .before .loop .i) 0 ≤ 4096
@@ -30,19 +30,7 @@ pub runs-apart-spec : {M : Type 1} → statement M
 runs-apart-spec =
     tie.close
     (tie.spec
-    Inv-loop
-    μ-loop
-    (λ c. (omega arith, owned-none _ _))
-    (λ c. search needs)
-    (λ c. search needs)
-    (λ c. search needs)
-    (λ c. search needs)
-    (λ c. omega (arith, bound (c .before .before)))
-    (λ c. sym (c .before .before .before .before .loop .inv .1 .long))
-    (λ c. search needs)
-    (λ c κs. let h = bound (c .before .before .before) in let l = c .before .before .before .before .loop .inv .1 .long in omega arith)
-    returns
-    (λ c. search needs)
-    (λ c. search needs)
-    loop-again
-    (λ c. owned-one (c .before .loop .inv .1) (c .loop-test .left)))
+    Inv-loop μ-loop (λ c. (omega arith, owned-none _ _)) (λ c. search needs) (λ c. search needs) (λ c. search needs) (λ c. search needs)
+    (λ c. omega (arith, bound (c .before .before))) (λ c. sym (c .before .before .before .before .loop .inv .1 .long)) (λ c. search needs)
+    (λ c κs. let h = bound (c .before .before .before) in let l = c .before .before .before .before .loop .inv .1 .long in omega arith) returns
+    (λ c. search needs) (λ c. search needs) loop-again (λ c. owned-one (c .before .loop .inv .1) (c .loop-test .left)))

@@ -30,8 +30,12 @@ shared-slice-read-bucket c = c .before .before .before .before .before .before .
 below : (c : tie.After-bucket Inv-loop μ-loop) → c .bucket .result < 256
 below c = rw (c .bucket .ensures) (bucket-below _ _)
 
+-- earlier places of the function, by name
+abbrev entry : tie.After-prev Inv-loop μ-loop → tie.Start Inv-loop μ-loop
+entry c = c .before .before .before .before .before .before .before .before .before .before
+
 alone-requires : tie.Need-alone-requires Inv-loop μ-loop
-alone-requires c κs = let l = c .before .before .before .before .before .before .loop in let m = l .inv .1 in let t = c .before .before .before .before .before .loop-test .taken in let p = c .before .before .before .before .before .before .before .before .before .before .pre in let h = m .heads .top (c .before .bucket .result) in (h, omega arith, omega arith, omega (arith, m .nprev), (λ k g u. p .3 k (omega arith) u), l .inv .0, chain-less (m .chain) h, λ j q. let g = m .heads .link _ j q in (g .0, g .1 ∙ c .before .bucket .ensures))
+alone-requires c κs = let l = c .before .before .before .before .before .before .loop in let m = l .inv .1 in let t = c .before .before .before .before .before .loop-test .taken in let p = entry c .pre in let h = m .heads .top (c .before .bucket .result) in (h, omega arith, omega arith, omega (arith, m .nprev), (λ k g u. p .3 k (omega arith) u), l .inv .0, chain-less (m .chain) h, λ j q. let g = m .heads .link _ j q in (g .0, g .1 ∙ c .before .bucket .ensures))
 
 returns : tie.Need-returns Inv-loop μ-loop
 unfolding Alone Unlike
@@ -52,26 +56,8 @@ pub siblings-differ-spec : {M : Type 1} → statement M
 siblings-differ-spec =
     tie.close
     (tie.spec
-    Inv-loop
-    μ-loop
-    (λ c. (omega arith, met-skip (met-none 256 _ _ _) (λ u. omega arith)))
-    (λ c. search needs)
-    (λ c. search needs)
-    mul-bucket
-    shared-slice-read-bucket
-    (λ c. search needs)
-    (λ c. search needs)
-    (λ c κs. search needs)
-    (λ c. let h = below c in search needs)
+    Inv-loop μ-loop (λ c. (omega arith, met-skip (met-none 256 _ _ _) (λ u. omega arith))) (λ c. search needs) (λ c. search needs) mul-bucket
+    shared-slice-read-bucket (λ c. search needs) (λ c. search needs) (λ c κs. search needs) (λ c. let h = below c in search needs)
     (λ c. let h = below c in omega (arith, c .before .before .before .before .before .loop .inv .1 .nlast))
-    (λ c. sym (c .before .before .before .before .before .before .loop .inv .1 .nprev))
-    alone-requires
-    returns
-    (λ c. search needs)
-    (λ c. search needs)
-    (λ c. search needs)
-    (λ c. let h = below (c .before .before .before) in search needs)
-    array-write-last
-    (λ c. search needs)
-    loop-again
-    returns-2)
+    (λ c. sym (c .before .before .before .before .before .before .loop .inv .1 .nprev)) alone-requires returns (λ c. search needs) (λ c. search needs)
+    (λ c. search needs) (λ c. let h = below (c .before .before .before) in search needs) array-write-last (λ c. search needs) loop-again returns-2)

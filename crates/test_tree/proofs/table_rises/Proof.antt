@@ -27,9 +27,6 @@ abbrev μ-loop : tie.MeasureT-loop
 returns-3 : tie.Need-returns-3 Inv-loop μ-loop
 returns-3 c = λ h. omega (arith, from-suc (c .before .before .before .before .before .before .before .args .bytes .now) _ (h .rising .steps (c .before .before .before .before .before .loop .i) (omega arith) (omega arith)))
 
-loop-again : tie.Need-loop-again Inv-loop μ-loop
-loop-again c = let v = c .before .before .before .before .before .loop .inv in (omega arith, each-more (v .1) (omega arith), each-more (v .2) (omega arith))
-
 returns-5 : tie.Need-returns-5 Inv-loop μ-loop
 returns-5 c = let l = c .before .before .before .loop in record {
   long = omega arith;
@@ -40,20 +37,8 @@ pub table-rises-spec : {M : Type 1} → statement M
 table-rises-spec =
     tie.close
     (tie.spec
-    Inv-loop
-    μ-loop
-    (λ c. search needs)
-    (λ c. (omega arith, each-none _ 0, each-none _ 0))
-    (λ c. search needs)
-    (λ c. search needs)
-    (λ c. λ h. omega (arith, h .rising .small (c .before .before .before .loop .i) (omega arith) (omega arith)))
-    (λ c. search needs)
-    (λ c. search needs)
-    (λ c. search needs)
-    returns-3
-    (λ c. search needs)
-    (λ c. search needs)
-    loop-again
-    (λ c. search needs)
-    (λ c. λ h. omega (arith, h .rising .small 1024 (omega arith) (omega arith)))
-    returns-5)
+    Inv-loop μ-loop (λ c. search needs) (λ c. (omega arith, each-none _ 0, each-none _ 0)) (λ c. search needs) (λ c. search needs)
+    (λ c. λ h. omega (arith, h .rising .small (c .before .before .before .loop .i) (omega arith) (omega arith))) (λ c. search needs)
+    (λ c. search needs) (λ c. search needs) returns-3 (λ c. search needs) (λ c. search needs)
+    (λ c. let v = c .before .before .before .before .before .loop .inv in (omega arith, each-more (v .1) (omega arith), each-more (v .2) (omega arith)))
+    (λ c. search needs) (λ c. λ h. omega (arith, h .rising .small 1024 (omega arith) (omega arith))) returns-5)

@@ -28,12 +28,8 @@ pub tree-sound-spec : {M : Type 1} → statement M
 tree-sound-spec =
     tie.close
     (tie.spec
-    (λ c κs. search needs)
-    (λ c. λ h. (says-no (c .before .tree-sized .result) (c .if1 .taken) (c .before .tree-sized .ensures)) (h .sized))
-    nodes-fit-requires
-    (λ c. λ h. (says-no (c .before .nodes-fit .result) (c .if2 .taken) (c .before .nodes-fit .ensures)) (fits-of h))
-    runs-apart-requires
-    (λ c. λ h. (says-no (c .before .runs-apart .result) (c .if3 .taken) (c .before .runs-apart .ensures)) (owner-of h))
+    (λ c κs. search needs) (λ c. λ h. (says-no (c .before .tree-sized .result) (c .if1 .taken) (c .before .tree-sized .ensures)) (h .sized))
+    nodes-fit-requires (λ c. λ h. (says-no (c .before .nodes-fit .result) (c .if2 .taken) (c .before .nodes-fit .ensures)) (fits-of h))
+    runs-apart-requires (λ c. λ h. (says-no (c .before .runs-apart .result) (c .if3 .taken) (c .before .runs-apart .ensures)) (owner-of h))
     siblings-differ-requires
-    (λ c. λ h. (says-no (c .before .siblings-differ .result) (c .if4 .taken) (c .before .siblings-differ .ensures)) (unlike-of h))
-    returns-5)
+    (λ c. λ h. (says-no (c .before .siblings-differ .result) (c .if4 .taken) (c .before .siblings-differ .ensures)) (unlike-of h)) returns-5)

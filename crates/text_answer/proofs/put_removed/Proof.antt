@@ -1,5 +1,4 @@
 -- `text_answer::put_removed` has room: an answer counts at most 128 writes. Assumes nothing.
-use native.Mathlib.Omega.{arith}
 use mathlib.Core.Path.{subst}
 use Rattle.text_answer.specs.Text.{RemoveIn}
 use borrow.Author.Needs.{needs}
@@ -13,11 +12,5 @@ pub put-removed-spec : {M : Type 1} → statement M
 put-removed-spec =
     tie.close
     (tie.spec
-    (λ c. search needs)
-    (λ c κs. search needs)
-    (λ c. search needs)
-    put-writes-requires
-    (λ c. search needs)
-    (λ c. search needs)
-    (λ c. search needs)
+    (λ c. search needs) (λ c κs. search needs) (λ c. search needs) put-writes-requires (λ c. search needs) (λ c. search needs) (λ c. search needs)
     (λ c. search needs))

@@ -1,5 +1,4 @@
 -- `text_answer::put_resolved` has room: a path has at most 255 segments. Assumes nothing.
-use native.Mathlib.Omega.{arith}
 use mathlib.Core.Path.{subst}
 use Rattle.text_answer.specs.Text.{PathIn}
 use borrow.Author.Needs.{needs}
@@ -13,11 +12,5 @@ pub put-resolved-spec : {M : Type 1} → statement M
 put-resolved-spec =
     tie.close
     (tie.spec
-    (λ c. search needs)
-    (λ c κs. search needs)
-    (λ c. search needs)
-    put-whole-requires
-    (λ c. search needs)
-    (λ c. search needs)
-    (λ c. search needs)
+    (λ c. search needs) (λ c κs. search needs) (λ c. search needs) put-whole-requires (λ c. search needs) (λ c. search needs) (λ c. search needs)
     (λ c. search needs))

@@ -1,8 +1,6 @@
 -- `text_lines::fill_table` is safe: the sum stays at most 2^38 for each place filled, so it never wraps. Assumes nothing.
 use Prim.Native.Nat.{_≤_, _-_, _*_}
-use lib.ListN.{length}
 use borrow.Author.Needs.{needs}
-use native.Mathlib.Omega.{arith}
 use Rattle.text_lines.proofs.fill_table.Statement.{statement}
 use Rattle.text_lines.proofs.fill_table.Tie as tie
 
@@ -16,14 +14,5 @@ pub fill-table-spec : {M : Type 1} → statement M
 fill-table-spec =
     tie.close
     (tie.spec
-    Inv-loop
-    μ-loop
-    (λ c. search needs)
-    (λ c. search needs)
-    (λ c. search needs)
-    (λ c. search needs)
-    (λ c. search needs)
-    (λ c. search needs)
-    (λ c. search needs)
-    (λ c. search needs)
-    (λ c. search needs))
+    Inv-loop μ-loop (λ c. search needs) (λ c. search needs) (λ c. search needs) (λ c. search needs) (λ c. search needs) (λ c. search needs)
+    (λ c. search needs) (λ c. search needs) (λ c. search needs))

@@ -16,15 +16,6 @@ pub put-bytes-spec : {M : Type 1} → statement M
 put-bytes-spec =
     tie.close
     (tie.spec
-    Inv-loop
-    μ-loop
-    (λ c. paste-start _ _ _ (c .pre))
-    (λ c. search needs)
-    (λ c. search needs)
-    (λ c. search needs)
-    (λ c. search needs)
-    (λ c. search needs)
-    (λ c. paste-turn _ _ _ _ _ (c .before .before .loop .inv) (c .before .loop-test .taken))
-    (λ c. search needs)
-    (λ c. c .before .loop .inv .long)
-    (λ c. paste-end _ _ _ _ _ (c .before .loop .inv) (c .loop-test .left)))
+    Inv-loop μ-loop (λ c. paste-start _ _ _ (c .pre)) (λ c. search needs) (λ c. search needs) (λ c. search needs) (λ c. search needs)
+    (λ c. search needs) (λ c. paste-turn _ _ _ _ _ (c .before .before .loop .inv) (c .before .loop-test .taken)) (λ c. search needs)
+    (λ c. c .before .loop .inv .long) (λ c. paste-end _ _ _ _ _ (c .before .loop .inv) (c .loop-test .left)))

@@ -1,5 +1,4 @@
 -- `text_state::put_nodes` writes at most 144 bytes a node, and each node has its run. Assumes nothing.
-use native.Mathlib.Omega.{arith}
 use borrow.Author.Needs.{needs}
 use Prim.Native.Nat.{_+_, _*_, _-_, _≤_}
 use mathlib.Core.Path.{_≡_}
@@ -18,12 +17,6 @@ pub put-nodes-spec : {M : Type 1} → statement M
 put-nodes-spec =
     tie.close
     (tie.spec
-    Inv-loop
-    μ-loop
-    (λ c. search needs)
-    (λ c κs. (c .before .before .loop .inv .5 .runs (c .before .before .loop .k) (search needs) (search needs), search needs))
-    (λ c. search needs)
-    (λ c. search needs)
-    (λ c. search needs)
-    (λ c. search needs)
-    (λ c. search needs))
+    Inv-loop μ-loop (λ c. search needs)
+    (λ c κs. (c .before .before .loop .inv .5 .runs (c .before .before .loop .k) (search needs) (search needs), search needs)) (λ c. search needs)
+    (λ c. search needs) (λ c. search needs) (λ c. search needs) (λ c. search needs))

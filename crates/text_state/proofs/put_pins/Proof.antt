@@ -1,5 +1,4 @@
 -- `text_state::put_pins` writes at most 208 bytes an entry, and each entry has its spot. Assumes nothing.
-use native.Mathlib.Omega.{arith}
 use borrow.Author.Needs.{needs}
 use Prim.Native.Nat.{_+_, _*_, _-_, _≤_}
 use mathlib.Core.Path.{_≡_}
@@ -18,14 +17,6 @@ pub put-pins-spec : {M : Type 1} → statement M
 put-pins-spec =
     tie.close
     (tie.spec
-    Inv-loop
-    μ-loop
-    (λ c. search needs)
-    (λ c. search needs)
-    (λ c. search needs)
+    Inv-loop μ-loop (λ c. search needs) (λ c. search needs) (λ c. search needs)
     (λ c κs. (c .before .before .loop .inv .4 (c .before .before .loop .k) (search needs) (search needs), search needs, search needs))
-    (λ c. search needs)
-    (λ c. search needs)
-    (λ c. search needs)
-    (λ c. search needs)
-    (λ c. search needs))
+    (λ c. search needs) (λ c. search needs) (λ c. search needs) (λ c. search needs) (λ c. search needs))

@@ -1,6 +1,5 @@
 -- `text_state::put_state`: a sound state has at most 256 nodes and 8 stores, and each store writes at most 60,928 bytes. Assumes nothing.
 use native.Mathlib.Omega.{arith}
-use borrow.Author.Needs.{needs}
 use Prim.Native.Nat.{_+_, _*_, _-_, _≤_}
 use mathlib.Core.Path.{_≡_}
 use lib.ListN.{length}
@@ -17,17 +16,12 @@ Inv-loop out₀ at parent depth len run words node start end id stamp touched wr
 abbrev μ-loop : tie.MeasureT-loop
 μ-loop out₀ at parent depth len run words node start end id stamp touched write pin-node pin-start pin-end pin-count marks bytes books nodes stores a next₀ s₀ out next s = storesIn books - s
 
-shared-slice-read-nodes : tie.Need-shared-slice-read-nodes Inv-loop μ-loop
-shared-slice-read-nodes c = omega (arith, c .before .before .before .before .before .before .before .before .before .before .before .before .before .before .before .before .before .before .before .before .before .pre .0 .lent .books)
-
-shared-slice-read-stores : tie.Need-shared-slice-read-stores Inv-loop μ-loop
-shared-slice-read-stores c = omega (arith, c .before .before .before .before .before .before .before .before .before .before .before .before .before .before .before .before .before .before .before .before .before .before .pre .0 .lent .books)
-
-put-head-requires : tie.Need-put-head-requires Inv-loop μ-loop
-put-head-requires c κs = (c .before .before .before .before .before .before .before .before .before .before .before .before .before .before .before .before .before .before .before .before .before .before .before .pre .0 .lent .books, omega (arith, c .before .before .before .before .before .before .before .before .before .before .before .before .before .before .before .before .before .before .before .before .before .before .before .pre .1))
+-- earlier places of the function, by name
+abbrev entry : tie.After-shared-slice-known20 Inv-loop μ-loop → tie.Start Inv-loop μ-loop
+entry c = c .before .before .before .before .before .before .before .before .before .before .before .before .before .before .before .before .before .before .before .before .before
 
 put-nodes-requires : tie.Need-put-nodes-requires Inv-loop μ-loop
-put-nodes-requires c κs = (nodes-of _ (c .before .before .before .before .before .before .before .before .before .before .before .before .before .before .before .before .before .before .before .before .before .before .before .before .before .before .before .pre .0), omega (arith, c .before .before .before .put-head .ensures .high, c .before .before .before .put-head .kept .0, c .before .before .before .before .before .before .before .before .before .before .before .before .before .before .before .before .before .before .before .before .before .before .before .before .before .before .before .pre .1))
+put-nodes-requires c κs = (nodes-of _ (entry (c .before .before .before .before .before .before) .pre .0), omega (arith, c .before .before .before .put-head .ensures .high, c .before .before .before .put-head .kept .0, entry (c .before .before .before .before .before .before) .pre .1))
 
 loop-holds : tie.Need-loop-holds Inv-loop μ-loop
 loop-holds c = (
@@ -35,8 +29,8 @@ loop-holds c = (
   omega (arith, c .before .before .before .before .before .before .put-head .ensures .high, c .before .before .put-nodes .ensures .high),
   omega arith,
   omega (arith, c .before .before .before .before .before .before .put-head .kept .0, c .before .before .put-nodes .kept .0),
-  omega (arith, c .before .before .before .before .before .before .put-head .kept .0, c .before .before .put-nodes .kept .0, c .before .before .before .before .before .before .before .before .before .before .before .before .before .before .before .before .before .before .before .before .before .before .before .before .before .before .before .before .before .before .pre .1),
-  c .before .before .before .before .before .before .before .before .before .before .before .before .before .before .before .before .before .before .before .before .before .before .before .before .before .before .before .before .before .before .pre .0,
+  omega (arith, c .before .before .before .before .before .before .put-head .kept .0, c .before .before .put-nodes .kept .0, entry (c .before .before .before .before .before .before .before .before .before) .pre .1),
+  entry (c .before .before .before .before .before .before .before .before .before) .pre .0,
 )
 
 put-whole-store-requires : tie.Need-put-whole-store-requires Inv-loop μ-loop
@@ -65,17 +59,8 @@ pub put-state-spec : {M : Type 1} → statement M
 put-state-spec =
     tie.close
     (tie.spec
-    Inv-loop
-    μ-loop
-    shared-slice-read-nodes
-    shared-slice-read-stores
-    put-head-requires
-    put-nodes-requires
-    loop-holds
-    put-whole-store-requires
-    add-s
-    (λ c. omega (arith, c .before .before .before .before .loop-test .taken))
-    loop-again
+    Inv-loop μ-loop (λ c. omega (arith, entry c .pre .0 .lent .books)) (λ c. omega (arith, entry (c .before) .pre .0 .lent .books))
+    (λ c κs. (entry (c .before .before) .pre .0 .lent .books, omega (arith, entry (c .before .before) .pre .1))) put-nodes-requires loop-holds
+    put-whole-store-requires add-s (λ c. omega (arith, c .before .before .before .before .loop-test .taken)) loop-again
     (λ c κs. let v = c .before .before .loop .inv in omega (arith, v .1, v .2, v .4, v .5 .counts .stores))
-    (λ c. let v = c .before .before .before .before .before .loop .inv in omega (arith, v .3, c .before .before .put-end .kept .0))
-    returns)
+    (λ c. let v = c .before .before .before .before .before .loop .inv in omega (arith, v .3, c .before .before .put-end .kept .0)) returns)

@@ -5,22 +5,13 @@ use borrow.Author.Needs.{needs}
 use Rattle.text_state.proofs.put_time.Statement.{statement}
 use Rattle.text_state.proofs.put_time.Tie as tie
 
-slice-aggregate-put-bytes : tie.Need-slice-aggregate-put-bytes
-slice-aggregate-put-bytes c = search needs
-
-put-bytes-requires : tie.Need-put-bytes-requires
-put-bytes-requires c κs = search needs
-
-time-text-requires : tie.Need-time-text-requires
-time-text-requires c κs = search needs
-
-same-length : tie.Need-same-length
-same-length c = search needs
-
-returns : tie.Need-returns
-returns c = time-wrote (c .before .before .before .before .before .before .before .before .before .before .args .touched) (omega arith) (c .before .before .time-text .ensures)
+-- earlier places of the function, by name
+abbrev entry : tie.After-slice-known3 → tie.Start
+entry c = c .before .before .before .before .before .before .before .before .before .before
 
 pub put-time-spec : {M : Type 1} → statement M
 put-time-spec =
     tie.close
-    (tie.spec slice-aggregate-put-bytes put-bytes-requires time-text-requires same-length returns)
+    (tie.spec
+    (λ c. search needs) (λ c κs. search needs) (λ c κs. search needs) (λ c. search needs)
+    (λ c. time-wrote (entry c .args .touched) (omega arith) (c .before .before .time-text .ensures)))

@@ -5,14 +5,6 @@ use borrow.Author.Needs.{needs}
 use Rattle.text_times.proofs.of_bits.Statement.{statement}
 use Rattle.text_times.proofs.of_bits.Tie as tie
 
-returns : tie.Need-returns
-returns c = nan-made ∙ nan-pattern _ (c .if1 .taken)
-
-float-from-bits-result : tie.Need-float-from-bits-result
-float-from-bits-result c = no-nan-pattern _ (c .if1 .left)
-
-returns-2 : tie.Need-returns-2
-returns-2 c = search needs
-
 pub of-bits-spec : {M : Type 1} → statement M
-of-bits-spec = tie.close (tie.spec returns float-from-bits-result returns-2)
+of-bits-spec = tie.close (tie.spec
+    (λ c. nan-made ∙ nan-pattern _ (c .if1 .taken)) (λ c. no-nan-pattern _ (c .if1 .left)) (λ c. search needs))

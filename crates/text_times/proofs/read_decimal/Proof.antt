@@ -14,12 +14,7 @@ pub read-decimal-spec : {M : Type 1} → statement M
 read-decimal-spec =
     tie.close
     (tie.spec
-    (λ c κs. search needs)
-    (λ c. decimal-none _ _ _ _ _ (c .before .before .before .pre .1) (c .before .next-byte .ensures) (c .if1 .taken))
-    (λ c κs. search needs)
-    returns-2
-    (λ c. search needs)
+    (λ c κs. search needs) (λ c. decimal-none _ _ _ _ _ (c .before .before .before .pre .1) (c .before .next-byte .ensures) (c .if1 .taken))
+    (λ c κs. search needs) returns-2 (λ c. search needs)
     (λ c. decimal-cut _ _ _ _ _ (c .before .before .before .before .before .pre .1) (c .before .before .before .next-byte .ensures) (c .if3 .taken))
-    (λ c. search needs)
-    (λ c κs. search needs)
-    returns-4)
+    (λ c. search needs) (λ c κs. search needs) returns-4)

@@ -21,17 +21,6 @@ pub read-digits-spec : {M : Type 1} → statement M
 read-digits-spec =
     tie.close
     (tie.spec
-    (λ c. search needs)
-    (λ c. search needs)
-    (λ c. search needs)
-    (λ c. digits-long _ _ _ _ _ _ _ (c .before .before .pre) (c .if1 .taken))
-    (λ c κs. search needs)
-    (λ c κs. search needs)
-    (λ c. search needs)
-    (λ c. search needs)
-    ratio-requires
-    (λ c. search needs)
-    (λ c. search needs)
-    returns-2
-    returns-3
-    returns-4)
+    (λ c. search needs) (λ c. search needs) (λ c. search needs) (λ c. digits-long _ _ _ _ _ _ _ (c .before .before .pre) (c .if1 .taken))
+    (λ c κs. search needs) (λ c κs. search needs) (λ c. search needs) (λ c. search needs) ratio-requires (λ c. search needs) (λ c. search needs)
+    returns-2 returns-3 returns-4)

@@ -17,13 +17,5 @@ pub read-pattern-spec : {M : Type 1} → statement M
 read-pattern-spec =
     tie.close
     (tie.spec
-    (λ c. search needs)
-    (λ c. pattern-short _ _ _ (c .before .before .pre .1) (c .if1 .taken))
-    (λ c κs. search needs)
-    (λ c. search needs)
-    (λ c κs. search needs)
-    (λ c. search needs)
-    (λ c. search needs)
-    returns-2
-    returns-3
-    returns-4)
+    (λ c. search needs) (λ c. pattern-short _ _ _ (c .before .before .pre .1) (c .if1 .taken)) (λ c κs. search needs) (λ c. search needs)
+    (λ c κs. search needs) (λ c. search needs) (λ c. search needs) returns-2 returns-3 returns-4)

@@ -19,14 +19,5 @@ pub read-time-spec : {M : Type 1} → statement M
 read-time-spec =
     tie.close
     (tie.spec
-    (λ c. search needs)
-    (λ c κs. search needs)
-    (λ c. time-inf _ _ (says-same _ _ _ (c .before .same-word .ensures) ∙ c .if1 .taken) inf-made)
-    (λ c. search needs)
-    (λ c κs. search needs)
-    returns-2
-    (λ c. search needs)
-    (λ c κs. search needs)
-    returns-3
-    (λ c κs. search needs)
-    returns-4)
+    (λ c. search needs) (λ c κs. search needs) (λ c. time-inf _ _ (says-same _ _ _ (c .before .same-word .ensures) ∙ c .if1 .taken) inf-made)
+    (λ c. search needs) (λ c κs. search needs) returns-2 (λ c. search needs) (λ c κs. search needs) returns-3 (λ c κs. search needs) returns-4)

@@ -27,8 +27,4 @@ pub size-above-spec : {M : Type 1} → statement M
 size-above-spec =
     tie.close
     (tie.spec
-    truncating-f64-to-u64-requires
-    (λ c κs. search needs)
-    returns
-    returns-2
-    returns-3)
+    truncating-f64-to-u64-requires (λ c κs. search needs) returns returns-2 returns-3)

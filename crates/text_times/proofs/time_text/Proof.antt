@@ -12,11 +12,7 @@ pub time-text-spec : {M : Type 1} → statement M
 time-text-spec =
     tie.close
     (tie.spec
-    (λ c κs. search needs)
-    (λ c. search needs)
+    (λ c κs. search needs) (λ c. search needs)
     (λ c. put-as _ _ _ _ _ _ (nan-text _ (c .before .before .before .before .if1 .taken)) (c .before .before .put-pattern .ensures))
-    (λ c. no-nan _ (c .if1 .left))
-    (λ c κs. (no-nan _ (c .before .if1 .left), sign-bit _ (search needs) (no-nan _ (c .before .if1 .left))))
-    (λ c κs. search needs)
-    (λ c. search needs)
-    returns-2)
+    (λ c. no-nan _ (c .if1 .left)) (λ c κs. (no-nan _ (c .before .if1 .left), sign-bit _ (search needs) (no-nan _ (c .before .if1 .left))))
+    (λ c κs. search needs) (λ c. search needs) returns-2)

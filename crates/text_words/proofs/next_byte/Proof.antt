@@ -21,12 +21,6 @@ pub next-byte-spec : {M : Type 1} → statement M
 next-byte-spec =
     tie.close
     (tie.spec
-    Inv-loop
-    μ-loop
-    (λ c. (c .pre .1, scan-start _ _ _ _ (c .pre .0)))
-    (λ c. search needs)
-    (λ c. scan-found _ _ _ _ _ (c .before .before .before .loop .inv .1) (eq-eqb _ _ (c .if1 .taken)))
-    (λ c. search needs)
-    (λ c. search needs)
-    loop-again
-    (λ c. scan-end _ _ _ _ _ (c .before .loop .inv .1) (c .loop-test .left)))
+    Inv-loop μ-loop (λ c. (c .pre .1, scan-start _ _ _ _ (c .pre .0))) (λ c. search needs)
+    (λ c. scan-found _ _ _ _ _ (c .before .before .before .loop .inv .1) (eq-eqb _ _ (c .if1 .taken))) (λ c. search needs) (λ c. search needs)
+    loop-again (λ c. scan-end _ _ _ _ _ (c .before .loop .inv .1) (c .loop-test .left)))

@@ -19,16 +19,9 @@ pub push-spec : {M : Type 1} → statement M
 push-spec =
     tie.close
     (tie.spec
-    (λ c κs. search needs)
-    (λ c. λ o e. push-not _ _ _ (c .before .digit .ensures) o (c .if1 .taken))
-    (λ c. search needs)
-    (λ c. search needs)
-    (λ c. search needs)
-    returns-2
+    (λ c κs. search needs) (λ c. λ o e. push-not _ _ _ (c .before .digit .ensures) o (c .if1 .taken)) (λ c. search needs) (λ c. search needs)
+    (λ c. search needs) returns-2
     (λ c. omega (arith, (under _ _ _ 18446744073709551615 (c .before .before .before .before .before .before .pre) (search needs) (c .if2 .left))))
     (λ c. omega (arith, (under _ _ _ 18446744073709551615 (c .before .before .before .before .before .before .pre) (search needs) (c .if2 .left))))
-    (λ c. search needs)
-    (λ c. search needs)
-    returns-3
-    returns-4
+    (λ c. search needs) (λ c. search needs) returns-3 returns-4
     (λ c. λ o e. push-none _ _ _ (c .before .before .before .digit .ensures) o (sym (c .enum-told2 .given .1) ∙ e)))

@@ -21,12 +21,5 @@ pub read-digits-spec : {M : Type 1} → statement M
 read-digits-spec =
     tie.close
     (tie.spec
-    Inv-loop
-    μ-loop
-    (λ c. λ o e. reads-start _ _ _ _ _ o e)
-    (λ c. search needs)
-    (λ c κs. search needs)
-    (λ c. search needs)
-    (λ c. search needs)
-    loop-again
-    (λ c. λ o e. reads-end _ _ _ _ _ _ _ o (c .loop-test .left) (c .before .loop .inv o e)))
+    Inv-loop μ-loop (λ c. λ o e. reads-start _ _ _ _ _ o e) (λ c. search needs) (λ c κs. search needs) (λ c. search needs) (λ c. search needs)
+    loop-again (λ c. λ o e. reads-end _ _ _ _ _ _ _ o (c .loop-test .left) (c .before .loop .inv o e)))

@@ -8,14 +8,9 @@ use borrow.Author.Needs.{needs}
 use Rattle.text_words.proofs.read_number.Statement.{statement}
 use Rattle.text_words.proofs.read_number.Tie as tie
 
-returns : tie.Need-returns
-returns c = value-none 10 _ _ _ (c .if1 .taken)
-
-read-digits-requires : tie.Need-read-digits-requires
-read-digits-requires c κs = search needs
-
 returns-2 : tie.Need-returns-2
 returns-2 c = c .read-digits .ensures (some 0) (sym (is-value 0 (omega arith))) ∙ ap numberOf (value-some 10 _ _ _ (c .before .if1 .left) (c .before .before .before .pre))
 
 pub read-number-spec : {M : Type 1} → statement M
-read-number-spec = tie.close (tie.spec returns read-digits-requires returns-2)
+read-number-spec = tie.close (tie.spec
+    (λ c. value-none 10 _ _ _ (c .if1 .taken)) (λ c κs. search needs) returns-2)

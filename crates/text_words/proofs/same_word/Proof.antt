@@ -25,16 +25,6 @@ pub same-word-spec : {M : Type 1} → statement M
 same-word-spec =
     tie.close
     (tie.spec
-    Inv-loop
-    μ-loop
-    (λ c. search needs)
-    (λ c. other-length _ _ _ _ (c .before .pre .1) (c .if1 .taken))
-    (λ c. (search needs, λ k l m. absurd (omega arith)))
-    (λ c. search needs)
-    (λ c. search needs)
-    (λ c. search needs)
-    returns-2
-    (λ c. search needs)
-    (λ c. search needs)
-    (λ c. (search needs, each-more _ _ (c .before .before .before .before .loop .inv .1) (c .if2 .left)))
-    returns-3)
+    Inv-loop μ-loop (λ c. search needs) (λ c. other-length _ _ _ _ (c .before .pre .1) (c .if1 .taken))
+    (λ c. (search needs, λ k l m. absurd (omega arith))) (λ c. search needs) (λ c. search needs) (λ c. search needs) returns-2 (λ c. search needs)
+    (λ c. search needs) (λ c. (search needs, each-more _ _ (c .before .before .before .before .loop .inv .1) (c .if2 .left))) returns-3)

@@ -20,12 +20,7 @@ pub skip-spaces-spec : {M : Type 1} → statement M
 skip-spaces-spec =
     tie.close
     (tie.spec
-    Inv-loop
-    μ-loop
-    (λ c. scan-start _ _ _ _ (c .pre))
-    (λ c. search needs)
-    (λ c. scan-found _ _ _ _ _ (c .before .before .before .loop .inv) (ap not (ne-eqb _ _ (c .if1 .taken))))
-    (λ c. search needs)
-    (λ c. search needs)
+    Inv-loop μ-loop (λ c. scan-start _ _ _ _ (c .pre)) (λ c. search needs)
+    (λ c. scan-found _ _ _ _ _ (c .before .before .before .loop .inv) (ap not (ne-eqb _ _ (c .if1 .taken)))) (λ c. search needs) (λ c. search needs)
     (λ c. scan-turn _ _ _ _ _ (c .before .before .before .loop .inv) (c .before .before .loop-test .taken) (ap not (eq-eqb _ _ (c .if1 .left))))
     (λ c. scan-end _ _ _ _ _ (c .before .loop .inv) (c .loop-test .left)))

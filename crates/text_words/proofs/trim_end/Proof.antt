@@ -14,13 +14,7 @@ pub trim-end-spec : {M : Type 1} → statement M
 trim-end-spec =
     tie.close
     (tie.spec
-    Inv-loop
-    μ-loop
-    (λ c. trim-start _)
-    (λ c. search needs)
-    (λ c. search needs)
-    (λ c. trim-found _ _ (c .before .before .before .loop .inv) (c .if1 .taken))
-    (λ c. search needs)
-    (λ c. search needs)
+    Inv-loop μ-loop (λ c. trim-start _) (λ c. search needs) (λ c. search needs)
+    (λ c. trim-found _ _ (c .before .before .before .loop .inv) (c .if1 .taken)) (λ c. search needs) (λ c. search needs)
     (λ c. trim-turn _ _ (c .before .before .before .loop .inv) (c .before .before .loop-test .taken) (c .if1 .left))
     (λ c. trim-end _ _ (c .before .loop .inv) (c .loop-test .left)))

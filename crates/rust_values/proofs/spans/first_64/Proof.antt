@@ -20,15 +20,9 @@ pub first-64-spec : {M : Type 1} → statement M
 first-64-spec =
     tie.close
     (tie.spec
-    Inv-loop
-    μ-loop
-    (λ c κs. tt)
-    (λ c κs. tt)
-    loop-holds
-    (λ c κs. inside (c .before .loop .inv) (c .loop-test .taken))
+    Inv-loop μ-loop (λ c κs. tt) (λ c κs. tt) loop-holds (λ c κs. inside (c .before .loop .inv) (c .loop-test .taken))
     (λ c. omega (arith, in-array (c .before .before .loop .inv) (c .before .loop-test .taken)))
     (λ c. omega (arith, in-array (c .before .before .loop .inv) (c .before .loop-test .taken), c .before .before .loop .inv .long))
-    (λ c. omega (arith, in-array (c .before .before .loop .inv) (c .before .loop-test .taken)))
-    (λ c. omega (arith, c .before .loop-test .taken))
+    (λ c. omega (arith, in-array (c .before .before .loop .inv) (c .before .loop-test .taken))) (λ c. omega (arith, c .before .loop-test .taken))
     (λ c. read-more (c .before .before .loop .inv) (c .before .loop-test .taken) (c .span-at .ensures))
     (λ c. read-all (c .before .loop .inv) (c .loop-test .left)))

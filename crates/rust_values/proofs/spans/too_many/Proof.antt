@@ -5,11 +5,6 @@ use Rattle.rust_values.specs.Spans.{tooMany}
 use Rattle.rust_values.proofs.spans.too_many.Statement.{statement}
 use Rattle.rust_values.proofs.spans.too_many.Tie as tie
 
-returns : tie.Need-returns
-returns c = sym (ap tooMany (le-leb _ _ (c .if1 .taken)))
-
-returns-2 : tie.Need-returns-2
-returns-2 c = sym (ap tooMany (lt-leb _ _ (c .if1 .left)))
-
 pub too-many-spec : {M : Type 1} → statement M
-too-many-spec = tie.close (tie.spec returns returns-2)
+too-many-spec = tie.close (tie.spec
+    (λ c. sym (ap tooMany (le-leb _ _ (c .if1 .taken)))) (λ c. sym (ap tooMany (lt-leb _ _ (c .if1 .left)))))

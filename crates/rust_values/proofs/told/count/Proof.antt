@@ -6,9 +6,8 @@ use Rattle.rust_values.specs.Told.{laid, countValues}
 use Rattle.rust_values.proofs.told.count.Statement.{statement}
 use Rattle.rust_values.proofs.told.count.Tie as tie
 
-returns-2 : tie.Need-returns-2
-returns-2 c = (search needs, sym (ap (λ a. laid countValues (countOf a) (c .before .before .before .args .answer .now)) (c .before .a2 .given .1)))
-
 pub count-spec : {M : Type 1} → statement M
 count-spec =
-    tie.close (tie.spec (λ c. search needs) (λ c. search needs) (λ c. search needs) (λ c. search needs) returns-2)
+    tie.close (tie.spec
+    (λ c. search needs) (λ c. search needs) (λ c. search needs) (λ c. search needs)
+    (λ c. (search needs, sym (ap (λ a. laid countValues (countOf a) (c .before .before .before .args .answer .now)) (c .before .a2 .given .1)))))

@@ -6,16 +6,9 @@ use Rattle.rust_values.specs.Told.{laid, resolveValues}
 use Rattle.rust_values.proofs.told.path.Statement.{statement}
 use Rattle.rust_values.proofs.told.path.Tie as tie
 
-returns-2 : tie.Need-returns-2
-returns-2 c = (search needs, sym (ap (λ a. laid resolveValues (resolvedOf a) (c .before .before .before .args .answer .now)) (c .before .a2 .given .1)))
-
 pub path-spec : {M : Type 1} → statement M
 path-spec =
     tie.close
     (tie.spec
-    (λ c. search needs)
-    (λ c. search needs)
-    (λ c. search needs)
-    (λ c. search needs)
-    (λ c. search needs)
-    returns-2)
+    (λ c. search needs) (λ c. search needs) (λ c. search needs) (λ c. search needs) (λ c. search needs)
+    (λ c. (search needs, sym (ap (λ a. laid resolveValues (resolvedOf a) (c .before .before .before .args .answer .now)) (c .before .a2 .given .1)))))

@@ -3,53 +3,21 @@ use Rattle.trial_world.proofs.Laws.{within}
 use Rattle.trial_world.proofs.world.list_places.Statement.{statement}
 use Rattle.trial_world.proofs.world.list_places.Tie as tie
 
-lent-requires : tie.Need-lent-requires
-lent-requires c κs = tt
+-- earlier places of the function, by name
+abbrev after-lent3 : tie.After-lent13 → tie.After-lent3
+after-lent3 c = c .before .before .before .before .before .before .before .before .before .before
 
-lent-requires-2 : tie.Need-lent-requires-2
-lent-requires-2 c κs = tt
-
-lent-requires-3 : tie.Need-lent-requires-3
-lent-requires-3 c κs = tt
-
-lent-requires-4 : tie.Need-lent-requires-4
-lent-requires-4 c κs = tt
-
-lent-requires-5 : tie.Need-lent-requires-5
-lent-requires-5 c κs = tt
-
-lent-requires-6 : tie.Need-lent-requires-6
-lent-requires-6 c κs = tt
-
-lent-requires-7 : tie.Need-lent-requires-7
-lent-requires-7 c κs = tt
-
-lent-requires-8 : tie.Need-lent-requires-8
-lent-requires-8 c κs = tt
-
-lent-requires-9 : tie.Need-lent-requires-9
-lent-requires-9 c κs = tt
-
-lent-requires-10 : tie.Need-lent-requires-10
-lent-requires-10 c κs = tt
-
-lent-requires-11 : tie.Need-lent-requires-11
-lent-requires-11 c κs = tt
-
-lent-requires-12 : tie.Need-lent-requires-12
-lent-requires-12 c κs = tt
-
-lent-requires-13 : tie.Need-lent-requires-13
-lent-requires-13 c κs = tt
+abbrev entry : tie.After-lent13 → tie.Start
+entry c = after-lent3 c .before .before .before
 
 returns : tie.Need-returns
 returns c =
-    let g = c .before .before .before .before .before .before .before .before .before .before .before .before .before .good .0 .1 .1 in
-    let a = c .before .before .before .before .before .before .before .before .before .before .before .before .before .args .l in
+    let g = entry c .good .0 .1 .1 in
+    let a = entry c .args .l in
     record {
-      path-node = within (a .«path_node») _ _ (c .before .before .before .before .before .before .before .before .before .before .before .before .lent .ensures) (g .0 .1 .0 .1);
-      path-len = within (a .«path_len») _ _ (c .before .before .before .before .before .before .before .before .before .before .before .lent2 .ensures) (g .1 .0 .1 .0 .1);
-      out-node = within (a .«out_node») _ _ (c .before .before .before .before .before .before .before .before .before .before .lent3 .ensures) (g .1 .1 .0 .1 .0 .1);
+      path-node = within (a .«path_node») _ _ (after-lent3 c .before .before .lent .ensures) (g .0 .1 .0 .1);
+      path-len = within (a .«path_len») _ _ (after-lent3 c .before .lent2 .ensures) (g .1 .0 .1 .0 .1);
+      out-node = within (a .«out_node») _ _ (after-lent3 c .lent3 .ensures) (g .1 .1 .0 .1 .0 .1);
       out-start = within (a .«out_start») _ _ (c .before .before .before .before .before .before .before .before .before .lent4 .ensures) (g .1 .1 .1 .0 .1 .0 .1);
       out-end = within (a .«out_end») _ _ (c .before .before .before .before .before .before .before .before .lent5 .ensures) (g .1 .1 .1 .1 .0 .1 .0 .1);
       out-write = within (a .«out_write») _ _ (c .before .before .before .before .before .before .before .lent6 .ensures) (g .1 .1 .1 .1 .1 .0 .1 .0 .1);
@@ -64,4 +32,6 @@ returns c =
 
 pub list-places-spec : {M : Type 1} → statement M
 list-places-spec =
-    tie.close (tie.spec lent-requires lent-requires-2 lent-requires-3 lent-requires-4 lent-requires-5 lent-requires-6 lent-requires-7 lent-requires-8 lent-requires-9 lent-requires-10 lent-requires-11 lent-requires-12 lent-requires-13 returns)
+    tie.close (tie.spec
+    (λ c κs. tt) (λ c κs. tt) (λ c κs. tt) (λ c κs. tt) (λ c κs. tt) (λ c κs. tt) (λ c κs. tt) (λ c κs. tt) (λ c κs. tt) (λ c κs. tt) (λ c κs. tt)
+    (λ c κs. tt) (λ c κs. tt) returns)
