@@ -325,7 +325,7 @@ def named(r, text, name):
     if not far:
         return text
     how, made = _goals(r, far)
-    taken = set(re.findall(r"(?<![\w.·-])[a-zA-Z][\w·′-]*", text))
+    taken = set(re.findall(r"(?<![\w.·-])[a-zA-Z][\w·′-]*", _code(text)))
     fresh = {}
     for n, _, _ in made:
         fresh[n] = n
@@ -355,9 +355,14 @@ def named(r, text, name):
                 ways.append((k + j, f"{fresh[m]} " + (f"({before(k)})" if k else "c") + " .before" * j))
         block += f"abbrev {fresh[n]} : tie.{a}{over} → tie.{to}{over}\n{fresh[n]} c = {min(ways)[1]}\n\n"
         ready.append((n, a, to))
-    uses = min(m.start() for w in fresh.values() for m in re.finditer(r"(?<![\w.·-])" + re.escape(w) + r"(?![\w·′-])", text))
+    uses = min(m.start() for w in fresh.values() for m in re.finditer(r"(?<![\w.·-])" + re.escape(w) + r"(?![\w·′-])", _code(text)))
     heads = [m.start() for m in re.finditer(r"(?m)^(?:--[^\n]*\n)*(?:pub |abbrev |unfoldable )*[^\s:(]+ :", text) if m.start() <= uses]
     return nearby(text[: heads[-1]] + block + text[heads[-1] :])
+
+
+def _code(text):
+    """The text with blanks for its comments."""
+    return re.sub(r"(?m)^\s*--.*$", lambda m: " " * len(m[0]), text)
 
 
 def nearby(text):
