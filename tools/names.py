@@ -8,7 +8,7 @@ import glob, os, re, sys
 sys.dont_write_bytecode = True
 import rattlekit as k
 
-LONG = re.compile(r"(?: \.before){10,}")
+LONG = re.compile(r"(?: \.before){%d,}" % k.FAR)
 
 
 def unnamed_chains():

@@ -289,14 +289,14 @@ NAMED = re.compile(r"abbrev (\S+) : tie\.([\w-]+)[^\n]*→ tie\.([\w-]+)[^\n]*\n
 
 
 def _goals(r, far):
-    """For each pair of a place and one far before it, how it is named: {(from, to): (name, the place that the name starts from, steps to there)}, and the names'
-    definitions, [(name, from, to)]. A name serves all places from which its own start is less than ten steps back."""
-    depth = lambda p: len(chain(r, p))
+    """For each pair of a place and one far before it, how it is named: {(from, to): (name, steps to where the name starts)}, and the names' definitions,
+    [(name, from, to)]. A name serves all places from which its own start is less than ten steps back."""
+    order = lambda p: (len(chain(r, p)), p)
     how, made = {}, []
-    for to in sorted({b for _, b in far}, key=depth):
+    for to in sorted({b for _, b in far}, key=order):
         name, n = ("entry" if to == "Start" else to[0].lower() + to[1:]), 0
         starts = []
-        for a in sorted({a for a, b in far if b == to}, key=depth):
+        for a in sorted({a for a, b in far if b == to}, key=order):
             back = [x[1] for x in chain(r, a)][:FAR]
             got = next(((s, back.index(s[1])) for s in starts if s[1] in back), None)
             if not got:
@@ -304,8 +304,25 @@ def _goals(r, far):
                 starts.append((name + (f"-{n}" if n > 1 else ""), a))
                 made.append((starts[-1][0], a, to))
                 got = starts[-1], 0
-            how[a, to] = (got[0][0], got[0][1], got[1])
+            how[a, to] = (got[0][0], got[1])
     return how, made
+
+
+def _declared(r, made, fresh):
+    """The names' declarations, each by the shortest way that those above it leave."""
+    over = "".join(f" Inv-{l} μ-{l}" for l in r["loops"])
+    block, ready = NAMES, []
+    for n, a, to in sorted(made, key=lambda x: (len(chain(r, x[1])), -len(chain(r, x[2])))):
+        way = [x[1] for x in chain(r, a)]
+        goal = way.index(to)
+        ways = [(goal, before(goal))]
+        for m, b, t in ready:
+            if b in way and t in way and way.index(t) <= goal:
+                k, j = way.index(b), goal - way.index(t)
+                ways.append((k + j, f"{fresh[m]} " + (f"({before(k)})" if k else "c") + " .before" * j))
+        block += f"abbrev {fresh[n]} : tie.{a}{over} → tie.{to}{over}\n{fresh[n]} c = {min(ways)[1]}\n\n"
+        ready.append((n, a, to))
+    return block
 
 
 def named(r, text, name):
@@ -337,27 +354,15 @@ def named(r, text, name):
             n = m[1].count(".before")
             if n < FAR:
                 return m[0]
-            word, _, steps = how[cur, chain(r, cur)[n][1]]
+            word, steps = how[cur, chain(r, cur)[n][1]]
             return f"{fresh[word]} " + (f"({before(steps)})" if steps else "c")
 
         return CHAIN.sub(one, piece)
 
     text = _each_line(r, text, change)
-    over = "".join(f" Inv-{l} μ-{l}" for l in r["loops"])
-    block, ready = NAMES, []
-    for n, a, to in sorted(made, key=lambda x: (len(chain(r, x[1])), -len(chain(r, x[2])))):
-        way = [x[1] for x in chain(r, a)]
-        goal = way.index(to)
-        ways = [(goal, before(goal))]
-        for m, b, t in ready:
-            if b in way and t in way and way.index(t) <= goal:
-                k, j = way.index(b), goal - way.index(t)
-                ways.append((k + j, f"{fresh[m]} " + (f"({before(k)})" if k else "c") + " .before" * j))
-        block += f"abbrev {fresh[n]} : tie.{a}{over} → tie.{to}{over}\n{fresh[n]} c = {min(ways)[1]}\n\n"
-        ready.append((n, a, to))
     uses = min(m.start() for w in fresh.values() for m in re.finditer(r"(?<![\w.·-])" + re.escape(w) + r"(?![\w·′-])", _code(text)))
     heads = [m.start() for m in re.finditer(r"(?m)^(?:--[^\n]*\n)*(?:pub |abbrev |unfoldable )*[^\s:(]+ :", text) if m.start() <= uses]
-    return nearby(text[: heads[-1]] + block + text[heads[-1] :])
+    return nearby(text[: heads[-1]] + _declared(r, made, fresh) + text[heads[-1] :])
 
 
 def _code(text):
