@@ -106,9 +106,9 @@ class Col:
 
     def __init__(self, j, name, row, mut, ys=None, den=None):
         self.j, self.name, self.row, self.mut = j, name, row, mut
-        for letter in 'κ q b o γ x v Have room p l'.split(): setattr(self, letter, letter + sub(j))
-        self.whole = ys is not None                                            # no column: the argument is fixed
-        self.ys, self.den, self.now = ys or 'ys' + sub(j), den or f'List ({row} .Denot)', self.x if ys else f'{self.x} {self.γ} ys{sub(j)}'
+        for letter in 'κ q b o γ room p l'.split(): setattr(self, letter, letter + sub(j))
+        self.ys, self.den, self.x = ys or 'ys' + sub(j), den or f'List ({row} .Denot)', f'at-list {self.b} {self.o}'
+        self.now, self.v = f'{self.x} {self.γ} {self.ys}', f'(value-at {self.b} {self.o} {self.ys})'
         written = 'T.the-row' if row == 'R' else row
         word, borrow = ('mut', 'MutSlice') if mut else ('imm', 'ShrSlice')
         self.lent = f'{row} {self.κ} {self.q} {self.γ} {self.b} {self.o} (length {self.ys})'
@@ -122,18 +122,11 @@ class Col:
         self.vals, self.tells = 'slice-vals', f'{"mut" if mut else "shr"}-slice-tells (named {j}) (κs{path(j)}) {row}'
 
     def shared(self, i=None): return f'‵ (ShrSlice (named {self.j if i is None else i}) {self.κ} {self.row} .own ({self.now}) ({self.val}))'
-    def held(self, s): return f'‵ ({self.Have} ({s} .{self.name}))' if self.mut else f'‵ {self.Have}'
+    def has(self, ys): return f'Have {self.lent} (named {self.j}) ({ys})'
 
-    def declared(self):
-        """Step 4: the argument and its machine value."""
-        kind, args, name, now = (f'RefT ({self.den})', '', self.γ, self.ys) if self.whole else (f'GName → {self.den} → RefT ({self.den})', ' δ ys', 'δ', 'ys')
-        x = abbrev(self.x, kind, f'record {{ ptr = ({self.b}, {self.o}); name = {name}; now = {now} }}', args)
-        return x + '\n\n' + abbrev(self.v, 'Val', f'sliceVal ({self.b}, {self.o}) (length {self.ys})')
-
-    def have_declared(self):
+    def held(self, s):
         """Step 5: the column with its token."""
-        if self.mut: return abbrev(self.Have, f'{self.den} → Fml', f'Have {self.lent} (named {self.j}) ys', ' ys')
-        return abbrev(self.Have, 'Fml', f'fsep {self.shared()[2:]} (flft {self.κ} {self.q})')
+        return f'‵ ({self.has(f"{s} .{self.name}")})' if self.mut else f'‵ (Shared {self.row} {self.κ} {self.q} {self.γ} {self.b} {self.o} (named {self.j}) {self.ys})'
 
 
 class By:
@@ -277,7 +270,7 @@ class Call:
         c.move('tokens').splits(of('t', self.slices) + ['none']).drop('none').line().move('kept').opens(map(self.keeps, self.held), self.spare())
         for x in self.lent:
             c.line().move(('t', x), ('k', x), ('f', x))
-            c.use(3, f'later (‵ ({x.Have} ({self.ws(x)})))', f'backs {x.lent} 𝓤 H A W (named {x.j}) (named {self.slices.index(x)}) (s .{x.name}) ({self.p(x)} .0) ({self.p(x)} .1) ({self.ws(x)}) {x.l}', ('h', x))
+            c.use(3, f'later (‵ ({x.has(self.ws(x))}))', f'backs {x.lent} 𝓤 H A W (named {x.j}) (named {self.slices.index(x)}) (s .{x.name}) ({self.p(x)} .0) ({self.p(x)} .1) ({self.ws(x)}) {x.l}', ('h', x))
             c.step('await ! tt')
         if self.breaks: c.line()
         for x in self.held:
@@ -344,8 +337,7 @@ class Walk:
                  abbrev('bound', walk + ' .Ghost', '((κs, qs, tt, args, vals), tt)'), abbrev('Post', 'Val → SProp 𝓤', walk + ' .post bound'))
 
     def columns(self, remark):
-        """Step 5: each column with its token, and all of them as one item."""
-        self.put(2, *(c.have_declared() for c in self.held))
+        """Step 5: each column with its token, all of them as one item."""
         self.put(2, f'-- {remark}\n' + abbrev('Cols', 'Vars → SProp 𝓤', f'⋆ 𝓤 H A ({items(c.held("s") for c in self.held)})', ' s'))
 
     def at_first(self, *more): return abbrev('s₀', 'Vars', 'record { ' + '; '.join([*(f'{c.name} = {c.ys}' for c in self.muts), *more]) + ' }')

@@ -40,7 +40,7 @@ impl Radix {
         span: Span,
         write_id: Option<u32>,
         now: f64,
-    ) -> Answer<Vec<TierEvicted>> {
+    ) -> Answer<(Vec<TierEvicted>, u32)> {
         accepted(call!(
             self.scorebeetle_store_insert
                 [out_node, out_start, out_end, out_write, out_bytes, out_dead] answer,
@@ -52,7 +52,7 @@ impl Radix {
             now,
             write_id.unwrap_or(0),
         ))?;
-        Ok(self.lists.given_out())
+        Ok((self.lists.given_out(), self.lists.blocks()))
     }
 
     pub(crate) fn call_store_used(
@@ -85,7 +85,7 @@ impl Radix {
         known: bool,
         s: StoreId,
         span: Span,
-    ) -> Answer<Vec<u32>> {
+    ) -> Answer<(Vec<u32>, u32)> {
         accepted(call!(
             self.scorebeetle_store_remove[writes] answer,
             known,
@@ -94,7 +94,7 @@ impl Radix {
             span.start as usize,
             span.end as usize,
         ))?;
-        Ok(self.lists.writes())
+        Ok((self.lists.writes(), self.lists.blocks()))
     }
 
     pub(crate) fn call_store_expire(

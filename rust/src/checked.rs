@@ -31,7 +31,7 @@ impl Radix {
         write_id: Option<u32>,
         now: f64,
     ) -> Answer<Vec<TierEvicted>> {
-        self.call_store_insert(false, s, span, write_id, now)
+        Ok(self.call_store_insert(false, s, span, write_id, now)?.0)
     }
 
     pub fn checked_store_promoted(&mut self, s: StoreId, spans: &[Span], now: f64) -> Answer<u64> {
@@ -44,7 +44,7 @@ impl Radix {
     }
 
     pub fn checked_store_remove(&mut self, s: StoreId, span: Span) -> Answer<Vec<u32>> {
-        self.call_store_remove(false, s, span)
+        Ok(self.call_store_remove(false, s, span)?.0)
     }
 
     pub fn checked_store_expire(

@@ -72,6 +72,12 @@ impl Lists {
         (0..self.answer[0] as usize).map(one).collect()
     }
 
+    /// The blocks that a bring-in or a removal counts, behind the number of its
+    /// spans or writes.
+    pub fn blocks(&self) -> u32 {
+        self.answer[1] as u32
+    }
+
     pub fn writes(&self) -> Vec<u32> {
         self.writes[..self.answer[0] as usize].to_vec()
     }

@@ -69,6 +69,18 @@ impl Radix {
         write_id: Option<u32>,
         now: f64,
     ) -> Answer<Vec<TierEvicted>> {
+        Ok(self.store_insert_blocks(s, span, write_id, now)?.0)
+    }
+
+    /// The same, with how many blocks came in: those that weren't held, none
+    /// where the capacity is 0.
+    pub fn store_insert_blocks(
+        &mut self,
+        s: StoreId,
+        span: Span,
+        write_id: Option<u32>,
+        now: f64,
+    ) -> Answer<(Vec<TierEvicted>, u32)> {
         self.call_store_insert(true, s, span, write_id, now)
     }
 
@@ -85,6 +97,11 @@ impl Radix {
 
     /// A span out of store `s`; the writes of the ranges that it overlapped.
     pub fn store_remove(&mut self, s: StoreId, span: Span) -> Answer<Vec<u32>> {
+        Ok(self.store_remove_blocks(s, span)?.0)
+    }
+
+    /// The same, with how many blocks went.
+    pub fn store_remove_blocks(&mut self, s: StoreId, span: Span) -> Answer<(Vec<u32>, u32)> {
         self.call_store_remove(true, s, span)
     }
 

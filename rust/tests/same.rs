@@ -145,6 +145,27 @@ fn examples_of_touch_and_lookup() {
     assert_eq!(found.tier_bytes, [0, 400]);
 }
 
+/// The blocks that come in are those of the gaps, none at capacity 0; those
+/// that go are the held ones of the span.
+#[test]
+fn blocks_of_a_bring_in_and_a_removal() {
+    let stores = [(4, EvictionPolicy::Refresh), (0, EvictionPolicy::Fifo)];
+    let mut radix = Radix::new(|k| 100 * k as u64, &stores).unwrap();
+    radix.insert(&[11, 12, 13, 14, 15]).unwrap();
+    let span = |start, end| Span {
+        node: 1,
+        start,
+        end,
+    };
+    let mut came = |s, span| radix.store_insert_blocks(s, span, Some(7), 10.0).unwrap().1;
+    assert_eq!(came(1, span(0, 5)), 0);
+    assert_eq!(came(0, span(0, 5)), 5);
+    assert_eq!(came(0, span(2, 5)), 1);
+    assert_eq!(radix.store_remove_blocks(0, span(2, 5)), Ok((vec![7, 7], 2)));
+    assert_eq!(radix.store_remove_blocks(0, span(2, 5)), Ok((vec![], 0)));
+    assert_eq!(radix.store_held_blocks(0), Ok(2));
+}
+
 /// The six counters of a store, from the calls with soundness known and from
 /// the public ones.
 fn counters(a: &Radix, b: &mut Radix, s: usize) -> [[Result<u64, Refusal>; 6]; 2] {

@@ -6,19 +6,22 @@ use mathlib.Core.List.{List, [], _∷_}
 use native.Mathlib.Omega.{arith}
 use lib.ListN.{length}
 use lib.Ieee.{Float}
+use mir.Val.{Fits}
+use mir.Syntax.{w64}
 use Rattle.model.specs.declared.Span.{Span}
 use Rattle.model.specs.declared.Book.{Book}
 use Rattle.model.specs.Sizes.{maxStores, maxNumbers}
 use Rattle.model.specs.State.{Ranges, Range, State, nodesIn, usedIn, nextIdIn, stallsIn, nextIdOf, stallsOf, bookOf, capacityOf, recordsOf, heldOf, stampOf, versionOf, entriesOf}
 use Rattle.model.specs.Store.{ranges, pins, storeOf, total, ranged, layBook, layNext, withRanges, withNext}
 use Rattle.model.specs.Trim.{Out, Trimmed, trim, stallsAfter}
-use Rattle.model.specs.Bring.{Gap, Brought, gaps, fresh, fill, bringNeed, keep}
+use Rattle.model.specs.Bring.{Gap, Brought, gaps, gapBlocks, fresh, fill, bringNeed, bringBlocks, keep}
 use Rattle.model.specs.Refusals.{OutList, OutFits}
 use Rattle.model.specs.Calls.{brought, bringIn, layOuts}
 use Rattle.theory_sound.specs.Facts.{All}
 use Rattle.theory_sound.specs.StoreSound.{TreeSound, RangesSound, MarksSound, StoreSound}
 use Rattle.theory_bring.proofs.Bring.{bring-cases}
-use Rattle.theory_bring.proofs.Fill.{gaps-rising, gaps-clear, fill-sound}
+use Rattle.model.proofs.Conserved.{fill-total}
+use Rattle.theory_bring.proofs.Fill.{gaps-rising, gaps-clear, fill-length, fill-sound}
 use Rattle.theory_calls.proofs.Parts.{sound-parts}
 use Rattle.theory_calls.proofs.Stores.{store-sound}
 use Rattle.shape_state.specs.Lent.{treeOf, stateOf}
@@ -70,6 +73,11 @@ one-out o l lʹ h e = e ∙ out-more [] o l (omega arith) h
 
 -- ---- what a sound state gives
 
+reach-total : (depth : List ℕ) (rs : List Range) → All (Reach depth) rs → total rs ≤ 1024 * length rs
+unfolding All total
+reach-total depth [] a = omega arith
+reach-total depth (r ∷ rs) a = omega (arith, a .0 .ends, reach-total depth rs (a .1))
+
 module _ {st : State} {l : OutList} {s : ℕ} {sp : Span} {g : Gaps} {time : Float} (p : InsertReady st l s sp g time) where
   abbrev gs : List Gap
   gs = gaps (sp .node) (storeOf st s .ranges) (sp .start) (sp .end)
@@ -97,7 +105,7 @@ module _ {st : State} {l : OutList} {s : ℕ} {sp : Span} {g : Gaps} {time : Flo
       let r = fresh (sp .node) (record { from = sp .start; upto = sp .end }) 0 0 time 0 in
       omega (arith, sound-reach tree (r ∷ []) (record { inUse = p .span .node; filled = p .span .filled; ends = p .span .ends }, tt) .0 .ends)
 
-  rising-gaps : All Filled (gapsOf g)
+  pub rising-gaps : All Filled (gapsOf g)
   rising-gaps = rw (p .gaps) (rising-filled (sp .start) (sp .end) gs low (gaps-rising (st .tree) (sp .node) (sp .end) (storeOf st s .ranges) (sp .start) (own .ranges .inside)))
 
   filled-in : (w : ℕ) → All (Reach (st .tree .depth)) (fill (sp .node) gs (storeOf st s .book .stamp) (nextIdOf st) time w (storeOf st s .ranges))
@@ -108,6 +116,24 @@ module _ {st : State} {l : OutList} {s : ℕ} {sp : Span} {g : Gaps} {time : Flo
       (storeOf st s .ranges) (gaps-rising (st .tree) (sp .node) (sp .end) (storeOf st s .ranges) (sp .start) (h .inside))
       (gaps-clear (st .tree) (sp .node) (sp .end) (storeOf st s .ranges) (sp .start) (h .inside) (h .sorted)) (p .sound .counts .firstId) h .inside)
 
+  -- what is held once the gaps are filled is far below what a number holds
+  held-small : heldOf st s + gapBlocks (gapsOf g) ≤ 1024 * 128
+  unfolding storeOf
+  held-small =
+      let rs = fill (sp .node) gs (storeOf st s .book .stamp) (nextIdOf st) time 0 (storeOf st s .ranges) in
+      omega (
+        arith,
+        reach-total (st .tree .depth) rs (filled-in 0),
+        fill-length (sp .node) time 0 gs (storeOf st s .book .stamp) (nextIdOf st) (storeOf st s .ranges),
+        fill-total (sp .node) gs (storeOf st s .book .stamp) (nextIdOf st) time 0 (storeOf st s .ranges),
+        own .held,
+        ap gapBlocks (p .gaps),
+        p .records,
+        gaps-length (g .from) (g .upto) (g .n),
+        ap (λ (x : List Gap). length x) (p .gaps),
+        own .records,
+      )
+
   read : ranges (midRanges (128 * s) 128 (st .ranges)) 0 (recordsOf st s) ≡ storeOf st s .ranges
   unfolding storeOf
   read = ranges-part (st .ranges) (128 * s) 128 (recordsOf st s) few
@@ -116,23 +142,27 @@ module _ {st : State} {l : OutList} {s : ℕ} {sp : Span} {g : Gaps} {time : Flo
       → All (Reach (st .tree .depth)) (fill (sp .node) (gapsOf g) top (nextIdOf st) time w rs)
   part-in rs e top d w = rw (e, d, p .gaps) (filled-in w)
 
-  ready-in : Ready (st .tree .depth) (st .bytes) (recordsOf st s) (heldOf st s) (midRanges (128 * s) 128 (st .ranges))
-      (mid (256 * s) 256 (st .marks)) l
+  ready-in : Ready (st .tree .depth) (st .bytes) (recordsOf st s) (total (ranges (midRanges (128 * s) 128 (st .ranges)) 0 (recordsOf st s)))
+      (midRanges (128 * s) 128 (st .ranges)) (mid (256 * s) 256 (st .marks)) l
   unfolding storeOf
   ready-in =
       sound-ready {t = st .tree} {next = nextIdOf st} {top = storeOf st s .book .stamp} tree (p .sound .table) (p .sound .lent .bytes)
       (ranges-sized (128 * s) (st .ranges) (p .sound .lent .ranges) (omega (arith, in-stores))) few
       (subst (λ (rs : List Range). RangesSound (st .tree) (nextIdOf st) (storeOf st s .book .stamp) rs) (sym read) (own .ranges))
-      (own .held ∙ ap total (sym read))
+      refl
       (subst (λ (rs : List Range). MarksSound (st .tree) rs (storeOf st s .marks)) (sym read) (own .marks)) (p .fits)
 
   stamp-is : stampOf st s ≡ storeOf st s .book .stamp
   unfolding storeOf
   stamp-is = refl
 
-  pool-own : (w : ℕ)
-      → PoolReady (st .tree .depth) (st .bytes) s (recordsOf st s) (entriesOf st s) (heldOf st s) (st .ranges) (st .marks) l (st .pins .node) (st .pins .start) (st .pins .end) (sp .node) g (stampOf st s) (nextIdOf st) time w
-  pool-own w =
+  held-in : heldOf st s ≡ total (ranges (midRanges (128 * s) 128 (st .ranges)) 0 (recordsOf st s))
+  unfolding storeOf
+  held-in = own .held ∙ ap total (sym read)
+
+  pool-own : (w h : ℕ) → h ≡ heldOf st s + gapBlocks (gapsOf g)
+      → PoolReady (st .tree .depth) (st .bytes) s (recordsOf st s) (entriesOf st s) h (st .ranges) (st .marks) l (st .pins .node) (st .pins .start) (st .pins .end) (sp .node) g (stampOf st s) (nextIdOf st) time w
+  pool-own w h more =
       record {
         store = in-stores;
         entries = p .sound .counts .each s (omega arith) (p .store) .entries;
@@ -144,16 +174,22 @@ module _ {st : State} {l : OutList} {s : ℕ} {sp : Span} {g : Gaps} {time : Flo
         part = record {
           ready = ready-in;
           room = record { records = p .records; stamps = omega (arith, p .stamps); ids = omega (arith, p .ids) };
-          filled = rising-gaps;
+          held = omega (arith, held-in);
           reach = part-in _ read _ stamp-is w;
         };
       }
 
   -- where b are the store's own numbers
   module _ (b : Book) (is : b ≡ bookOf st s) where
-    pub pool-in : (w : ℕ)
-        → PoolReady (st .tree .depth) (st .bytes) s (b .records) (b .entries) (b .held) (st .ranges) (st .marks) l (st .pins .node) (st .pins .start) (st .pins .end) (sp .node) g (b .stamp) (nextIdOf st) time w
-    pool-in w = rw is (pool-own w)
+    held-read : b .held ≡ heldOf st s
+    held-read = ap (λ (k : Book). k .held) is
+
+    pub sum-fits : {k : ℕ} → k ≡ gapBlocks (gapsOf g) → Fits w64 (b .held + k)
+    sum-fits e = omega (arith, held-small, held-read, e)
+
+    pub pool-in : (w k : ℕ) → k ≡ gapBlocks (gapsOf g)
+        → PoolReady (st .tree .depth) (st .bytes) s (b .records) (b .entries) (b .held + k) (st .ranges) (st .marks) l (st .pins .node) (st .pins .start) (st .pins .end) (sp .node) g (b .stamp) (nextIdOf st) time w
+    pool-in w k e = rw (is, e) (pool-own w (heldOf st s + gapBlocks (gapsOf g)) refl)
 
     pub settle-in : (s < maxStores) × (maxNumbers ≤ length (st .books)) × (g .n ≤ 128) × (b .stamp ≤ 281474976710656) × (nextIdOf st ≤ 281474976710656)
     settle-in = (in-stores, p .sound .lent .books, omega (arith, p .records), rw is (omega (arith, p .stamps)), omega (arith, p .ids))
@@ -167,9 +203,13 @@ module _ {st : State} {l : OutList} {s : ℕ} {sp : Span} {g : Gaps} {time : Flo
       bring-cases (st .tree) (st .bytes) (nextIdOf st) (storeOf st s) sp time w
       (λ k b. (k ≡ length gs) × (b ≡ keep (st .tree) (st .bytes) (storeOf st s) (nextIdOf st) sp time w)) (λ e. absurd (p .some e)) (λ e. (refl, refl))
 
-  above : (c : ℕ) (a b : State) → (c ≡ 0 → ⊥) → elim c [ zero ↦ a | suc d ↦ b ] ≡ b
+  above : {A : Type 0} (c : ℕ) (a b : A) → (c ≡ 0 → ⊥) → elim c [ zero ↦ a | suc d ↦ b ] ≡ b
   above zero a b h = absurd (h refl)
   above (suc c) a b h = refl
+
+  blocks-in : gapBlocks (gapsOf g) ≡ bringBlocks (storeOf st s) sp
+  unfolding bringBlocks storeOf
+  blocks-in = ap gapBlocks (p .gaps) ∙ sym (above (capacityOf st s) 0 (gapBlocks gs) (p .some))
 
   kept-in : (w : ℕ) → let k = keep (st .tree) (st .bytes) (storeOf st s) (nextIdOf st) sp time w in
       bringIn st s sp time w ≡ withNext (nextIdOf st + length gs) (stallsAfter (k .stalled) (stallsOf st)) (withRanges s (length gs) (k .store) st)
@@ -218,14 +258,15 @@ module _ {st : State} {l : OutList} {s : ℕ} {sp : Span} {g : Gaps} {time : Flo
     pub brought-in : (b : Book) → b ≡ bookOf st s → (bs : List ℕ) → st .tree .nodes ≡ nodesIn (st .books) → st .tree .used ≡ usedIn (st .books)
         → bs ≡ settled s b (g .n) n h v q (st .books)
         → GivenOutAt s (trim (onlyDepth (st .tree .depth)) (st .bytes) (pins (st .pins) (32 * s) (b .entries)) (b .capacity) (fill (sp .node) (gapsOf g) (b .stamp) (nextIdOf st) time w (ranges (st .ranges) (128 * s) (b .records))) (mid (256 * s) 256 (st .marks))) (b .records + length (gapsOf g)) (b .version) (st .ranges) (st .marks) l c ms lʹ n h o v q
-        → BroughtIn st l s sp time w (stateWith (nodesIn bs) (usedIn bs) c ms bs) lʹ o
-    brought-in b is bs a d e u =
+        → {k : ℕ} → k ≡ gapBlocks (gapsOf g) → BroughtIn st l s sp time w (stateWith (nodesIn bs) (usedIn bs) c ms bs) lʹ o k
+    brought-in b is bs a d e u more =
         let y = given-in b is u in
         let k : g .n ≡ length gs = sym (gaps-length (g .from) (g .upto) (g .n)) ∙ ap length (p .gaps) in
         record {
           state = counted-in c ms (length gs) n h v q bs a d (e ∙ (λ j. settled s (is j) (k j) n h v q (st .books))) ∙ laid-in y;
           lists = y .lists ∙ ap (λ (x : List Out). layOuts x l) (outs-in w);
           outs = y .outs ∙ ap (λ (x : List Out). length x) (outs-in w);
+          blocks = more ∙ blocks-in;
         }
 
 -- ---- the small numbers

@@ -6,7 +6,7 @@ use mathlib.Core.Logic.{inl, inr}
 use mathlib.Core.Bool.{Bool, true, false, not, _||_}
 use mathlib.Core.List.{List, [], _∷_, _++_}
 use native.Mathlib.Omega.{arith}
-use borrow.Author.Tests.{lt-ltb, le-ltb, le-leb, lt-leb}
+use borrow.Author.Tests.{le-leb, lt-leb}
 use lib.Dec.{ltb}
 use lib.ListN.{length}
 use lib.Ieee.{Float}
@@ -14,18 +14,21 @@ use Rattle.model.specs.declared.Span.{Span}
 use Rattle.model.specs.declared.Book.{Book}
 use Rattle.model.specs.Sizes.{maxStores, maxNumbers, storeRecords, maxStamp}
 use Rattle.model.specs.State.{Range, State, storesOf, nextIdOf, bookOf, capacityOf, recordsOf, stampOf}
+use Rattle.model.specs.Words.{pick}
 use Rattle.model.specs.Sound.{Sound, Finite}
 use Rattle.model.specs.SoundTest.{finite}
 use Rattle.model.specs.Store.{storeOf, ranges}
 use Rattle.model.specs.Trim.{Out}
-use Rattle.model.specs.Bring.{Brought, gaps, bringNeed, giveBack}
+use Rattle.model.specs.Bring.{Brought, gaps, bringNeed, bringBlocks, giveBack}
 use Rattle.model.specs.Refusals.{Condition, Exact, First, firstOf, OutList, OutFits, SpanIn, spanIn, unsound, shortOuts, noStore, badSpan, badTime, fewRecords, lateStamp, storeInsertRefusals}
 use Rattle.model.specs.Calls.{refused, done, brought, bringIn, layOuts, storeInsert}
 use Rattle.theory_refuse.proofs.Says.{false-says}
 use Rattle.theory_refuse.proofs.Refusals.{first-says, storeInsert-exact}
 use Rattle.theory_refuse.proofs.Unless.{unless-none, unless-some}
-use Rattle.theory_bring.proofs.Bring.{bring-cases}
+use Rattle.theory_bring.proofs.Bring.{bring-cases, bring-none}
 use Rattle.theory_calls.proofs.Accepted.{NoneHolds, neither, span-in, is-finite}
+use Rattle.test_arguments.specs.Need.{needNumber}
+use Rattle.test_arguments.proofs.Need.{number-0}
 use Rattle.rule_resolve.specs.Span.{Priced, onlyDepth}
 use Rattle.rule_resolve.proofs.Sound.{sound-priced}
 use Rattle.shape_state.specs.Lent.{rangesOf}
@@ -37,7 +40,7 @@ use Rattle.rule_fill.proofs.Missing.{gaps-length}
 use Rattle.call_bring.specs.Settled.{whole}
 use Rattle.call_bring.specs.Insert.{InsertReady, BroughtIn}
 use Rattle.shape_answer.specs.Answers.{outcome}
-use Rattle.call_bring.specs.Keep.{argumentRefusals, needRefusals, KeepReady}
+use Rattle.call_bring.specs.Keep.{argumentRefusals, KeepReady}
 
 -- ---- a list of conditions, and its first
 
@@ -108,47 +111,23 @@ module _ (st : State) (s : ℕ) (sp : Span) (time : Float) where
 
 -- ---- the tests for 8 and 11
 
-or-first : (a b : Bool) → a ≡ true → (a || b) ≡ true
-or-first a b e = rw e
+-- these two, for `need` new records, stamps and ids
+abbrev needRefusals : State → ℕ → ℕ → List Condition
+needRefusals st s need = fewRecords st s need ∷ lateStamp st s need need ∷ []
 
-or-second : (a b : Bool) → b ≡ true → (a || b) ≡ true
-or-second true b e = refl
-or-second false b e = e
+first-of-two : (a b : Bool) → _≡_ {A = ℕ} (pick a 8 (pick b 11 0)) (elim a [ true ↦ 8 | false ↦ elim b [ true ↦ 11 | false ↦ 0 ] ])
+first-of-two true b = refl
+first-of-two false true = refl
+first-of-two false false = refl
 
-or-none : (a b : Bool) → a ≡ false → b ≡ false → (a || b) ≡ false
-or-none a b e d = rw e d
+need-first-of : (st : State) (s need : ℕ) → needNumber (recordsOf st s) need (stampOf st s) need (nextIdOf st) ≡ firstOf (needRefusals st s need)
+need-first-of st s need =
+    first-of-two (ltb storeRecords (recordsOf st s + need)) (ltb maxStamp (stampOf st s + need) || ltb maxStamp (nextIdOf st + need))
 
-module _ (st : State) (s n : ℕ) (b : Book) (next : ℕ) (e : bookOf st s ≡ b) (d : nextIdOf st ≡ next) where
-  records-are : recordsOf st s ≡ b .records
-  records-are = ap (λ (k : Book). k .records) e
-
-  stamp-is : stampOf st s ≡ b .stamp
-  stamp-is = ap (λ (k : Book). k .stamp) e
-
-  pub few-records : storeRecords < b .records + n → 8 ≡ firstOf (needRefusals st s n)
-  few-records h = hit (fewRecords st s n) (lateStamp st s n n ∷ []) (lt-ltb storeRecords (recordsOf st s + n) (omega (arith, records-are)))
-
-  module _ (room : b .records + n ≤ storeRecords) where
-    records-pass : firstOf (needRefusals st s n) ≡ firstOf (lateStamp st s n n ∷ [])
-    records-pass = pass (fewRecords st s n) (lateStamp st s n n ∷ []) (le-ltb storeRecords (recordsOf st s + n) (omega (arith, records-are)))
-
-    pub late-stamp : maxStamp < b .stamp + n → 11 ≡ firstOf (needRefusals st s n)
-    late-stamp h =
-        hit (lateStamp st s n n) []
-        (or-first (ltb maxStamp (stampOf st s + n)) (ltb maxStamp (nextIdOf st + n)) (lt-ltb maxStamp (stampOf st s + n) (omega (arith, stamp-is))))
-        ∙ sym records-pass
-
-    pub late-id : maxStamp < next + n → 11 ≡ firstOf (needRefusals st s n)
-    late-id h =
-        hit (lateStamp st s n n) []
-        (or-second (ltb maxStamp (stampOf st s + n)) (ltb maxStamp (nextIdOf st + n)) (lt-ltb maxStamp (nextIdOf st + n) (omega (arith, d))))
-        ∙ sym records-pass
-
-    pub need-passes : b .stamp + n ≤ maxStamp → next + n ≤ maxStamp → 0 ≡ firstOf (needRefusals st s n)
-    need-passes h k =
-        sym (records-pass ∙ pass (lateStamp st s n n) []
-        (or-none (ltb maxStamp (stampOf st s + n)) (ltb maxStamp (nextIdOf st + n)) (le-ltb maxStamp (stampOf st s + n) (omega (arith, stamp-is)))
-        (le-ltb maxStamp (nextIdOf st + n) (omega (arith, d)))))
+-- the number that the test gave, by a store's numbers that were read
+pub need-tested : (st : State) (s : ℕ) {b : Book} → b ≡ bookOf st s → (need : ℕ) {r : ℕ} → r ≡ needNumber (b .records) need (b .stamp) need (nextIdOf st)
+    → r ≡ firstOf (needRefusals st s need)
+need-tested st s is need e = e ∙ ap (λ (k : Book). needNumber (k .records) need (k .stamp) need (nextIdOf st)) is ∙ need-first-of st s need
 
 -- ---- the gaps of a store's part are those of the store
 
@@ -176,6 +155,13 @@ book-in h l = (in-eight h l, h .lent .books)
 
 pub nodes-lent : {st : State} → Sound st → st .tree .nodes ≤ length (st .tree .len)
 nodes-lent h = omega (arith, h .counts .nodes, h .lent .tree .len)
+
+-- what the test of 8 and 11 asks
+pub need-asked : {st : State} {l : OutList} {s : ℕ} {sp : Span} {time : Float} → KeepReady st l s sp time → (b : Book) → b ≡ bookOf st s
+    → (b .records ≤ storeRecords) × (b .stamp ≤ maxStamp) × (nextIdOf st ≤ maxStamp)
+need-asked {st} {l} {s} {sp} {time} p b is =
+    let c = p .sound .counts .each s zero-le (p .store) in
+    (rw is (c .records), rw is (c .stamp), p .sound .counts .nextId)
 
 pub gaps-asked : {st : State} {l : OutList} {s : ℕ} {sp : Span} {time : Float} → KeepReady st l s sp time → (b : Book) → b ≡ bookOf st s
     → (s < 8) × (b .records ≤ 128) × (1024 ≤ length (st .ranges .node)) × (1024 ≤ length (st .ranges .start)) × (1024 ≤ length (st .ranges .end))
@@ -263,7 +249,9 @@ module _ (st : State) (l : OutList) (s : ℕ) (sp : Span) (time : Float) (h : So
       nothing-needed : 0 ≡ firstOf (needRefusals st s need)
       nothing-needed =
           let c = h .counts .each s zero-le store-there in
-          need-passes st s need (bookOf st s) (nextIdOf st) refl refl (omega (arith, gives .0)) (omega (arith, gives .0)) (omega (arith, gives .0, h .counts .nextId))
+          number-0 (recordsOf st s) need (stampOf st s) need (nextIdOf st) (omega (arith, gives .0, c .records)) (omega (arith, gives .0, c .stamp))
+          (omega (arith, gives .0, h .counts .nextId))
+          ∙ need-first-of st s need
 
       same-state : bringIn st s sp time w ≡ st
       unfolding bringIn
@@ -277,11 +265,16 @@ module _ (st : State) (l : OutList) (s : ℕ) (sp : Span) (time : Float) (h : So
       unfolding giveBack
       outs-are = ap (λ (b : Brought). b .outs) (gives .1)
 
+      no-block : bringBlocks (storeOf st s) sp ≡ 0
+      unfolding storeOf
+      no-block = bring-none (st .tree) (st .bytes) (nextIdOf st) (storeOf st s) sp time w none
+
       pub given-back : (lʹ : OutList) → lʹ ≡ layOuts (whole (onlyDepth (st .tree .depth)) (st .bytes) sp w ∷ []) l
-          → outcome st lʹ (done (record { outs = 1 })) ≡ storeInsert st l s sp time w
+          → outcome st lʹ (done (record { outs = 1; blocks = 0 })) ≡ storeInsert st l s sp time w
       unfolding storeInsert
       given-back lʹ q =
-          (λ j. outcome (sym same-state j) ((q ∙ ap (λ (os : List Out). layOuts os l) (sym outs-are)) j) (done (record { outs = sym (ap length outs-are) j })))
+          (λ j. outcome (sym same-state j) ((q ∙ ap (λ (os : List Out). layOuts os l) (sym outs-are)) j)
+          (done (record { outs = sym (ap length outs-are) j; blocks = sym no-block j })))
           ∙ sym (unless-none st l _ _ (need-decides st l s sp time h fits store-there span-there time-finite ∙ sym nothing-needed))
 
 -- ---- a store with a capacity
@@ -330,6 +323,8 @@ module _ {st : State} {l : OutList} {s : ℕ} {sp : Span} {time : Float} (p : Ke
           ids = omega (arith, b .1, kept-is);
         }
 
-    pub kept-whole : {w : ℕ} {stʹ : State} {lʹ : OutList} {o : ℕ} → BroughtIn st l s sp time w stʹ lʹ o → outcome stʹ lʹ (done (record { outs = o })) ≡ storeInsert st l s sp time w
+    pub kept-whole : {w : ℕ} {stʹ : State} {lʹ : OutList} {o b : ℕ} → BroughtIn st l s sp time w stʹ lʹ o b
+        → outcome stʹ lʹ (done (record { outs = o; blocks = b })) ≡ storeInsert st l s sp time w
     unfolding storeInsert
-    kept-whole u = (λ j. outcome (u .state j) (u .lists j) (done (record { outs = u .outs j }))) ∙ sym (unless-none st l _ _ (need-first ∙ sym e))
+    kept-whole u =
+        (λ j. outcome (u .state j) (u .lists j) (done (record { outs = u .outs j; blocks = u .blocks j }))) ∙ sym (unless-none st l _ _ (need-first ∙ sym e))

@@ -8,7 +8,7 @@ use Rattle.model.specs.Sizes.{storeRecords, maxStamp}
 use Rattle.model.specs.State.{State, storesOf, nextIdOf, capacityOf, recordsOf, stampOf}
 use Rattle.model.specs.Sound.{Sound, Finite}
 use Rattle.model.specs.Store.{storeOf}
-use Rattle.model.specs.Bring.{gaps}
+use Rattle.model.specs.Bring.{gaps, bringBlocks}
 use Rattle.model.specs.Refusals.{SpanIn, OutList, OutFits}
 use Rattle.model.specs.Calls.{brought, bringIn, layOuts}
 use Rattle.rule_fill.specs.declared.Gaps.{Gaps}
@@ -26,8 +26,9 @@ pub record InsertReady (st : State) (l : OutList) (s : ℕ) (sp : Span) (g : Gap
   pub stamps : stampOf st s + g .n ≤ maxStamp
   pub ids : nextIdOf st + g .n ≤ maxStamp
 
--- state and answer lists became stʹ and lʹ, and o spans were given out
-pub record BroughtIn (st : State) (l : OutList) (s : ℕ) (sp : Span) (time : Float) (w : ℕ) (stʹ : State) (lʹ : OutList) (o : ℕ) : Type 0 where
+-- state and answer lists became stʹ and lʹ, o spans were given out, and b blocks came in
+pub record BroughtIn (st : State) (l : OutList) (s : ℕ) (sp : Span) (time : Float) (w : ℕ) (stʹ : State) (lʹ : OutList) (o b : ℕ) : Type 0 where
   pub state : stʹ ≡ bringIn st s sp time w
   pub lists : lʹ ≡ layOuts (brought st s sp time w .outs) l
   pub outs : o ≡ length (brought st s sp time w .outs)
+  pub blocks : b ≡ bringBlocks (storeOf st s) sp

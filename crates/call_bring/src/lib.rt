@@ -8,10 +8,10 @@ use rule_trim::Trimming;
 use shape_answer::StoreInserted;
 ghost use mathlib.Core.Path.{_≡_};
 ghost use mathlib.Core.List.{[], _∷_};
-ghost use Prim.Native.Nat.{_+_, _≤_, _<_, ℕ};
+ghost use Prim.Native.Nat.{_+_, _≤_, _<_};
 ghost use lib.ListN.{length};
 ghost use Rattle.model.specs.Sizes.{maxStores, maxNumbers};
-ghost use Rattle.model.specs.State.{nextIdIn, State, storesOf, nextIdOf, bookOf, recordsOf};
+ghost use Rattle.model.specs.State.{nextIdIn, State, storesOf, recordsOf};
 ghost use Rattle.model.specs.Trim.{stallsAfter};
 ghost use Rattle.model.specs.Refusals.{OutFits, firstOf};
 ghost use Rattle.model.specs.Calls.{layOuts, storeInsert};
@@ -23,7 +23,7 @@ ghost use Rattle.model.specs.Sound.{Sound};
 ghost use Rattle.model.specs.Bring.{gaps as gapsBetween};
 ghost use Rattle.rule_fill.specs.Gaps.{gapsOf};
 ghost use Rattle.shape_answer.specs.Answers.{stateFrom, outcome, storeInsertedOf};
-ghost use Rattle.call_bring.specs.Keep.{argumentRefusals, needRefusals};
+ghost use Rattle.call_bring.specs.Keep.{argumentRefusals};
 
 // One stall more, up to 2^48.
 fn stalls_after(stalled: bool, stalls: u64) -> u64
@@ -59,14 +59,14 @@ pub fn settle(books: &mut [u64], s: usize, b: Book, need: usize, t: Trimming)
 
 // With capacity 0 the whole span is given out at once.
 pub fn give_back(
+    depth: &[usize],
+    bytes: &[u64],
     out_node: &mut [usize],
     out_start: &mut [usize],
     out_end: &mut [usize],
     out_write: &mut [u32],
     out_bytes: &mut [u64],
     out_dead: &mut [u64],
-    depth: &[usize],
-    bytes: &[u64],
     sp: Span,
     w: u32,
 )
@@ -151,28 +151,7 @@ fn gaps_of(node: &[usize], start: &[usize], end: &[usize], s: usize, n: usize, s
     )
 }
 
-// What n new records, stamps and ids are refused for in a store whose numbers are b: 8, 11 or nothing, 0. Tested by differences, so that no sum can wrap.
-fn need_refusal(b: Book, next: u64, n: usize) -> u8
-    requires { ⌜ n ≤ 129 ⌝ }
-    ensures { λ r. ⌜ ((st : State) (s : ℕ) → bookOf st s ≡ b → nextIdOf st ≡ next → r ≡ firstOf (needRefusals st s n)) ⌝ }
-{
-    if 128 < n {
-        return 8;
-    }
-    if 128 - n < b.records {
-        return 8;
-    }
-    let most = 281474976710655 - n as u64;
-    if most < b.stamp {
-        return 11;
-    }
-    if most < next {
-        return 11;
-    }
-    0
-}
-
-// A span brought into store s: the number of spans given out, or a refusal.
+// A span brought into store s: the number of spans given out and the blocks of the gaps, or a refusal.
 pub fn store_insert(
     parent: &[usize],
     depth: &[usize],
@@ -238,26 +217,29 @@ pub fn store_insert(
     let b = pool_book::book_of(books, s);
     if b.capacity == 0 {
         give_back(
+            depth,
+            bytes,
             out_node,
             out_start,
             out_end,
             out_write,
             out_bytes,
             out_dead,
-            depth,
-            bytes,
             sp,
             w,
         );
-        return StoreInserted::Done(BringAnswer { outs: 1 });
+        return StoreInserted::Done(BringAnswer { outs: 1, blocks: 0 });
     }
     let next = books[3];
     let g = gaps_of(node, start, end, s, b.records, sp);
-    let lack = need_refusal(b, next, g.n);
+    let lack = test_arguments::need_number(b.records, g.n, b.stamp, g.n as u64, next);
     if 0 < lack {
         return StoreInserted::Refused(lack);
     }
+    let more = rule_fill::gap_blocks(g);
+    let held = b.held + more;
     let t = rule_bring::bring_pools(
+        depth,
         node,
         start,
         end,
@@ -265,22 +247,21 @@ pub fn store_insert(
         stamp,
         touched,
         write,
+        pin_node,
+        pin_start,
+        pin_end,
         marks,
+        bytes,
         out_node,
         out_start,
         out_end,
         out_write,
         out_bytes,
         out_dead,
-        depth,
-        pin_node,
-        pin_start,
-        pin_end,
-        bytes,
         s,
         b.records,
         b.entries,
-        b.held,
+        held,
         b.capacity,
         b.version,
         sp.node,
@@ -293,5 +274,6 @@ pub fn store_insert(
     settle(books, s, b, g.n, t);
     StoreInserted::Done(BringAnswer {
         outs: t.outs as u64,
+        blocks: more,
     })
 }

@@ -10,6 +10,7 @@ use Rattle.model.specs.Sizes.{maxNodes, maxStores, maxNumbers, maxStamp}
 use Rattle.model.specs.State.{Tree, Ranges, Pins, Pin, Range, State, at, nodesIn, usedIn, storesIn, nextIdIn, bookIn, storesOf, nextIdOf}
 use Rattle.model.specs.Sound.{EndsWithin, RunsBelow, PinInside}
 use Rattle.model.specs.Store.{Store, ranges, storeOf, layBook, layNext, layCounts, withRanges, withPins, withNext}
+use Rattle.model.specs.Words.{sumTo}
 use Rattle.model.specs.Pins.{pinnedIn}
 use Rattle.model.specs.Insert.{nextNode, rangesAcross, cutTree, cutStoreIn, cutStores, withTree, cut}
 use Rattle.shape_state.specs.Lent.{treeOf, stateOf}
@@ -21,7 +22,7 @@ use Rattle.theory_sound.specs.StoreSound.{TreeSound, StoreSound, Parts}
 use Rattle.theory_cut.proofs.CutTree.{cutTree-sound}
 use Rattle.theory_cut.proofs.CutStore.{below-nodes, cutStore-ids, cutStore-length, cutStore-pins, cutStore-sound}
 use Rattle.theory_calls.proofs.Parts.{sound-parts}
-use Rattle.theory_calls.proofs.Cut.{Cutting, Room, StoreCut, needs, sumTo, first-turn, cutIn-is, fits, next-turn}
+use Rattle.theory_calls.proofs.Cut.{Cutting, Room, StoreCut, needs, first-turn, cutIn-is, fits, next-turn}
 use Rattle.rule_cut_pins.specs.Entries.{counts}
 use Rattle.call_cut.specs.Needs.{idsBelow}
 use Rattle.call_cut.specs.Halves.{RangesRoom, StoreRoom}

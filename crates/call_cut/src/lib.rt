@@ -107,8 +107,8 @@ pub fn cut_ranges(
 
 // The read marks of store s, cut; `node` and `n` are those after the cut of its ranges.
 pub fn cut_marks(
-    marks: &mut [usize],
     node: &[usize],
+    marks: &mut [usize],
     s: usize,
     n: usize,
     j: usize,
@@ -127,7 +127,7 @@ pub fn cut_marks(
     let e = a + 256;
     let b = 128 * s;
     let f = b + 128;
-    rule_cut::cut_marks(&mut marks[a..e], &node[b..f], n, j, k, m);
+    pool_mark::cut_marks(&node[b..f], &mut marks[a..e], n, j, k, m);
 }
 
 // How many ranges of store s are across k on node j.
@@ -505,7 +505,7 @@ fn cut_range_half(
         next,
     );
     let count = cut.n;
-    cut_marks(marks, &*node, s, count, j, k, m);
+    cut_marks(&*node, marks, s, count, j, k, m);
     cut
 }
 

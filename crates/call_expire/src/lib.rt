@@ -38,6 +38,7 @@ fn refusal(stores: usize, s: usize, time: f64, seconds: f64) -> u8
 
 // The aged ranges of store s given out, in its parts of the whole pools.
 fn expire_pools(
+    depth: &[usize],
     node: &mut [usize],
     start: &mut [usize],
     end: &mut [usize],
@@ -46,14 +47,13 @@ fn expire_pools(
     touched: &mut [f64],
     write: &mut [u32],
     marks: &mut [usize],
+    bytes: &[u64],
     out_node: &mut [usize],
     out_start: &mut [usize],
     out_end: &mut [usize],
     out_write: &mut [u32],
     out_bytes: &mut [u64],
     out_dead: &mut [u64],
-    depth: &[usize],
-    bytes: &[u64],
     s: usize,
     n: usize,
     held: u64,
@@ -90,6 +90,7 @@ fn expire_pools(
     let b = 256 * s;
     let f = b + 256;
     rule_expire::store_expire(
+        depth,
         &mut node[a..e],
         &mut start[a..e],
         &mut end[a..e],
@@ -98,14 +99,13 @@ fn expire_pools(
         &mut touched[a..e],
         &mut write[a..e],
         &mut marks[b..f],
+        bytes,
         out_node,
         out_start,
         out_end,
         out_write,
         out_bytes,
         out_dead,
-        depth,
-        bytes,
         n,
         held,
         version,
@@ -175,8 +175,9 @@ pub fn store_expire(
     if number != 0 {
         return StoreExpired::Refused(number);
     }
-    let mut b = pool_book::book_of(books, s);
+    let b = pool_book::book_of(books, s);
     let r = expire_pools(
+        depth,
         node,
         start,
         end,
@@ -185,14 +186,13 @@ pub fn store_expire(
         touched,
         write,
         marks,
+        bytes,
         out_node,
         out_start,
         out_end,
         out_write,
         out_bytes,
         out_dead,
-        depth,
-        bytes,
         s,
         b.records,
         b.held,
@@ -200,10 +200,7 @@ pub fn store_expire(
         time,
         seconds,
     );
-    b.records = r.n;
-    b.held = r.held;
-    b.version = r.version;
-    pool_book::put_book(books, s, b);
+    pool_book::put_ranged(books, s, b, r.n, r.held, b.stamp, r.version);
     StoreExpired::Done(ExpireAnswer {
         outs: r.outs as u64,
     })

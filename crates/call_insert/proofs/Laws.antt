@@ -293,7 +293,7 @@ leaf-room ss t bs l hs m found f fits lent long nodes within words few =
 
 -- ---- an insert that is not refused
 
-module _ (st : State) (l : PathList) (hs : List ℕ) (m : Match) (found : PathList) (h : Passed st l hs m found) where
+module _ {st : State} {l : PathList} {hs : List ℕ} {m : Match} {found : PathList} (h : Passed st l hs m found) where
   zero-number : firstOf (insertRefusals st l hs) ≡ 0
   zero-number = few-number st l hs (h .sound) (h .fits) (h .short) ∙ h .none
 

@@ -7,6 +7,7 @@ use native.Mathlib.Omega.{arith}
 use lib.ListN.{length}
 use Rattle.model.specs.declared.EachTier.{EachTier}
 use Rattle.model.specs.Words.{Each, Some}
+use Rattle.model.specs.Sizes.{maxTiers}
 use Rattle.model.specs.State.{State, at, storesOf, recordsOf}
 use Rattle.model.specs.Sound.{Sound}
 use Rattle.model.specs.Lookup.{eachTier}
@@ -35,19 +36,19 @@ module _ (st : State) (l : LookupLists) (ts hs : List ℕ) (sound : Sound st) (p
     pub many-hashes-is : 1024 < length hs → outcome st l (refused 3) ≡ lookup st l ts hs
     many-hashes-is h = refused-is 2 (inr (λ n. n sound, inr (λ n. n path, inr (λ n. n tiers, inr (stores, inl (h, refl))))))
 
-    pub many-tiers-is : length hs ≤ 1024 → 8 < length ts → outcome st l (refused 3) ≡ lookup st l ts hs
+    pub many-tiers-is : length hs ≤ 1024 → maxTiers < length ts → outcome st l (refused 3) ≡ lookup st l ts hs
     many-tiers-is few h =
         refused-is 2 (inr (λ n. n sound, inr (λ n. n path, inr (λ n. n tiers, inr (stores, inr (λ n. omega arith, inl (h, refl)))))))
 
-    pub looked-is : {path′ : PathList} {spans′ : TierList} {m : Match} {w : LookupParts} (blocks bytes : EachTier) → length hs ≤ 1024 → length ts ≤ 8
-        → Resolved (st .tree) hs (l .path) path′ m → Told st ts hs (l .spans) spans′ w → blocks ≡ eachTier (w .blocks) → bytes ≡ eachTier (w .bytes)
+    pub looked-is : (path′ : PathList) (spans′ : TierList) (m : Match) (w : LookupParts) (blocks bytes : EachTier) → length hs ≤ 1024
+        → (maxTiers < length ts → ⊥) → Resolved (st .tree) hs (l .path) path′ m → Told st ts hs (l .spans) spans′ w → blocks ≡ eachTier (w .blocks) → bytes ≡ eachTier (w .bytes)
         → outcome st (listsOf path′ spans′)
         (done (record { path = record { segs = m .segs; blocks = m .blocks }; spans = w .spans; blocks = blocks; bytes = bytes }))
         ≡ lookup st l ts hs
     unfolding lookup
-    looked-is blocks bytes few less r t e f =
+    looked-is path′ spans′ m w blocks bytes few less r t e f =
         rw (
-          is-first 0 (inr (λ n. n sound, inr (λ n. n path, inr (λ n. n tiers, inr (stores, inr (λ n. omega arith, inr (λ n. omega arith, refl))))))),
+          is-first 0 (inr (λ n. n sound, inr (λ n. n path, inr (λ n. n tiers, inr (stores, inr (λ n. omega arith, inr (less, refl))))))),
           r .answer,
           r .lists,
           t .lists,
@@ -59,10 +60,11 @@ module _ (st : State) (l : LookupLists) (ts hs : List ℕ) (sound : Sound st) (p
         )
 
 -- what the walk asks for
-pub seen-is : {st : State} {rs ts hs : List ℕ} {before after : PathList} {m : Match} → Sound st → (Some (length ts) (λ i. storesOf st ≤ at ts i) → ⊥)
-    → length hs ≤ 1024 → length ts ≤ 8 → Resolved (st .tree) hs before after m → Each 0 8 (λ s. at rs s ≡ recordsOf st s)
+pub seen-is : (st : State) (ts hs : List ℕ) (before after : PathList) (m : Match) {rs : List ℕ} → Sound st
+    → (Some (length ts) (λ i. storesOf st ≤ at ts i) → ⊥) → length hs ≤ 1024 → (maxTiers < length ts → ⊥) → Resolved (st .tree) hs before after m
+    → Each 0 8 (λ s. at rs s ≡ recordsOf st s)
     → Seen (st .tree .depth) (st .ranges .node) (st .ranges .start) (st .ranges .end) (st .bytes) rs after (m .segs) ts st hs
-seen-is {st} {ts = ts} {before = before} sound stores few less r records =
+seen-is st ts hs before after m sound stores few less r records =
     record {
       sound = sound;
       depth = refl;
@@ -72,7 +74,7 @@ seen-is {st} {ts = ts} {before = before} sound stores few less r records =
       bytes = refl;
       records = records;
       stores = λ i low high. let g : storesOf st ≤ at ts i → ⊥ = λ h. stores (i, high, h) in omega arith;
-      tiers = less;
+      tiers = omega arith;
       short = few;
       segs = ap (λ (k : Match). k .segs) (r .answer);
       before = before;

@@ -106,7 +106,7 @@ pub fn lookup(
     if 1024 < hashes.len() {
         return Looked::Refused(3);
     }
-    if 8 < tiers.len() {
+    if test_arguments::many_tiers(tiers.len()) {
         return Looked::Refused(3);
     }
     let m = rule_resolve::resolve(

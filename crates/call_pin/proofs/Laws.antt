@@ -1,10 +1,10 @@
--- A span's place says whether the span has an entry; the limits of a pin, as the code tests them; a store's part of the pool of pins. Assumes nothing.
-use Prim.Native.Nat.{ℕ, _+_, _-_, _*_, _≤_, _<_}
+-- A span's place says whether the span has an entry; what is known where a pin is inside its limits; a store's part of the pool of pins. Assumes nothing.
+use Prim.Native.Nat.{ℕ, _+_, _*_, _≤_, _<_}
 use mathlib.Core.Path.{_≡_, refl, sym, _∙_}
 use mathlib.Core.Bool.{Bool, true, false, not, _||_}
 use native.Mathlib.Omega.{arith}
 use lib.Dec.{ltb}
-use borrow.Author.Tests.{lt-ltb, le-ltb, ltb-false}
+use borrow.Author.Tests.{ltb-false}
 use Rattle.model.specs.declared.Span.{Span}
 use Rattle.model.specs.State.{Pins}
 use Rattle.model.specs.Sound.{PinsLent}
@@ -35,23 +35,7 @@ part-lent s c h lent =
 
 -- ---- the limits
 
-either : (b : Bool) → (b || true) ≡ true
-either true = refl
-either false = refl
-
 module _ (there : Bool) (n p b : ℕ) where
-  pub over-blocks : p ≤ 1000000 → 1000000 - p < b → true ≡ (ltb 32 (n + plus (not there) 0) || ltb 1000000 (p + b))
-  over-blocks h l = rw (lt-ltb 1000000 (p + b) (omega arith)) (sym (either (ltb 32 (n + plus (not there) 0))))
-
-  pub room-there : there ≡ true → n ≤ 32 → p ≤ 1000000 → b ≤ 1000000 - p → false ≡ (ltb 32 (n + plus (not there) 0) || ltb 1000000 (p + b))
-  room-there e h k l = rw (e, le-ltb 32 (n + 0) (omega arith), le-ltb 1000000 (p + b) (omega arith))
-
-  pub room-new : there ≡ false → n < 32 → p ≤ 1000000 → b ≤ 1000000 - p → false ≡ (ltb 32 (n + plus (not there) 0) || ltb 1000000 (p + b))
-  room-new e h k l = rw (e, le-ltb 32 (n + 1) (omega arith), le-ltb 1000000 (p + b) (omega arith))
-
-  pub over-new : there ≡ false → 32 ≤ n → true ≡ (ltb 32 (n + plus (not there) 0) || ltb 1000000 (p + b))
-  over-new e h = rw (e, lt-ltb 32 (n + 1) (omega arith))
-
   -- what is known where it does not hold
   pub fits-in : (r : Bool) → r ≡ (ltb 32 (n + plus (not there) 0) || ltb 1000000 (p + b)) → r ≡ false → (n + plus (not there) 0 ≤ 32) × (p + b ≤ 1000000)
   fits-in r e f = go (ltb 32 (n + plus (not there) 0)) (ltb 1000000 (p + b)) refl refl (sym e ∙ f)

@@ -1,31 +1,9 @@
 use model::Span;
 use shape_answer::Plain;
 ghost use mathlib.Core.Path.{_≡_};
-ghost use mathlib.Core.Bool.{not, _||_};
-ghost use Prim.Native.Nat.{_+_, _≤_};
-ghost use lib.Dec.{ltb};
-ghost use Rattle.model.specs.Sizes.{maxPinned};
 ghost use Rattle.model.specs.Sound.{Sound};
-ghost use Rattle.model.specs.Store.{plus};
 ghost use Rattle.model.specs.Calls.{pinSource, unpinSource};
 ghost use Rattle.shape_answer.specs.Answers.{stateFrom, outcome, plainOf};
-
-// Would a pin of so many blocks exceed the store's entries or its pinned blocks?
-fn too_many(there: bool, n: usize, pinned: u64, blocks: usize) -> bool
-    requires { ⌜ (n ≤ 32) × (pinned ≤ maxPinned) ⌝ }
-    ensures { λ r. ⌜ r ≡ (ltb 32 (n + plus (not there) 0) || ltb maxPinned (pinned + blocks)) ⌝ }
-{
-    if 1000000 - pinned < blocks as u64 {
-        return true;
-    }
-    if there {
-        return false;
-    }
-    if n < 32 {
-        return false;
-    }
-    true
-}
 
 // Pin: 1 more on the entry of exactly that span of store s, held or not.
 pub fn pin_source(
@@ -85,7 +63,7 @@ pub fn pin_source(
     let place = pool_pin::place_of(pin_node, pin_start, pin_end, a, n, sp);
     let pinned = b.pinned;
     let blocks = sp.end - sp.start;
-    if too_many(place.there, n, pinned, blocks) {
+    if test_arguments::too_many(place.there, n, pinned, blocks) {
         return Plain::Refused(9);
     }
     b.entries = pool_pin::add_pin(pin_node, pin_start, pin_end, pin_count, a, n, place, sp, 1);

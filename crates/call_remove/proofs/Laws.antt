@@ -1,32 +1,35 @@
 -- A removal on a sound state: each test gives the refusal's number, the store's part is ready where none holds, and what the removal leaves of the pools and
 -- the small numbers is the state that the definition has. Assumes nothing.
-use Prim.Native.Nat.{ℕ, zero, suc, _+_, _-_, _*_, _%_, _≤_, _<_}
+use Prim.Native.Nat.{ℕ, zero, suc, _+_, _-_, _*_, _≤_, _<_, zero-le}
 use mathlib.Core.Bool.{Bool, true, false, not}
 use mathlib.Core.Logic.{inl, inr}
 use mathlib.Core.Path.{_≡_, refl, sym, ap, subst, _∙_}
 use mathlib.Core.List.{List, [], _∷_}
-use native.Mathlib.Numerals.{add-one}
 use native.Mathlib.Omega.{arith}
 use lib.ListN.{length}
+use lib.Dec.{ltb}
+use borrow.Author.Tests.{ltb-true, ltb-false}
 use mir.Val.{Fits}
 use mir.Syntax.{w64}
 use Rattle.model.specs.declared.Span.{Span}
 use Rattle.model.specs.declared.Book.{Book}
 use Rattle.model.specs.declared.RemoveAnswer.{RemoveAnswer}
-use Rattle.model.specs.Sizes.{maxStores, maxNumbers, maxStamp, outPlaces, storeRecords, versions}
+use Rattle.model.specs.Sizes.{maxStores, maxNumbers, maxStamp, outPlaces, storeRecords}
+use Rattle.model.specs.Words.{pick}
 use Rattle.model.specs.State.{Tree, Ranges, Pins, State, at, nodesIn, usedIn, nextIdIn, stallsIn, bookIn, storesOf, nextIdOf, stallsOf, bookOf, recordsOf, heldOf, versionOf}
 use Rattle.model.specs.Sound.{Sound, EndsWithin}
-use Rattle.model.specs.Store.{Store, ranges, storeOf, layBook, layNext, ranged, total, withRanges, withNext}
-use Rattle.model.specs.Remove.{Removed, remove}
+use Rattle.model.specs.Store.{Store, ranges, storeOf, layBook, layNext, ranged, withRanges, withNext}
+use Rattle.model.specs.Remove.{versionPast, Removed, remove}
 use Rattle.model.specs.Refusals.{First, firstOf, SpanIn, spanIn, noStore, badSpan, fewRecords, lateId, storeRemoveRefusals}
 use Rattle.model.specs.Calls.{refused, done, storeRemove}
 use Rattle.theory_refuse.proofs.Says.{says-true, says-false}
+use Rattle.test_arguments.specs.Need.{needNumber}
 use Rattle.theory_refuse.proofs.Refusals.{first-is, storeRemove-exact}
 use Rattle.theory_refuse.proofs.Refused.{storeRemove-kept}
 use Rattle.theory_refuse.proofs.Unless.{unless-none, unless-some}
 use Rattle.theory_sound.specs.StoreSound.{RangesSound, StoreSound}
 use Rattle.theory_bring.proofs.Facts.{Steady}
-use Rattle.theory_touch.proofs.Remove.{remove-steady, remove-need, remove-stamp, remove-sound}
+use Rattle.theory_touch.proofs.Remove.{remove-steady, remove-stamp, remove-version, remove-blocks, remove-sound}
 use Rattle.theory_lay.proofs.Store.{records-length}
 use Rattle.theory_calls.proofs.Accepted.{NoneHolds, span-in, none-where}
 use Rattle.theory_calls.proofs.Stores.{store-sound, removedBy}
@@ -37,7 +40,7 @@ use Rattle.pool_range.specs.Part.{Sized}
 use Rattle.rule_overlap.specs.Overlap.{Ordered, RemoveNeeds, RemoveFits}
 use Rattle.rule_overlap.proofs.Places.{sound-ordered}
 use Rattle.rule_remove.specs.declared.Removing.{Removing}
-use Rattle.rule_remove.specs.Remove.{versionPast, Freed}
+use Rattle.rule_remove.specs.Remove.{Freed}
 use Rattle.shape_answer.specs.Answers.{outcome}
 use Rattle.call_remove.specs.Pool.{Seen, Placed, NeedsAt, FitsAt, PoolReady, FreedAt}
 
@@ -92,9 +95,6 @@ module _ (st : State) (s : ℕ) (h : Sound st) (less : s < storesOf st) where
       f (mid (128 * s) 128 (st .ranges .id)) (mid (128 * s) 128 (st .ranges .stamp)) (mid (128 * s) 128 (st .ranges .write))
       (mid (128 * s) 128 (st .ranges .touched)) (storeOf st s) (nextIdOf st) (sym read)
 
-  one-most : (sp : Span) → SpanIn (st .tree) sp → removedBy st s sp .need ≤ 1
-  one-most sp inside = remove-need (storeOf st s) (nextIdOf st) sp own inside (h .counts .firstId)
-
   -- a node ends at 1,024 or before
   low : (sp : Span) → SpanIn (st .tree) sp → sp .end ≤ 1024
   unfolding EndsWithin
@@ -105,13 +105,6 @@ module _ (st : State) (s : ℕ) (h : Sound st) (less : s < storesOf st) where
       go (suc k) e = omega (arith, inside .ends, h .ends (sp .node) (omega arith) (inside .node))
 
 -- ---- the refusals
-
--- the sums that the tests of 8 and 11 make
-pub records-fit : {n r i : ℕ} → (n ≤ 128) × (r ≤ 1) × (i ≤ maxStamp) → Fits w64 (n + r)
-records-fit {n} {r} h = let a : n ≤ 128 = h .0 in let b : r ≤ 1 = h .1 in omega arith
-
-pub id-fits : {n r i : ℕ} → (n ≤ 128) × (r ≤ 1) × (i ≤ maxStamp) → Fits w64 (i + r)
-id-fits {n} {r} {i} h = let a : i ≤ maxStamp = h .2 in let b : r ≤ 1 = h .1 in omega arith
 
 pub none-zero : {P : Type 0} {n : ℕ} → 0 < n → n ≡ 0 → P
 none-zero l e = absurd (omega arith)
@@ -147,20 +140,16 @@ module _ {len node start end : List ℕ} {k i s n : ℕ} {st : State} (v : Seen 
   pub placed-in : Placed s n node start end
   placed-in = rw (v .records, v .nodes, v .starts, v .ends) at (placed st s (v .sound) (v .store))
 
+  pub need-asked : (n ≤ storeRecords) × (0 ≤ maxStamp) × (i ≤ maxStamp)
+  need-asked = (omega (arith, few st s (v .sound) (v .store), v .records), zero-le, omega (arith, v .sound .counts .nextId, v .nextId))
+
   module _ (sp : Span) where
     needs-in : (r : ℕ) → NeedsAt s n node start end sp r → NeedsAt s (recordsOf st s) (st .ranges .node) (st .ranges .start) (st .ranges .end) sp r
     needs-in r f = rw (v .records, v .nodes, v .starts, v .ends) f
 
-    -- the need is the definition's, and 1 at most
+    -- the need is the definition's
     need-is : (r : ℕ) → NeedsAt s n node start end sp r → r ≡ removedBy st s sp .need
     need-is r f = needed st s (v .sound) (v .store) sp r (needs-in r f)
-
-    pub sums-fit : SpanIn (st .tree) sp → (r : ℕ) → NeedsAt s n node start end sp r → (n ≤ 128) × (r ≤ 1) × (i ≤ maxStamp)
-    sums-fit inside r f = (
-      omega (arith, few st s (v .sound) (v .store), v .records),
-      omega (arith, need-is r f, one-most st s (v .sound) (v .store) sp inside),
-      omega (arith, v .sound .counts .nextId, v .nextId),
-    )
 
     -- what the test of 4 tells
     module _ {b : Bool} (f : (t : Tree) → t .len ≡ len → t .nodes ≡ k → b ≡ spanIn t sp) where
@@ -182,21 +171,35 @@ module _ {len node start end : List ℕ} {k i s n : ℕ} {st : State} (v : Seen 
         inside-in : (SpanIn (st .tree) sp → ⊥) → ⊥
         inside-in g = g inside
 
-        pub refused-records : 128 < n + r → 8 ≡ firstOf (storeRemoveRefusals st l s sp)
-        refused-records m = number st l s sp (v .sound) long 8 (inr (used, inr (inside-in, inl (omega (arith, need-is r needs, v .records), refl))))
+        room : ltb storeRecords (n + r) ≡ false → storeRecords < recordsOf st s + removedBy st s sp .need → ⊥
+        room p e = omega (arith, ltb-false storeRecords (n + r) p, need-is r needs, v .records)
 
-        module _ (m : n + r ≤ 128) where
-          room : storeRecords < recordsOf st s + removedBy st s sp .need → ⊥
-          room e = omega (arith, need-is r needs, v .records)
-
-          pub refused-late : maxStamp < i + r → 11 ≡ firstOf (storeRemoveRefusals st l s sp)
-          refused-late q =
-              number st l s sp (v .sound) long 11 (inr (used, inr (inside-in, inr (room, inl (omega (arith, need-is r needs, v .nextId), refl)))))
-
-          pub accepted : i + r ≤ maxStamp → 0 ≡ firstOf (storeRemoveRefusals st l s sp)
-          accepted q =
-              number st l s sp (v .sound) long 0
-              (inr (used, inr (inside-in, inr (room, inr (λ (e : maxStamp < nextIdOf st + removedBy st s sp .need). omega (arith, need-is r needs, v .nextId), refl)))))
+        -- what the test of 8 and 11 tells: a removal gives no stamp
+        pub need-refused : {q : ℕ} → q ≡ needNumber n r 0 0 i → q ≡ firstOf (storeRemoveRefusals st l s sp)
+        need-refused e = e ∙ go (ltb storeRecords (n + r)) (ltb maxStamp (i + r)) refl refl
+          where
+            go : (a b : Bool) → ltb storeRecords (n + r) ≡ a → ltb maxStamp (i + r) ≡ b → pick a 8 (pick b 11 0) ≡ firstOf (storeRemoveRefusals st l s sp)
+            go true b p q =
+                number st l s sp (v .sound) long 8
+                (inr (used, inr (inside-in, inl (omega (arith, ltb-true storeRecords (n + r) p, need-is r needs, v .records), refl))))
+            go false true p q =
+                number st l s sp (v .sound) long 11
+                (inr (used, inr (inside-in, inr (room p, inl (omega (arith, ltb-true maxStamp (i + r) q, need-is r needs, v .nextId), refl)))))
+            go false false p q =
+                number st l s sp (v .sound) long 0
+                (inr (
+                  used,
+                  inr (
+                    inside-in,
+                    inr (
+                      room p,
+                      inr (
+                        λ (e : maxStamp < nextIdOf st + removedBy st s sp .need). omega (arith, ltb-false maxStamp (i + r) q, need-is r needs, v .nextId),
+                        refl,
+                      ),
+                    ),
+                  ),
+                ))
 
 -- ---- the parts of store s
 
@@ -219,7 +222,7 @@ module _ {s n : ℕ} {sp : Span} {c : Ranges} {ms ls : List ℕ} (p : PoolReady 
         omega (arith, p .fits .records)
 
     freed-at : {q : Ranges} {ms₂ ls₂ : List ℕ} {r : Removing} (w : Removed) → n + w .need ≤ 128 → length ms₂ ≡ length (mid (256 * s) 256 ms) → x .ranges ≡ ranges (midRanges (128 * s) 128 c) 0 n
-        → Freed x w (midRanges (128 * s) 128 c) q ms₂ ls ls₂ n r → FreedAt s n x w c ms ls (backRanges (128 * s) 128 q c) (back (256 * s) 256 ms₂ ms) ls₂ r
+        → Freed w (midRanges (128 * s) 128 c) q ms₂ ls ls₂ n r → FreedAt s n w c ms ls (backRanges (128 * s) 128 q c) (back (256 * s) 256 ms₂ ms) ls₂ r
     freed-at w room long e u =
         record {
           cols = ap (λ (y : Ranges). backRanges (128 * s) 128 y c) (u .columns) ∙ ranges-back (128 * s) 128 (n + w .need) (w .store .ranges) c room;
@@ -228,30 +231,21 @@ module _ {s n : ℕ} {sp : Span} {c : Ranges} {ms ls : List ℕ} (p : PoolReady 
           records = u .records;
           need = u .need;
           writes = u .writes;
-          removed = u .removed ∙ ap (λ rs. total rs) (sym e);
-          version = u .version;
+          blocks = u .blocks;
         }
 
     pub pool-freed : {q : Ranges} {ms₂ ls₂ : List ℕ} {r : Removing} (a b : ℕ) → a ≡ 128 → b ≡ 256 → length ms₂ ≡ length (mid (256 * s) b ms)
-        → ((y : Store) → y .ranges ≡ ranges (midRanges (128 * s) a c) 0 n → y .marks ≡ mid (256 * s) b ms → Freed y (remove y next sp) (midRanges (128 * s) a c) q ms₂ ls ls₂ n r)
+        → ((y : Store) → y .ranges ≡ ranges (midRanges (128 * s) a c) 0 n → y .marks ≡ mid (256 * s) b ms → Freed (remove y next sp) (midRanges (128 * s) a c) q ms₂ ls ls₂ n r)
         → x .ranges ≡ ranges c (128 * s) n → x .marks ≡ mid (256 * s) 256 ms
-        → FreedAt s n x (remove x next sp) c ms ls (backRanges (128 * s) a q c) (back (256 * s) b ms₂ ms) ls₂ r
+        → FreedAt s n (remove x next sp) c ms ls (backRanges (128 * s) a q c) (back (256 * s) b ms₂ ms) ls₂ r
     pool-freed {q} {ms₂} {ls₂} {r} a b ea eb kept f e d =
         let long : length ms₂ ≡ length (mid (256 * s) 256 ms) = rw eb at kept in
         let g : x .ranges ≡ ranges (midRanges (128 * s) 128 c) 0 n = e ∙ sym (ranges-part c (128 * s) 128 n (p .few)) in
-        let u : Freed x (remove x next sp) (midRanges (128 * s) 128 c) q ms₂ ls ls₂ n r = subst (λ (y : ℕ). Freed x (remove x next sp) (midRanges (128 * s) y c) q ms₂ ls ls₂ n r) ea
+        let u : Freed (remove x next sp) (midRanges (128 * s) 128 c) q ms₂ ls ls₂ n r = subst (λ (y : ℕ). Freed (remove x next sp) (midRanges (128 * s) y c) q ms₂ ls ls₂ n r) ea
         (f x (subst (λ (y : ℕ). x .ranges ≡ ranges (midRanges (128 * s) y c) 0 n) (sym ea) g) (subst (λ (y : ℕ). x .marks ≡ mid (256 * s) y ms) (sym eb) d)) in
         rw (ea, eb) (freed-at (remove x next sp) (room-at g) long g u)
 
 -- ---- the small numbers
-
-pub past-none : (k v : ℕ) → k ≡ 0 → v ≡ versionPast k v
-past-none zero v e = refl
-past-none (suc k) v e = absurd (omega arith)
-
-pub past-some : (k v r : ℕ) → (k ≡ 0 → ⊥) → r ≡ (v + 1) % versions → r ≡ versionPast k v
-past-some zero v r n e = absurd (n refl)
-past-some (suc k) v r n e = e ∙ ap (λ (y : ℕ). y % versions) (add-one v)
 
 -- the numbers of a store of which a removal leaves y, by what it answers
 book-left : {x y : Store} {n k v : ℕ} → Steady x y → y .book .stamp ≡ x .book .stamp → n ≡ y .book .records → k ≡ y .book .held → v ≡ y .book .version
@@ -261,9 +255,9 @@ book-left {x} f stamp records held version =
 
 -- ---- the call
 
--- the answer of n listed writes
-abbrev answer : ℕ → RemoveAnswer
-answer n = record { writes = n }
+-- the answer of n listed writes and k blocks that went
+abbrev answer : ℕ → ℕ → RemoveAnswer
+answer n k = record { writes = n; blocks = k }
 
 module _ (st : State) (l : List ℕ) (s : ℕ) (sp : Span) where
   pub call-refused : (n : ℕ) → n ≡ firstOf (storeRemoveRefusals st l s sp) → (n ≡ 0 → ⊥) → outcome st l (refused n) ≡ storeRemove st l s sp
@@ -298,9 +292,9 @@ module _ (st : State) (l : List ℕ) (s : ℕ) (sp : Span) where
           fits = f;
         }
 
-    held-is : heldOf st s ≡ total (storeOf st s .ranges)
+    blocks-gone : removedBy st s sp .store .book .held + removedBy st s sp .blocks ≡ heldOf st s
     unfolding storeOf
-    held-is = own st s h less .held
+    blocks-gone = remove-blocks (storeOf st s) (nextIdOf st) sp (own st s h less) inside (h .counts .firstId)
 
     module _ (b : Book) (is : b ≡ bookOf st s) where
       pub pool-in : FitsAt s (b .records) (st .ranges .node) (st .ranges .start) (st .ranges .end) sp → PoolReady s (b .records) sp (st .ranges) (st .marks) l
@@ -309,16 +303,16 @@ module _ (st : State) (l : List ℕ) (s : ℕ) (sp : Span) where
       module _ {c : Ranges} {ms ls : List ℕ} {r : Removing} where
         -- what the removal says of any such store, it says of store s
         pub freed-in :
-            ((x : Store) → x .ranges ≡ ranges (st .ranges) (128 * s) (b .records) → x .marks ≡ mid (256 * s) 256 (st .marks) → FreedAt s (b .records) x (remove x (nextIdOf st) sp) (st .ranges) (st .marks) l c ms ls r)
-            → FreedAt s (recordsOf st s) (storeOf st s) (removedBy st s sp) (st .ranges) (st .marks) l c ms ls r
+            ((x : Store) → x .ranges ≡ ranges (st .ranges) (128 * s) (b .records) → x .marks ≡ mid (256 * s) 256 (st .marks) → FreedAt s (b .records) (remove x (nextIdOf st) sp) (st .ranges) (st .marks) l c ms ls r)
+            → FreedAt s (recordsOf st s) (removedBy st s sp) (st .ranges) (st .marks) l c ms ls r
         unfolding storeOf
         freed-in f =
-            subst (λ (k : Book). FreedAt s (k .records) (storeOf st s) (removedBy st s sp) (st .ranges) (st .marks) l c ms ls r) is
+            subst (λ (k : Book). FreedAt s (k .records) (removedBy st s sp) (st .ranges) (st .marks) l c ms ls r) is
             (f (storeOf st s) (ap (λ (k : Book). ranges (st .ranges) (128 * s) (k .records)) (sym is)) refl)
 
-        module _ (u : FreedAt s (recordsOf st s) (storeOf st s) (removedBy st s sp) (st .ranges) (st .marks) l c ms ls r) where
+        module _ (u : FreedAt s (recordsOf st s) (removedBy st s sp) (st .ranges) (st .marks) l c ms ls r) where
           pub held-most : r .removed ≤ b .held
-          held-most = omega (arith, u .removed, held-is, ap (λ (k : Book). k .held) is)
+          held-most = omega (arith, u .blocks, blocks-gone, ap (λ (k : Book). k .held) is)
 
           pub next-fits : Fits w64 (nextIdOf st + r .need)
           next-fits = let f = none-holds .1 .1 .1 .1 .1 .0 in omega (arith, u .need)
@@ -329,11 +323,12 @@ module _ (st : State) (l : List ℕ) (s : ℕ) (sp : Span) where
               remove-sound (storeOf st s) (nextIdOf st) sp (own st s h less) inside (h .counts .firstId) (omega (arith, records-length st s))
 
           held-left : heldOf st s - r .removed ≡ removedBy st s sp .store .book .held
-          held-left = omega (arith, u .removed, held-is, left .held)
+          held-left = omega (arith, u .blocks, blocks-gone)
 
           version-left : versionPast (r .removed) (versionOf st s) ≡ removedBy st s sp .store .book .version
           unfolding storeOf
-          version-left = sym (u .version)
+          version-left =
+              ap (λ (k : ℕ). versionPast k (versionOf st s)) (u .blocks) ∙ sym (remove-version (storeOf st s) (nextIdOf st) sp)
 
           numbers-left : (v : ℕ) → v ≡ versionPast (r .removed) (b .version)
               → ranged b (r .n) (b .held - r .removed) (b .stamp) v ≡ removedBy st s sp .store .book
@@ -344,11 +339,11 @@ module _ (st : State) (l : List ℕ) (s : ℕ) (sp : Span) where
               (u .records ∙ sym (left .records)) held-left (e ∙ ap (λ (k : Book). versionPast (r .removed) (k .version)) is ∙ version-left)
 
           call-laid : (v : ℕ) → v ≡ versionPast (r .removed) (b .version)
-              → outcome (stateOf (st .tree) c (st .pins) ms (st .bytes) (layNext (nextIdOf st + r .need) (stallsOf st) (layBook s (ranged b (r .n) (b .held - r .removed) (b .stamp) v) (st .books)))) ls (done (answer (r .writes))) ≡ storeRemove st l s sp
+              → outcome (stateOf (st .tree) c (st .pins) ms (st .bytes) (layNext (nextIdOf st + r .need) (stallsOf st) (layBook s (ranged b (r .n) (b .held - r .removed) (b .stamp) v) (st .books)))) ls (done (answer (r .writes) (r .removed))) ≡ storeRemove st l s sp
           unfolding storeRemove withNext withRanges
           call-laid v e =
               let new = numbers-left v e in
-              (λ j. outcome (stateOf (st .tree) (u .cols j) (st .pins) (u .marks j) (st .bytes) (layNext (nextIdOf st + u .need j) (stallsOf st) (layBook s (new j) (st .books)))) (u .list j) (done (answer (u .writes j))))
+              (λ j. outcome (stateOf (st .tree) (u .cols j) (st .pins) (u .marks j) (st .bytes) (layNext (nextIdOf st + u .need j) (stallsOf st) (layBook s (new j) (st .books)))) (u .list j) (done (answer (u .writes j) (u .blocks j))))
               ∙ sym (unless-none st l _ (firstOf (storeRemoveRefusals st l s sp)) none)
 
 -- The same of the columns: rs, ps, ms and table are the pools at entry, ns the small numbers, T the tree with so many nodes and hash words
@@ -358,13 +353,13 @@ module _ (T : ℕ → ℕ → Tree) (rs : Ranges) (ps : Pins) (ms table ns : Lis
 
   module _ (h : Sound here) (long : outPlaces ≤ length l) (n : ℕ) (number : n ≡ firstOf (storeRemoveRefusals here l s sp)) (zero : n ≡ 0) (b : Book) (is : b ≡ bookIn ns s) where
     pub call-done : {c : Ranges} {ks ls : List ℕ} {r : Removing}
-        → FreedAt s (bookIn ns s .records) (storeOf here s) (removedBy here s sp) rs ms l c ks ls r
+        → FreedAt s (bookIn ns s .records) (removedBy here s sp) rs ms l c ks ls r
         → (v : ℕ) → v ≡ versionPast (r .removed) (b .version)
         → (mid-way new : List ℕ) → mid-way ≡ layBook s (ranged b (r .n) (b .held - r .removed) (b .stamp) v) ns
         → new ≡ layNext (nextIdIn ns + r .need) (stallsIn ns) mid-way
-        → outcome (stateOf (T (nodesIn new) (usedIn new)) c ps ks table new) ls (done (answer (r .writes))) ≡ storeRemove here l s sp
+        → outcome (stateOf (T (nodesIn new) (usedIn new)) c ps ks table new) ls (done (answer (r .writes) (r .removed))) ≡ storeRemove here l s sp
     unfolding layBook layNext
     call-done {c} {ks} {ls} {r} u v e mid-way new d f =
         let g = f ∙ ap (layNext (nextIdIn ns + r .need) (stallsIn ns)) d in
-        (λ j. outcome (stateOf (T (nodesIn (g j)) (usedIn (g j))) c ps ks table (g j)) ls (done (answer (r .writes))))
+        (λ j. outcome (stateOf (T (nodesIn (g j)) (usedIn (g j))) c ps ks table (g j)) ls (done (answer (r .writes) (r .removed))))
         ∙ call-laid here l s sp h long n number zero b is u v e

@@ -7,13 +7,12 @@ use Rattle.model.specs.declared.Span.{Span}
 use Rattle.model.specs.Sizes.{storeRecords, storeMarks, maxNodes, maxHashes, maxStores, maxRecords, maxMarks, outPlaces}
 use Rattle.model.specs.State.{Ranges, State, storesOf, nextIdOf, recordsOf}
 use Rattle.model.specs.Sound.{Sound, RangesLent}
-use Rattle.model.specs.Store.{Store, lay, layRanges, total}
+use Rattle.model.specs.Store.{lay, layRanges}
 use Rattle.model.specs.Remove.{Removed}
 use Rattle.model.specs.Calls.{front}
 use Rattle.pool_part.specs.Parts.{mid}
 use Rattle.rule_overlap.specs.Overlap.{Ordered, RemoveNeeds, RemoveFits}
 use Rattle.rule_remove.specs.declared.Removing.{Removing}
-use Rattle.rule_remove.specs.Remove.{versionPast}
 
 -- a sound state with these columns, k nodes and the next id i, and n records in its store s
 pub record Seen (len node start end : List ℕ) (k i s n : ℕ) (st : State) : Type 0 where
@@ -56,13 +55,12 @@ pub record PoolReady (s n : ℕ) (sp : Span) (c : Ranges) (ms ls : List ℕ) : T
   pub node : sp .node < maxNodes
   pub fits : FitsAt s n (c .node) (c .start) (c .end) sp
 
--- from the pools c₀, ms₀ and the list ls₀ a removal from store s, which is x, makes c, ms and ls and answers r; w is what the definition says of x
-pub record FreedAt (s n : ℕ) (x : Store) (w : Removed) (c₀ : Ranges) (ms₀ ls₀ : List ℕ) (c : Ranges) (ms ls : List ℕ) (r : Removing) : Type 0 where
+-- from the pools c₀, ms₀ and the list ls₀ a removal from store s makes c, ms and ls and answers r; w is what the definition says
+pub record FreedAt (s n : ℕ) (w : Removed) (c₀ : Ranges) (ms₀ ls₀ : List ℕ) (c : Ranges) (ms ls : List ℕ) (r : Removing) : Type 0 where
   pub cols : c ≡ layRanges (storeRecords * s) (n + w .need) (w .store .ranges) c₀
   pub marks : ms ≡ lay 0 (storeMarks * s) storeMarks (w .store .marks) ms₀
   pub list : ls ≡ front (w .writes) ls₀
   pub records : r .n ≡ length (w .store .ranges)
   pub need : r .need ≡ w .need
   pub writes : r .writes ≡ length (w .writes)
-  pub removed : r .removed + total (w .store .ranges) ≡ total (x .ranges)
-  pub version : w .store .book .version ≡ versionPast (r .removed) (x .book .version)
+  pub blocks : r .removed ≡ w .blocks

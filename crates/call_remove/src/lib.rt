@@ -15,7 +15,6 @@ ghost use Rattle.model.specs.Refusals.{firstOf, storeRemoveRefusals};
 ghost use Rattle.model.specs.Calls.{storeRemove};
 ghost use Rattle.shape_state.specs.Lent.{rangesOf};
 ghost use Rattle.pool_part.specs.Parts.{mid};
-ghost use Rattle.rule_remove.specs.Remove.{versionPast};
 ghost use Rattle.shape_answer.specs.Answers.{stateFrom, outcome, storeRemovedOf};
 ghost use Rattle.call_remove.specs.Pool.{Seen, Placed, NeedsAt, FitsAt, PoolReady, FreedAt};
 
@@ -54,13 +53,7 @@ fn refusal(
         return 4;
     }
     let need = need_at(node, start, end, s, n, sp);
-    if 128 < n + need {
-        return 8;
-    }
-    if 281474976710655 < next + need as u64 {
-        return 11;
-    }
-    0
+    test_arguments::need_number(n, need, 0, 0, next)
 }
 
 // The span taken out of the parts of store s, of the whole pools.
@@ -88,7 +81,7 @@ fn remove_pools(
         (now (write .entry)))
         (128 * s) n
         → x .marks ≡ mid (256 * s) 256 (now (marks .entry))
-        → FreedAt s n x (removeOf x next sp)
+        → FreedAt s n (removeOf x next sp)
         (rangesOf (now (node .entry)) (now (start .entry)) (now (end .entry)) (now (id .entry)) (now (stamp .entry)) (now (touched .entry))
         (now (write .entry)))
         (now (marks .entry)) (now (list .entry))
@@ -114,16 +107,6 @@ fn remove_pools(
         sp,
         next,
     )
-}
-
-// The version, one higher if a block went.
-fn version_past(removed: u64, version: u64) -> u64
-    ensures { λ r. ⌜ r ≡ versionPast removed version ⌝ }
-{
-    if removed == 0 {
-        return version;
-    }
-    std::num::wrapping_add_u64(version, 1)
 }
 
 // A span taken out of store s of a sound state, pinned or not; the writes of the ranges that it overlapped are listed.
@@ -202,10 +185,11 @@ pub fn store_remove(
     );
     b.records = r.n;
     b.held = b.held - r.removed;
-    b.version = version_past(r.removed, b.version);
+    b.version = pool_book::version_past(r.removed, b.version);
     pool_book::put_book(books, s, b);
     pool_book::put_next(books, next + r.need as u64, stalls);
     StoreRemoved::Done(RemoveAnswer {
         writes: r.writes as u64,
+        blocks: r.removed,
     })
 }

@@ -3,7 +3,7 @@ use shape_answer::Plain;
 ghost use mathlib.Core.Path.{_≡_};
 ghost use mathlib.Core.List.{[], _∷_};
 ghost use Prim.Native.Nat.{ℕ, _≤_};
-ghost use lib.ListN.{length, set, replicate};
+ghost use lib.ListN.{length, set};
 ghost use Rattle.model.specs.Words.{Says, Each};
 ghost use Rattle.model.specs.Sizes.{maxNumbers};
 ghost use Rattle.model.specs.State.{at, bookFrom};
@@ -141,17 +141,6 @@ fn copy_in(to: &mut [u64], from: &[u64])
     }
 }
 
-fn clear_marks(marks: &mut [usize])
-    requires { ⌜ 2048 ≤ length (now marks) ⌝ }
-    ensures { λ _. ⌜ now (marks .exit) ≡ front (replicate 2048 0) (now (marks .entry)) ⌝ }
-{
-    let mut i = 0;
-    while i < 2048 {
-        marks[i] = 0;
-        i += 1;
-    }
-}
-
 // A policy as its number.
 fn policy_of(refreshes: bool) -> u64
     ensures { λ r. ⌜ r ≡ policy refreshes ⌝ }
@@ -280,7 +269,7 @@ pub fn set_up(
         return Plain::Refused(12);
     }
     root_only(parent, depth, len, run);
-    clear_marks(marks);
+    pool_mark::clear_marks(marks);
     copy_in(bytes, table);
     fresh_books(books, capacity, refreshes);
     Plain::Done

@@ -53,9 +53,7 @@ module _ (s : ℕ) (x : List ℕ) (less : s < maxStores) (long : maxNumbers ≤ 
   pub books-over : (z r : Run) → booksWith s r (booksWith s z x) ≡ booksWith s r x
   books-over z r =
       let d = renumbered own (z .n) (z .top) in
-      let e = book-run z in
-      let f = stalls-is (z .next) (stallsIn x) d in
-      (λ j. layNext (r .next) (f j) (layBook s (renumbered (e j) (r .n) (r .top)) (booksWith s z x)))
+      (λ j. layNext (r .next) ((stalls-is (z .next) (stallsIn x) d) j) (layBook s (renumbered ((book-run z) j) (r .n) (r .top)) (booksWith s z x)))
       ∙ book-over (r .next) (stallsIn x) (z .next) (stallsIn x) (renumbered own (r .n) (r .top)) d
 
   -- the policy is as it was, so the numbers of a later run stand too

@@ -43,10 +43,12 @@ use Rattle.pool_undo.specs.declared.Old.{Old}
 use Rattle.pool_undo.specs.Old.{oldRanges, oldFrom}
 use Rattle.call_touch_span.specs.declared.Turn.{Turn}
 use Rattle.call_touch_span.specs.declared.Run.{Run}
-use Rattle.call_touch_span.specs.Turn.{Others, whole, booksWith, Stands, firstNumber, Begun, four, refusing, looked, turnNumber, RunAt, keptOld, TurnAt, Ready, Gone, Turned, Writes, read, Finished}
+use Rattle.call_touch_span.specs.Turn.{Others, whole, booksWith, Stands, firstNumber, Begun, four, refusing, looked, RunAt, keptOld, TurnAt, Ready, Gone, Turned, Writes, read, Finished}
 use Rattle.call_touch.specs.Going.{number, On, Off, Carries, Going, AtFirst, Turns}
 use Rattle.call_touch.specs.Looking.{bad, lookedAt, refusedBy, Looking, Looks}
-use Rattle.call_touch_span.proofs.Laws.{number-fits, touch-marks-long, touch-bytes-most}
+use Rattle.test_arguments.specs.Need.{needNumber}
+use Rattle.test_arguments.proofs.Need.{number-fits}
+use Rattle.call_touch_span.proofs.Laws.{touch-marks-long, touch-bytes-most}
 use Rattle.call_touch.proofs.Books.{books-same, books-over, stands-on}
 
 -- ---- a part put back over what was laid there
@@ -176,7 +178,7 @@ module _ (st : State) (s : ℕ) (sp : Span) (rest : List Span) (time : Float) (c
   w = touchedBy st s sp time counted
 
   pub turn-first : firstOf (turnRefusals st s (sp ∷ rest) time counted)
-      ≡ next (turnNumber (recordsOf st s) (w .need) (stampOf st s) (w .stamps) (nextIdOf st))
+      ≡ next (needNumber (recordsOf st s) (w .need) (stampOf st s) (w .stamps) (nextIdOf st))
       (firstOf (turnRefusals (touchSpan st s sp time counted) s rest time counted))
   turn-first =
       first-turn (ltb 128 (recordsOf st s + w .need))
@@ -260,7 +262,7 @@ module _ (o : Others) (depth bytes : List ℕ) (c₀ : Ranges) (ms₀ x : List �
   pub on-at : RunAt o (booksWith s z x) sp depth bytes c ms s refreshes z
   on-at = record { stands = v .stands; sound = v .sound; store = v .less; span = in-here; sum = omega (arith, v .sum, v .few) }
 
-  module _ (r : Run) (num : r .number ≡ turnNumber (recordsOf st s) (v₁ .need) (stampOf st s) (v₁ .stamps) (nextIdOf st)) where
+  module _ (r : Run) (num : r .number ≡ needNumber (recordsOf st s) (v₁ .need) (stampOf st s) (v₁ .stamps) (nextIdOf st)) where
     firsts : next (r .number) (firstOf (turnRefusals (touchSpan st s sp time counted) s (drop (i + 1) sps) time counted)) ≡ number st₀ s sps time counted
     firsts =
         ap (λ (k : ℕ). next k (firstOf (turnRefusals (touchSpan st s sp time counted) s (drop (i + 1) sps) time counted))) num
@@ -354,7 +356,7 @@ module _ (o : Others) (depth bytes : List ℕ) (c₀ : Ranges) (ms₀ x : List �
       v = g .on e
 
       num : r .run .number
-          ≡ turnNumber (recordsOf here s) (touchedBy here s (getD sps i noSpan) time counted .need) (stampOf here s) (touchedBy here s (getD sps i noSpan) time counted .stamps) (nextIdOf here)
+          ≡ needNumber (recordsOf here s) (touchedBy here s (getD sps i noSpan) time counted .need) (stampOf here s) (touchedBy here s (getD sps i noSpan) time counted .stamps) (nextIdOf here)
       num = rw (k .store, k .when, k .counts) at (u .number)
 
       old-is : r .old ≡ keptOld i (y .old) s c ms

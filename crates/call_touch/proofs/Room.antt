@@ -8,7 +8,7 @@ use native.Mathlib.Omega.{arith}
 use lib.ListN.{length, getD}
 use lib.Dec.{ltb, eqb}
 use lib.Ieee.{Float}
-use borrow.Author.Tests.{le-ltb, ltb-true, eqb-true}
+use borrow.Author.Tests.{ltb-true, eqb-true}
 use Rattle.model.specs.declared.Span.{Span}
 use Rattle.model.specs.declared.Book.{Book}
 use Rattle.model.specs.Sizes.{maxStamp}
@@ -24,8 +24,9 @@ use Rattle.theory_touch.proofs.Touch.{touch-length, touch-counted, touch-stamp}
 use Rattle.theory_calls.proofs.Stores.{store-sound, touchSpan-sound}
 use Rattle.theory_lay.proofs.Books.{book-read, next-book}
 use Rattle.theory_lay.proofs.Store.{records-length}
-use Rattle.call_touch_span.specs.Turn.{turnNumber}
-use Rattle.call_touch.specs.Running.{Roomy}
+use Rattle.test_arguments.specs.Need.{needNumber}
+use Rattle.test_arguments.specs.Room.{Roomy}
+use Rattle.test_arguments.proofs.Need.{number-0}
 use Rattle.call_touch.proofs.Laws.{next-none, turn-first, touched-tree, touched-stores}
 
 -- ---- the new pieces of sorted ranges
@@ -39,15 +40,13 @@ module _ (v a z : ℕ) where
   head-on r e =
       let h = and-true (meets v a z r) (ltb (r .start) a) e in
       let m = and-true (eqb (r .node) v) (ltb (r .start) z && ltb a (r .end)) (h .0) in
-      let k = and-true (ltb (r .start) z) (ltb a (r .end)) (m .1) in
-      (eqb-true (r .node) v (m .0), ltb-true (r .start) a (h .1), ltb-true a (r .end) (k .1))
+      (eqb-true (r .node) v (m .0), ltb-true (r .start) a (h .1), ltb-true a (r .end) (and-true (ltb (r .start) z) (ltb a (r .end)) (m .1) .1))
 
   tail-on : (r : Range) → hasTail v a z r ≡ true → (r .node ≡ v) × (r .start < z) × (z < r .end)
   tail-on r e =
       let h = and-true (meets v a z r) (ltb z (r .end)) e in
       let m = and-true (eqb (r .node) v) (ltb (r .start) z && ltb a (r .end)) (h .0) in
-      let k = and-true (ltb (r .start) z) (ltb a (r .end)) (m .1) in
-      (eqb-true (r .node) v (m .0), ltb-true (r .start) z (k .0), ltb-true z (r .end) (h .1))
+      (eqb-true (r .node) v (m .0), ltb-true (r .start) z (and-true (ltb (r .start) z) (ltb a (r .end)) (m .1) .0), ltb-true z (r .end) (h .1))
 
   -- behind a range of the node, those of the node start where it ends
   later : (p : ℕ) (r : Range) (rs : List Range) → r .node ≡ v → p ≤ r .end → All (Before r) rs → All (From p) rs
@@ -101,9 +100,6 @@ module _ (x : Store) (i : ℕ) (sp : Span) (time : Float) (filled : sp .start < 
       go [] = (omega arith, omega arith)
       go (r ∷ rs) = refresh-few (refreshes (x .book)) (oneInside (sp .start) (sp .end) (r ∷ rs)) (markRead counted sp (x .marks)) (bytesRead counted t table sp (r ∷ rs))
 
-fits-none : (n need top stamps i : ℕ) → n + need ≤ 128 → top + stamps ≤ maxStamp → i + need ≤ maxStamp → turnNumber n need top stamps i ≡ 0
-fits-none n need top stamps i a b c = simp (le-ltb 128 (n + need) a, le-ltb maxStamp (top + stamps) b, le-ltb maxStamp (i + need) c)
-
 module _ (st : State) (s : ℕ) (sp : Span) (time : Float) (counted : Bool) (h : Sound st) (less : s < storesOf st) where
   abbrev w : Touched
   w = touchedBy st s sp time counted
@@ -138,8 +134,8 @@ pub turns-fine : (st : State) (s : ℕ) (sps : List Span) (time : Float) (counte
 turns-fine st s [] time counted h less inside f room = refl
 turns-fine st s (sp ∷ sps) time counted h less inside f room =
     turn-first st s sp sps time counted
-    ∙ sym (next-none (turnNumber (recordsOf st s) (touchedBy st s sp time counted .need) (stampOf st s) (touchedBy st s sp time counted .stamps) (nextIdOf st)) _
-    (fits-none (recordsOf st s) (touchedBy st s sp time counted .need) (stampOf st s) (touchedBy st s sp time counted .stamps) (nextIdOf st) rec stp ids))
+    ∙ sym (next-none (needNumber (recordsOf st s) (touchedBy st s sp time counted .need) (stampOf st s) (touchedBy st s sp time counted .stamps) (nextIdOf st)) _
+    (sym (number-0 (recordsOf st s) (touchedBy st s sp time counted .need) (stampOf st s) (touchedBy st s sp time counted .stamps) (nextIdOf st) rec stp ids)))
     ∙ turns-fine (touchSpan st s sp time counted) s sps time counted
     (touchSpan-sound st s h less sp time counted here f rec stp ids)
     (rw (touched-stores st s sp time counted) less)

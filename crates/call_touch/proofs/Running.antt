@@ -28,7 +28,8 @@ use Rattle.call_touch_span.specs.declared.Run.{Run}
 use Rattle.call_touch_span.specs.Turn.{Others, whole, booksWith, Stands, firstNumber, four, RunAt, Ran, keptOld, read}
 use Rattle.call_touch.specs.Looking.{bad, refusedBy}
 use Rattle.call_touch.specs.Going.{number, On}
-use Rattle.call_touch.specs.Running.{Starts, Went, Roomy, Outcomes}
+use Rattle.test_arguments.specs.Room.{Roomy}
+use Rattle.call_touch.specs.Running.{Starts, Went, Outcomes}
 use Rattle.call_touch.proofs.Books.{books-same}
 use Rattle.call_touch.proofs.Laws.{on-at, first-stop, on-next, start-off, start-less, start-on, none-left, no-bytes, no-spans, outcome-done}
 use Rattle.call_touch.proofs.Room.{turns-fine}
@@ -132,9 +133,8 @@ module _ (o : Others) (x : List ℕ) (sps : List Span) (depth bytes : List ℕ) 
         → Outcomes began s sps time counted (whole o depth bytes c′ ms′ x) (Refused (r .number))
     unfolding storeUsed
     went-refused kept c′ ms′ n k ec em =
-        let a = ec ∙ ap (λ (p : Old). backRanges (128 * s) 128 (oldRanges p) c) k ∙ w .ranges in
         let b = em ∙ ap (λ (p : Old). back (256 * s) 256 (p .marks) ms) k ∙ w .marks in
-        (λ j. outcome (whole o depth bytes (a j) (b j) x) tt (refused (w .first j)))
+        (λ j. outcome (whole o depth bytes ((ec ∙ ap (λ (p : Old). backRanges (128 * s) 128 (oldRanges p) c) k ∙ w .ranges) j) (b j) x) tt (refused (w .first j)))
         ∙ sym (unless-some began tt all (number began s sps time counted) _ refl (λ (e : number began s sps time counted ≡ 0). n (w .first ∙ e)))
 
     -- with room for all, none is refused

@@ -1,11 +1,11 @@
 -- The spans of a list in turn, up to the first that is refused, with nothing put back. What the store's part was gives the state that the turns began with. Assumes nothing.
-use Prim.Native.Nat.{ℕ, _+_, _*_, _≤_}
+use Prim.Native.Nat.{ℕ, _*_}
 use mathlib.Core.Path.{_≡_}
 use mathlib.Core.Bool.{Bool}
 use mathlib.Core.List.{List}
 use lib.Ieee.{Float}
 use Rattle.model.specs.declared.Span.{Span}
-use Rattle.model.specs.Sizes.{storeRecords, storeMarks, maxStamp}
+use Rattle.model.specs.Sizes.{storeRecords, storeMarks}
 use Rattle.model.specs.State.{Ranges, State}
 use Rattle.model.specs.Calls.{touchSpans, bytesTouched, storeUsed}
 use Rattle.pool_part.specs.Parts.{back, backRanges}
@@ -33,12 +33,6 @@ pub record Went (st₀ : State) (s : ℕ) (sps : List Span) (time : Float) (coun
   pub bytes : r .number ≡ 0 → r .sum ≡ bytesTouched st₀ s sps time counted
   pub ranges : backRanges (storeRecords * s) storeRecords (oldRanges (oldFrom s (st₀ .ranges) (st₀ .marks))) (st .ranges) ≡ st₀ .ranges
   pub marks : back (storeMarks * s) storeMarks (oldFrom s (st₀ .ranges) (st₀ .marks) .marks) (st .marks) ≡ st₀ .marks
-
--- count turns need at most two records and ids and one stamp each
-pub record Roomy (n top next count : ℕ) : Type 0 where
-  pub records : n + 2 * count ≤ storeRecords
-  pub stamps : top + count ≤ maxStamp
-  pub ids : next + 2 * count ≤ maxStamp
 
 -- the state st′ and the answer r are those of the whole call
 abbrev pub Outcomes : State → ℕ → List Span → Float → Bool → State → StoreUsed → Type 0

@@ -7,8 +7,8 @@ ghost use mathlib.Core.Path.{_≡_};
 ghost use mathlib.Core.List.{List};
 ghost use Prim.Native.Nat.{ℕ, _≤_};
 ghost use lib.ListN.{length, take};
-ghost use Rattle.model.specs.Sizes.{maxNumbers, maxStamp};
-ghost use Rattle.model.specs.Words.{Says, any};
+ghost use Rattle.model.specs.Sizes.{maxNumbers};
+ghost use Rattle.model.specs.Words.{any};
 ghost use Rattle.model.specs.State.{Tree};
 ghost use Rattle.model.specs.Sound.{Sound};
 ghost use Rattle.model.specs.Calls.{storeUsed};
@@ -16,7 +16,7 @@ ghost use Rattle.shape_state.specs.Lent.{rangesOf};
 ghost use Rattle.call_touch_span.specs.Turn.{Others, whole, firstNumber, booksWith};
 ghost use Rattle.call_touch.specs.Looking.{bad, refusedBy, Looks};
 ghost use Rattle.call_touch.specs.Going.{AtFirst, Turns};
-ghost use Rattle.call_touch.specs.Running.{Starts, CanStart, Went, Roomy, Outcomes};
+ghost use Rattle.call_touch.specs.Running.{Starts, CanStart, Went, Outcomes};
 ghost use Rattle.shape_answer.specs.Answers.{stateFrom, outcome, storeUsedOf};
 
 // The spans of a lent list, one call for each, before the first turn: 4 if one of them is not one of the tree.
@@ -36,6 +36,7 @@ pub fn look_spans(spans: &[Span], len: &[usize], x: Turn) -> Turn
 // The spans of a lent list, in turn: one call for each. Once a turn was refused the rest do nothing, and the pools are as they were before the first.
 pub fn touch_spans(
     spans: &[Span],
+    depth: &[usize],
     node: &mut [usize],
     start: &mut [usize],
     end: &mut [usize],
@@ -44,7 +45,6 @@ pub fn touch_spans(
     touched: &mut [f64],
     write: &mut [u32],
     marks: &mut [usize],
-    depth: &[usize],
     bytes: &[u64],
     x: Turn,
 ) -> Turn
@@ -65,6 +65,7 @@ pub fn touch_spans(
     while i < spans.len() {
         y = call_touch_span::one(
             spans[i],
+            depth,
             &mut *node,
             &mut *start,
             &mut *end,
@@ -73,7 +74,6 @@ pub fn touch_spans(
             &mut *touched,
             &mut *write,
             &mut *marks,
-            depth,
             bytes,
             y,
         );
@@ -114,6 +114,7 @@ fn first_refusal(
 
 // The first `count` spans in turn, up to the first that is refused. That one writes nothing; what the earlier ones wrote stands.
 fn take_turns(
+    depth: &[usize],
     node: &mut [usize],
     start: &mut [usize],
     end: &mut [usize],
@@ -122,7 +123,6 @@ fn take_turns(
     touched: &mut [f64],
     write: &mut [u32],
     marks: &mut [usize],
-    depth: &[usize],
     bytes: &[u64],
     s: usize,
     refreshes: bool,
@@ -162,6 +162,7 @@ fn take_turns(
         let sp = spans[j];
         z = call_touch_span::one_turn(
             sp,
+            depth,
             node,
             start,
             end,
@@ -170,7 +171,6 @@ fn take_turns(
             touched,
             write,
             marks,
-            depth,
             bytes,
             s,
             refreshes,
@@ -186,25 +186,9 @@ fn take_turns(
     z
 }
 
-// No turn of `count` spans can be refused: each needs two records and ids and one stamp at most.
-fn roomy(n: usize, top: u64, next: u64, count: usize) -> bool
-    requires { ⌜ (count ≤ 64) × (n ≤ 128) × (top ≤ maxStamp) × (next ≤ maxStamp) ⌝ }
-    ensures { λ r. ⌜ Says r (Roomy n top next count) ⌝ }
-{
-    if 128 < n + 2 * count {
-        return false;
-    }
-    if 281474976710655 - top < count as u64 {
-        return false;
-    }
-    if 281474976710655 - next < 2 * (count as u64) {
-        return false;
-    }
-    true
-}
-
 // The turns where one may be refused: the store's part is kept, and put back then.
 fn touch_kept(
+    depth: &[usize],
     node: &mut [usize],
     start: &mut [usize],
     end: &mut [usize],
@@ -213,7 +197,6 @@ fn touch_kept(
     touched: &mut [f64],
     write: &mut [u32],
     marks: &mut [usize],
-    depth: &[usize],
     bytes: &[u64],
     books: &mut [u64],
     s: usize,
@@ -251,6 +234,7 @@ fn touch_kept(
 {
     let old = pool_undo::keep(node, start, end, id, stamp, touched, write, marks, s);
     let z = take_turns(
+        depth,
         node,
         start,
         end,
@@ -259,7 +243,6 @@ fn touch_kept(
         touched,
         write,
         marks,
-        depth,
         bytes,
         s,
         refreshes,
@@ -340,8 +323,9 @@ pub fn store_used_array(
         sum: 0,
         number: 0,
     };
-    if !roomy(y.n, y.top, y.next, count) {
+    if !test_arguments::roomy(y.n, y.top, y.next, count) {
         return touch_kept(
+            depth,
             node,
             start,
             end,
@@ -350,7 +334,6 @@ pub fn store_used_array(
             touched,
             write,
             marks,
-            depth,
             bytes,
             books,
             s,
@@ -363,6 +346,7 @@ pub fn store_used_array(
         );
     }
     let z = take_turns(
+        depth,
         node,
         start,
         end,
@@ -371,7 +355,6 @@ pub fn store_used_array(
         touched,
         write,
         marks,
-        depth,
         bytes,
         s,
         refreshes,

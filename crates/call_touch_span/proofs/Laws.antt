@@ -2,14 +2,14 @@
 -- read before the turns and written after them. Assumes nothing.
 use Prim.Native.Nat.{ℕ, zero, suc, _+_, _-_, _*_, _≤_, _<_, min, max}
 use mathlib.Core.Path.{_≡_, refl, sym, ap, subst, _∙_}
-use mathlib.Core.Bool.{Bool, true, false, _||_}
+use mathlib.Core.Bool.{Bool, true, false}
 use mathlib.Core.List.{List, [], _∷_}
 use native.Mathlib.Nat.{min-le-left}
 use native.Mathlib.Omega.{arith}
 use lib.ListN.{length, length-set}
 use lib.Dec.{ltb, leb}
 use lib.Ieee.{Float}
-use borrow.Author.Tests.{lt-ltb, le-ltb, le-leb, lt-leb, eq-eqb, ne-eqb, ltb-false, leb-false}
+use borrow.Author.Tests.{lt-ltb, le-ltb, le-leb, lt-leb, eq-eqb, ne-eqb, leb-false}
 use Rattle.model.specs.declared.Span.{Span}
 use Rattle.model.specs.declared.Book.{Book}
 use Rattle.model.specs.Sizes.{maxStamp, maxBytes}
@@ -20,7 +20,9 @@ use Rattle.model.specs.SoundTest.{finite}
 use Rattle.model.specs.Store.{Store, storeOf, ranges, layBook, layNext, ranged, withRanges, withNext, meets, put}
 use Rattle.model.specs.Touch.{Touched, overlapped, heldBytes, oneInside, markRead, bytesRead, renew, split, refresh, touchHits, touch}
 use Rattle.model.specs.Refusals.{SpanIn, touchedBy, touchSpan}
+use Rattle.test_arguments.specs.Need.{needNumber}
 use Rattle.test_arguments.proofs.Laws.{finite-is}
+use Rattle.test_arguments.proofs.Need.{number-fits}
 use Rattle.pool_part.specs.Parts.{mid, back, midRanges, backRanges}
 use Rattle.pool_part.proofs.Parts.{mid-long, ranges-part, ranges-back, ranges-sized, back-full}
 use Rattle.theory_sound.specs.StoreSound.{RangesSound, StoreSound}
@@ -41,7 +43,7 @@ use Rattle.pool_undo.specs.declared.Old.{Old}
 use Rattle.pool_undo.specs.Old.{oldRanges, oldFrom}
 use Rattle.call_touch_span.specs.declared.Turn.{Turn}
 use Rattle.call_touch_span.specs.declared.Run.{Run}
-use Rattle.call_touch_span.specs.Turn.{Others, whole, renumbered, booksWith, Stands, firstNumber, Fresh, Begun, four, stopRun, looked, refusing, turnNumber, Placed, Judged, PoolReady, TouchedAt, runOn, RunAt, Ran, keptOld, TurnAt, Turned}
+use Rattle.call_touch_span.specs.Turn.{Others, whole, renumbered, booksWith, Stands, firstNumber, Fresh, Begun, four, stopRun, looked, refusing, Placed, Judged, PoolReady, TouchedAt, runOn, RunAt, Ran, keptOld, TurnAt, Turned}
 
 -- ---- the small numbers
 
@@ -133,46 +135,6 @@ looked-good y r s e t = ap (λ (b : Bool). looked b y) (sym t ∙ e)
 pub looked-bad : (y : Turn) (r s : Bool) (n : ℕ) → r ≡ s → r ≡ false → n ≡ four (y .run .number) → refusing n y ≡ looked s y
 looked-bad y r s n e t h = ap (λ (k : ℕ). refusing k y) h ∙ ap (λ (b : Bool). looked b y) (sym t ∙ e)
 
--- ---- what a turn is refused for
-
-module _ (n need top stamps next : ℕ) where
-  pub number-8 : n ≤ 128 → 128 - n < need → 8 ≡ turnNumber n need top stamps next
-  number-8 h l = let e : 128 < n + need = omega arith in simp (lt-ltb 128 (n + need) e)
-
-  room : n ≤ 128 → need ≤ 128 - n → ltb 128 (n + need) ≡ false
-  room h l = let e : n + need ≤ 128 = omega arith in le-ltb 128 (n + need) e
-
-  pub number-11 : n ≤ 128 → need ≤ 128 - n → top ≤ maxStamp → maxStamp - top < stamps → 11 ≡ turnNumber n need top stamps next
-  number-11 h l t m =
-      let e : maxStamp < top + stamps = omega arith in
-      simp (room h l, lt-ltb maxStamp (top + stamps) e)
-
-  pub number-late : n ≤ 128 → need ≤ 128 - n → top ≤ maxStamp → stamps ≤ maxStamp - top → next ≤ maxStamp → maxStamp - next < need
-      → 11 ≡ turnNumber n need top stamps next
-  number-late h l t m k q =
-      let e : top + stamps ≤ maxStamp = omega arith in
-      let f : maxStamp < next + need = omega arith in
-      simp (room h l, le-ltb maxStamp (top + stamps) e, lt-ltb maxStamp (next + need) f)
-
-  pub number-0 : n ≤ 128 → need ≤ 128 - n → top ≤ maxStamp → stamps ≤ maxStamp - top → next ≤ maxStamp → need ≤ maxStamp - next
-      → 0 ≡ turnNumber n need top stamps next
-  number-0 h l t m k q =
-      let e : top + stamps ≤ maxStamp = omega arith in
-      let f : next + need ≤ maxStamp = omega arith in
-      simp (room h l, le-ltb maxStamp (top + stamps) e, le-ltb maxStamp (next + need) f)
-
-  -- and the other way round: 0 says that all fits
-  pub number-fits : 0 ≡ turnNumber n need top stamps next → (n + need ≤ 128) × (top + stamps ≤ maxStamp) × (next + need ≤ maxStamp)
-  number-fits = go (ltb 128 (n + need)) (ltb maxStamp (top + stamps)) (ltb maxStamp (next + need)) refl refl refl
-    where
-      go : (a b c : Bool) → ltb 128 (n + need) ≡ a → ltb maxStamp (top + stamps) ≡ b → ltb maxStamp (next + need) ≡ c
-          → 0 ≡ pick {A = ℕ} a 8 (pick (b || c) 11 0) → (n + need ≤ 128) × (top + stamps ≤ maxStamp) × (next + need ≤ maxStamp)
-      go true b c p q r e = absurd (omega arith)
-      go false true c p q r e = absurd (omega arith)
-      go false false true p q r e = absurd (omega arith)
-      go false false false p q r e =
-          (omega (arith, ltb-false 128 (n + need) p), omega (arith, ltb-false maxStamp (top + stamps) q), omega (arith, ltb-false maxStamp (next + need) r))
-
 -- ---- the parts of store s
 
 -- the part of store s, w places long
@@ -228,10 +190,9 @@ module _ {depth bytes : List ℕ} {s n : ℕ} {c : Ranges} {ms : List ℕ} {sp :
         → (t : Tree) (x : Store) → t .depth ≡ depth → x .ranges ≡ ranges c (128 * s) n → x .book .stamp ≡ top → renews (x .book) ≡ refreshes → x .marks ≡ mid (256 * s) 256 ms
         → TouchedAt s (touch t bytes x next sp time counted) n c ms (backRanges (128 * s) a q c) (back (256 * s) b ms₂ ms) r
     pool-touched time counted a b ea eb v t x d rs st re m =
-        let f = ranges-part c (128 * s) 128 n (p .few) in
         rw (ea, eb) (touched-at (touch t bytes x next sp time counted) (room-for t bytes x time counted rs re)
         (subst (λ (k : ℕ). Touching (touch t bytes x next sp time counted) (midRanges (128 * s) k c) q ms₂ n r) ea
-        (v t x d (rw ea (rs ∙ sym f)) st re (rw eb m))))
+        (v t x d (rw ea (rs ∙ sym (ranges-part c (128 * s) 128 n (p .few)))) st re (rw eb m))))
 
 -- ---- the part that is kept
 
@@ -384,8 +345,7 @@ books-touched : (s : ℕ) (used : Used) (w : Touched) (x : Store) (l : List ℕ)
 books-touched s used w x l e k counted held version stamp n need stamps =
     let f : renumbered (x .book) (used .n) (x .book .stamp + used .stamps) ≡ w .store .book =
     (λ i. ranged (x .book) ((n ∙ sym counted) i) (sym held i) ((ap (λ (m : ℕ). x .book .stamp + m) stamps ∙ sym stamp) i) (sym version i)) ∙ sym (k .book) in
-    let g = ap (λ (b : Book). renumbered b (used .n) (b .stamp + used .stamps)) (sym e) ∙ f in
-    (λ i. layNext (nextIdIn l + need i) (stallsIn l) (layBook s (g i) l))
+    (λ i. layNext (nextIdIn l + need i) (stallsIn l) (layBook s ((ap (λ (b : Book). renumbered b (used .n) (b .stamp + used .stamps)) (sym e) ∙ f) i) l))
 
 -- ---- a turn with no part kept
 
@@ -427,8 +387,7 @@ module _ (o : Others) (x : List ℕ) (sp : Span) (depth bytes : List ℕ) (c : R
   touched-here : (c′ : Ranges) (ms′ : List ℕ) (used : Used) → TouchedRun c′ ms′ used → TouchedHere c′ ms′ used
   unfolding storeOf
   touched-here c′ ms′ used u =
-      let v = rw (h .stands .records, h .stands .on, h .stands .stamp, h .stands .next) at u in
-      v (st .tree) x₀ refl refl refl refl refl
+      (rw (h .stands .records, h .stands .on, h .stands .stamp, h .stands .next) at u) (st .tree) x₀ refl refl refl refl refl
 
   store-read : x₀ .ranges ≡ ranges c (128 * s) (book₀ .records)
   unfolding storeOf
@@ -438,13 +397,13 @@ module _ (o : Others) (x : List ℕ) (sp : Span) (depth bytes : List ℕ) (c : R
   unfolding storeOf
   store-on = refl
 
-  number-here : (r : ℕ) → JudgedHere r → r ≡ turnNumber (book₀ .records) (w .need) (book₀ .stamp) (w .stamps) next₀
+  number-here : (r : ℕ) → JudgedHere r → r ≡ needNumber (book₀ .records) (w .need) (book₀ .stamp) (w .stamps) next₀
   unfolding midRanges
   number-here r j =
       let k =
       j .are (mid (128 * s) 128 (c .id)) (mid (128 * s) 128 (c .stamp)) (mid (128 * s) 128 (c .write)) (mid (128 * s) 128 (c .touched)) (st .tree) bytes x₀ next₀ time counted
       (store-read ∙ sym (ranges-part c (128 * s) 128 (book₀ .records) (few st s sp (h .sound) (h .store) (h .span)))) store-on in
-      j .number ∙ (λ i. turnNumber (book₀ .records) (k .0 i) (book₀ .stamp) (k .1 i) next₀)
+      j .number ∙ (λ i. needNumber (book₀ .records) (k .0 i) (book₀ .stamp) (k .1 i) next₀)
 
   pub run-asks-number : Placed s (y .n) (c .node) (c .start) (c .end) × (y .n ≤ 128) × (y .top ≤ maxStamp) × (y .next ≤ maxStamp)
   run-asks-number = rw (h .stands .records, h .stands .stamp, h .stands .next) (number-ready st s sp (h .sound) (h .store) (h .span))
@@ -477,9 +436,7 @@ module _ (o : Others) (x : List ℕ) (sp : Span) (depth bytes : List ℕ) (c : R
 
     books-here : booksWith s (runOn y used) x ≡ layNext (next₀ + w .need) (stallsIn x) (layBook s (w .store .book) x)
     books-here =
-        let e = h .stands .stamp in
-        let f = h .stands .next in
-        (λ i. layNext (f i + used .need) (stallsIn x) (layBook s (renumbered book₀ (used .n) (e i + used .stamps)) x))
+        (λ i. layNext ((h .stands .next) i + used .need) (stallsIn x) (layBook s (renumbered book₀ (used .n) ((h .stands .stamp) i + used .stamps)) x))
         ∙ books-touched s used w x₀ x (store-book st s)
         (touch-steady (st .tree) bytes x₀ next₀ sp time counted)
         (touch-counted (st .tree) bytes x₀ next₀ sp time counted)

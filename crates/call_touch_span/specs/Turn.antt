@@ -10,7 +10,7 @@ use Rattle.model.specs.Words.{pick}
 use Rattle.model.specs.declared.Span.{Span}
 use Rattle.model.specs.declared.Book.{Book}
 use Rattle.model.specs.declared.TouchAnswer.{TouchAnswer}
-use Rattle.model.specs.Sizes.{storeRecords, storeMarks, maxStores, maxNumbers, maxMarks, maxStamp, maxBytes, maxSpans}
+use Rattle.model.specs.Sizes.{storeRecords, storeMarks, maxStores, maxNumbers, maxMarks, maxBytes, maxSpans}
 use Rattle.model.specs.State.{Ranges, State, nodesIn, usedIn, storesIn, nextIdIn, stallsIn, bookIn, nextIdOf, recordsOf, stampOf}
 use Rattle.model.specs.Sound.{Sound, RangesLent}
 use Rattle.model.specs.SoundTest.{finite}
@@ -23,6 +23,7 @@ use Rattle.rule_resolve.specs.Span.{Priced}
 use Rattle.rule_overlap.specs.declared.Needs.{Needs}
 use Rattle.rule_overlap.specs.Overlap.{Ordered, TouchNeeds, TouchFits}
 use Rattle.rule_touch.specs.declared.Used.{Used}
+use Rattle.test_arguments.specs.Need.{needNumber}
 use Rattle.shape_answer.specs.declared.StoreUsed.{StoreUsed}
 use Rattle.shape_answer.specs.declared.StoreUsed.the-variants.{Refused, Done}
 use Rattle.pool_undo.specs.declared.Old.{Old}
@@ -110,11 +111,6 @@ looked false y = refusing (four (y .run .number)) y
 
 -- ---- one turn
 
--- 8, 11 or none, 0: for n records and `need` more, the stamp `top` and `stamps` more, the next id and `need` more
-abbrev pub turnNumber : ℕ → ℕ → ℕ → ℕ → ℕ → ℕ
-turnNumber n need top stamps next =
-    pick (ltb storeRecords (n + need)) 8 (pick (ltb maxStamp (top + stamps) || ltb maxStamp (next + need)) 11 0)
-
 -- the records of store s stand in order in the pools
 pub record Placed (s n : ℕ) (node start end : List ℕ) : Type 0 where
   pub store : s < maxStores
@@ -127,7 +123,7 @@ pub record Placed (s n : ℕ) (node start end : List ℕ) : Type 0 where
 pub record Judged (s n : ℕ) (node start end : List ℕ) (sp : Span) (refreshes : Bool) (top next r : ℕ) : Type 0 where
   pub needs : Needs
   pub are : TouchNeeds (mid (storeRecords * s) storeRecords node) (mid (storeRecords * s) storeRecords start) (mid (storeRecords * s) storeRecords end) n sp refreshes needs
-  pub number : r ≡ turnNumber n (needs .records) top (needs .stamps) next
+  pub number : r ≡ needNumber n (needs .records) top (needs .stamps) next
 
 -- the pools are long enough, and the store's part is ready
 pub record PoolReady (depth bytes : List ℕ) (s n : ℕ) (c : Ranges) (ms : List ℕ) (sp : Span) (refreshes : Bool) (top next : ℕ) : Type 0 where
@@ -171,7 +167,7 @@ pub record RunReady (sp : Span) (depth bytes : List ℕ) (c : Ranges) (marks : L
 pub record Ran (sp : Span) (s : ℕ) (time : Float) (counted : Bool) (st : State) (y : Run) (st′ : State) (r : Run) : Type 0 where
   pub number :
       r .number
-      ≡ turnNumber (recordsOf st s) (touchedBy st s sp time counted .need) (stampOf st s) (touchedBy st s sp time counted .stamps)
+      ≡ needNumber (recordsOf st s) (touchedBy st s sp time counted .need) (stampOf st s) (touchedBy st s sp time counted .stamps)
       (nextIdOf st)
   pub stopped : 1 ≤ r .number → (st′ .ranges ≡ st .ranges) × (st′ .marks ≡ st .marks)
   pub taken : r .number ≡ 0 → st′ ≡ touchSpan st s sp time counted
@@ -203,7 +199,7 @@ pub record Gone (sp : Span) (st : State) (y : Turn) (st′ : State) (r : Turn) :
   pub old : r .old ≡ keptOld (y .turns) (y .old) (y .s) (st .ranges) (st .marks)
   pub number :
       r .run .number
-      ≡ turnNumber (recordsOf st (y .s)) (touchedBy st (y .s) sp (y .time) (y .counted) .need) (stampOf st (y .s))
+      ≡ needNumber (recordsOf st (y .s)) (touchedBy st (y .s) sp (y .time) (y .counted) .need) (stampOf st (y .s))
       (touchedBy st (y .s) sp (y .time) (y .counted) .stamps) (nextIdOf st)
   pub stopped :
       1 ≤ r .run .number → (st′ .ranges ≡ backRanges (storeRecords * y .s) storeRecords (oldRanges (r .old)) (st .ranges))

@@ -192,20 +192,12 @@ fn turn_number(
     let a = 128 * s;
     let e = a + 128;
     let w = rule_overlap::touch_need(&node[a..e], &start[a..e], &end[a..e], n, sp, refreshes);
-    if 128 - n < w.records {
-        return 8;
-    }
-    if 281474976710655 - top < w.stamps {
-        return 11;
-    }
-    if 281474976710655 - next < w.records as u64 {
-        return 11;
-    }
-    0
+    test_arguments::need_number(n, w.records, top, w.stamps, next)
 }
 
 // The span touched in the parts of store s, of the whole pools.
 fn touch_pools(
+    depth: &[usize],
     node: &mut [usize],
     start: &mut [usize],
     end: &mut [usize],
@@ -214,7 +206,6 @@ fn touch_pools(
     touched: &mut [f64],
     write: &mut [u32],
     marks: &mut [usize],
-    depth: &[usize],
     bytes: &[u64],
     s: usize,
     n: usize,
@@ -253,6 +244,7 @@ fn touch_pools(
     let b = 256 * s;
     let f = b + 256;
     rule_touch::store_used(
+        depth,
         &mut node[a..e],
         &mut start[a..e],
         &mut end[a..e],
@@ -261,7 +253,6 @@ fn touch_pools(
         &mut touched[a..e],
         &mut write[a..e],
         &mut marks[b..f],
-        depth,
         bytes,
         n,
         sp,
@@ -290,6 +281,7 @@ fn run_on(y: Run, w: Used) -> Run
 // One span at its turn, with no part kept: refused, 8 or 11, with nothing written; or taken.
 pub fn one_turn(
     sp: Span,
+    depth: &[usize],
     node: &mut [usize],
     start: &mut [usize],
     end: &mut [usize],
@@ -298,7 +290,6 @@ pub fn one_turn(
     touched: &mut [f64],
     write: &mut [u32],
     marks: &mut [usize],
-    depth: &[usize],
     bytes: &[u64],
     s: usize,
     refreshes: bool,
@@ -335,6 +326,7 @@ pub fn one_turn(
         return z;
     }
     let used = touch_pools(
+        depth,
         node,
         start,
         end,
@@ -343,7 +335,6 @@ pub fn one_turn(
         touched,
         write,
         marks,
-        depth,
         bytes,
         s,
         y.n,
@@ -362,6 +353,7 @@ pub fn one_turn(
 // One span of a touch, at its turn: nothing once a turn was refused; refused, 8 or 11, with what the earlier turns changed put back; or taken.
 pub fn one(
     sp: Span,
+    depth: &[usize],
     node: &mut [usize],
     start: &mut [usize],
     end: &mut [usize],
@@ -370,7 +362,6 @@ pub fn one(
     touched: &mut [f64],
     write: &mut [u32],
     marks: &mut [usize],
-    depth: &[usize],
     bytes: &[u64],
     y: Turn,
 ) -> Turn
@@ -405,6 +396,7 @@ pub fn one(
     let old = keep_first(node, start, end, id, stamp, touched, write, marks, y);
     let run = one_turn(
         sp,
+        depth,
         node,
         start,
         end,
@@ -413,7 +405,6 @@ pub fn one(
         touched,
         write,
         marks,
-        depth,
         bytes,
         s,
         y.refreshes,

@@ -1,2 +1,4 @@
+pub mod Rising
+pub mod Conserved
 pub mod Table
 pub mod Slips

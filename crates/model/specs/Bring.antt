@@ -1,5 +1,5 @@
 -- Document 01, "Bring in". Assumes nothing.
-use Prim.Native.Nat.{ℕ, zero, suc, _+_, min, max}
+use Prim.Native.Nat.{ℕ, zero, suc, _+_, _-_, min, max}
 use mathlib.Core.Bool.{Bool, true, false}
 use mathlib.Core.List.{List, [], _∷_}
 use lib.ListN.{length}
@@ -38,6 +38,11 @@ gaps n (r ∷ rs) a z =
     let here = eqb (r .node) n in
     let b = gapEnd here a (r .start) z in
     piece (ltb a b) a b (gaps n rs (behind here a (r .end)) z)
+
+-- the blocks of gaps together
+unfoldable pub gapBlocks : List Gap → ℕ
+gapBlocks [] = 0
+gapBlocks (g ∷ gs) = g .upto - g .from + gapBlocks gs
 
 -- ---- "each gap of the span gets a range, lowest first, with the next stamp, the next id, time and write"
 
@@ -103,3 +108,8 @@ bring t table x next sp time write = elim (x .book .capacity) [ zero ↦ giveBac
 unfoldable pub bringNeed : Store → Span → ℕ
 unfolding gaps
 bringNeed x sp = elim (x .book .capacity) [ zero ↦ 0 | suc c ↦ length (gaps (sp .node) (x .ranges) (sp .start) (sp .end)) ]
+
+-- document 02, P1: "the number of blocks of its gaps, 0 at capacity 0"
+unfoldable pub bringBlocks : Store → Span → ℕ
+unfolding gaps gapBlocks
+bringBlocks x sp = elim (x .book .capacity) [ zero ↦ 0 | suc c ↦ gapBlocks (gaps (sp .node) (x .ranges) (sp .start) (sp .end)) ]

@@ -19,7 +19,7 @@ use Rattle.model.specs.State.{State, nextIdOf, stallsOf, capacityOf, hel
 use Rattle.model.specs.Tree.{Seg, resolve, blocks}
 use Rattle.model.specs.Store.{storeOf, withRanges, withPins, withNext}
 use Rattle.model.specs.Trim.{Out, stallsAfter}
-use Rattle.model.specs.Bring.{Brought, bring, bringNeed}
+use Rattle.model.specs.Bring.{Brought, bring, bringNeed, bringBlocks}
 use Rattle.model.specs.Remove.{remove}
 use Rattle.model.specs.Expire.{expire}
 use Rattle.model.specs.Pins.{pin, pinNeed, unpin}
@@ -122,11 +122,15 @@ bringIn st s sp time write =
     ]
 
 unfoldable pub storeInsert : State → Refusals.OutList → ℕ → Span → Float → ℕ → Outcome Refusals.OutList BringAnswer
-unfolding brought bringIn
+unfolding brought bringIn bringBlocks
 storeInsert st l s sp time write =
     let outs = brought st s sp time write .outs in
     unless (Refusals.firstOf (Refusals.storeInsertRefusals st l s sp time)) st l
-    (record { state = bringIn st s sp time write; lists = layOuts outs l; answer = done (record { outs = length outs }) })
+    (record {
+      state = bringIn st s sp time write;
+      lists = layOuts outs l;
+      answer = done (record { outs = length outs; blocks = bringBlocks (storeOf st s) sp });
+    })
 
 -- "a list of up to 64 spans, in turn"
 unfoldable pub touchSpans : State → ℕ → List Span → Float → Bool → State
@@ -152,7 +156,7 @@ storeRemove st l s sp =
     (record {
       state = withNext (nextIdOf st + w .need) (stallsOf st) (withRanges s (w .need) (w .store) st);
       lists = front (w .writes) l;
-      answer = done (record { writes = length (w .writes) });
+      answer = done (record { writes = length (w .writes); blocks = w .blocks });
     })
 
 unfoldable pub storeExpire : State → Refusals.OutList → ℕ → Float → Float → Outcome Refusals.OutList ExpireAnswer

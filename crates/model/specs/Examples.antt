@@ -97,40 +97,73 @@ span start end = record { node = 1; start = start; end = end }
 abbrev pub time : ℕ → Float
 time n = ofInt binary64 (pos n)
 
--- ---- the calls
+-- ---- the calls, each as a function of the state before it, and what they leave
+
+abbrev pub call1 : State → Outcome PathList ResolveAnswer
+call1 st = resolveCall st paths []
+
+abbrev pub call2 : State → Outcome PathList InsertAnswer
+call2 st = insert st paths listA
+
+abbrev pub call3 : State → Outcome PathList ResolveAnswer
+call3 st = resolveCall st paths (11 ∷ 12 ∷ [])
+
+abbrev pub call4 : State → Outcome PathList ResolveAnswer
+call4 st = resolveCall st paths (11 ∷ 12 ∷ 13 ∷ 24 ∷ [])
+
+abbrev pub call5 : State → Outcome PathList InsertAnswer
+call5 st = insert st paths listB
+
+abbrev pub call6 : State → Outcome OutList BringAnswer
+call6 st = storeInsert st outs 1 (span 0 5) (time 10) 0
+
+abbrev pub call7 : State → Outcome OutList BringAnswer
+call7 st = storeInsert st outs 0 (span 0 5) (time 10) 7
+
+abbrev pub call8 : State → Outcome (Unit {0}) TouchAnswer
+call8 st = storeUsed st 0 (span 1 3 ∷ []) (time 20) true
+
+abbrev pub call9 : State → Outcome OutList BringAnswer
+call9 st = storeInsert st outs 0 (span 4 5) (time 30) 0
+
+abbrev pub call10 : State → Outcome OutList ExpireAnswer
+call10 st = storeExpire st outs 0 (time 40) (time 20)
+
+abbrev pub call11 : State → Outcome (List ℕ) RemoveAnswer
+call11 st = storeRemove st (blanks outPlaces) 0 (span 1 2)
 
 abbrev pub run1 : Outcome PathList ResolveAnswer
-run1 = resolveCall fresh paths []
+run1 = call1 fresh
 
 abbrev pub run2 : Outcome PathList InsertAnswer
-run2 = insert fresh paths listA
+run2 = call2 fresh
 
 abbrev pub run3 : Outcome PathList ResolveAnswer
-run3 = resolveCall (run2 .state) paths (11 ∷ 12 ∷ [])
+run3 = call3 (run2 .state)
 
 abbrev pub run4 : Outcome PathList ResolveAnswer
-run4 = resolveCall (run2 .state) paths (11 ∷ 12 ∷ 13 ∷ 24 ∷ [])
+run4 = call4 (run2 .state)
 
 abbrev pub run5 : Outcome PathList InsertAnswer
-run5 = insert (run2 .state) paths listB
+run5 = call5 (run2 .state)
 
 abbrev pub run6 : Outcome OutList BringAnswer
-run6 = storeInsert (run2 .state) outs 1 (span 0 5) (time 10) 0
+run6 = call6 (run2 .state)
 
 abbrev pub run7 : Outcome OutList BringAnswer
-run7 = storeInsert (run2 .state) outs 0 (span 0 5) (time 10) 7
+run7 = call7 (run2 .state)
 
 abbrev pub run8 : Outcome (Unit {0}) TouchAnswer
-run8 = storeUsed (run7 .state) 0 (span 1 3 ∷ []) (time 20) true
+run8 = call8 (run7 .state)
 
 abbrev pub run9 : Outcome OutList BringAnswer
-run9 = storeInsert (run8 .state) outs 0 (span 4 5) (time 30) 0
+run9 = call9 (run8 .state)
 
 abbrev pub run10 : Outcome OutList ExpireAnswer
-run10 = storeExpire (run9 .state) outs 0 (time 40) (time 20)
+run10 = call10 (run9 .state)
 
 abbrev pub run11 : Outcome (List ℕ) RemoveAnswer
-run11 = storeRemove (run10 .state) (blanks outPlaces) 0 (span 1 2)
+run11 = call11 (run10 .state)
 
 -- "tiers X, Y; X holds 2-4, Y holds 0-4"
 abbrev pub two : State
@@ -145,8 +178,17 @@ run12 =
 abbrev pub one : State
 one = insert (setUp pools table (2 ∷ []) (false ∷ []) .state) paths (1 ∷ 2 ∷ 3 ∷ 4 ∷ []) .state
 
+abbrev pub half : State
+half = storeInsert one outs 0 (span 0 2) (time 1) 0 .state
+
+abbrev pub callPin : State → Outcome (Unit {0}) (Unit {0})
+callPin st = pinSource st 0 (span 0 4)
+
+abbrev pub call13 : State → Outcome OutList BringAnswer
+call13 st = storeInsert st outs 0 (span 2 4) (time 2) 0
+
 abbrev pub run13 : Outcome OutList BringAnswer
-run13 = storeInsert (pinSource (storeInsert one outs 0 (span 0 2) (time 1) 0 .state) 0 (span 0 4) .state) outs 0 (span 2 4) (time 2) 0
+run13 = call13 (callPin half .state)
 
 -- ---- answers as numbers
 
@@ -190,8 +232,9 @@ figures st s = heldOf st s ∷ versionOf st s ∷ []
 abbrev pub outSays : ℕ → State → OutList → ℕ → List (List ℕ)
 outSays s st l n = outsOf n l ++ (figures st s ∷ [])
 
+-- P1's blocks first
 abbrev pub bringSays : ℕ → Outcome OutList BringAnswer → List (List ℕ)
-bringSays s o = elim (o .answer) [ refused n ↦ refusal n | done a ↦ outSays s (o .state) (o .lists) (a .outs) ]
+bringSays s o = elim (o .answer) [ refused n ↦ refusal n | done a ↦ (a .blocks ∷ []) ∷ outSays s (o .state) (o .lists) (a .outs) ]
 
 abbrev pub expireSays : ℕ → Outcome OutList ExpireAnswer → List (List ℕ)
 expireSays s o = elim (o .answer) [ refused n ↦ refusal n | done a ↦ outSays s (o .state) (o .lists) (a .outs) ]
@@ -204,7 +247,7 @@ abbrev pub touchSays : ℕ → Outcome (Unit {0}) TouchAnswer → List (List ℕ
 touchSays s o = elim (o .answer) [ refused n ↦ refusal n | done a ↦ (a .bytes ∷ []) ∷ rangesSay (o .state) s ]
 
 abbrev pub removeSays : ℕ → Outcome (List ℕ) RemoveAnswer → List (List ℕ)
-removeSays s o = elim (o .answer) [ refused n ↦ refusal n | done a ↦ take (a .writes) (o .lists) ∷ figures (o .state) s ∷ rangesSay (o .state) s ]
+removeSays s o = elim (o .answer) [ refused n ↦ refusal n | done a ↦ (a .blocks ∷ []) ∷ take (a .writes) (o .lists) ∷ figures (o .state) s ∷ rangesSay (o .state) s ]
 
 -- tier, node, start, end of the first n tier spans; then the blocks for each of k tiers
 unfoldable pub tiersOf : ℕ → TierList → List (List ℕ)
@@ -226,7 +269,7 @@ Agree [] = Unit {0}
 Agree (r ∷ rs) = (r .computed ≡ r .document) × Agree rs
 
 -- E1 to E13. Beside the figures that 01 prints stand those that follow from them: the version of E6, E9 and E13, E10's write, bytes and held, the
--- range 4-5 of E10 and E11, E12's sums
+-- range 4-5 of E10 and E11, E12's sums; and the blocks that request P1 adds to the answers of a bring-in and a removal
 abbrev pub rows : List Row
 rows =
     record { computed = pathSays run1; document = (0 ∷ []) ∷ [] }
@@ -234,21 +277,21 @@ rows =
     ∷ record { computed = pathSays run3; document = (2 ∷ []) ∷ (1 ∷ 2 ∷ []) ∷ [] }
     ∷ record { computed = pathSays run4; document = (3 ∷ []) ∷ (1 ∷ 3 ∷ []) ∷ [] }
     ∷ record { computed = insertSays run5; document = (5 ∷ []) ∷ (1 ∷ 3 ∷ []) ∷ (3 ∷ 2 ∷ []) ∷ (1 ∷ 3 ∷ 2 ∷ []) ∷ [] }
-    ∷ record { computed = bringSays 1 run6; document = (1 ∷ 0 ∷ 5 ∷ 0 ∷ 500 ∷ 0 ∷ []) ∷ (0 ∷ 0 ∷ []) ∷ [] }
-    ∷ record { computed = bringSays 0 run7; document = (1 ∷ 4 ∷ 5 ∷ 7 ∷ 100 ∷ 100 ∷ []) ∷ (4 ∷ 1 ∷ []) ∷ [] }
+    ∷ record { computed = bringSays 1 run6; document = (0 ∷ []) ∷ (1 ∷ 0 ∷ 5 ∷ 0 ∷ 500 ∷ 0 ∷ []) ∷ (0 ∷ 0 ∷ []) ∷ [] }
+    ∷ record { computed = bringSays 0 run7; document = (5 ∷ []) ∷ (1 ∷ 4 ∷ 5 ∷ 7 ∷ 100 ∷ 100 ∷ []) ∷ (4 ∷ 1 ∷ []) ∷ [] }
     ∷ record {
       computed = touchSays 0 run8;
       document = (200 ∷ []) ∷ (0 ∷ 1 ∷ 1 ∷ 1 ∷ []) ∷ (1 ∷ 3 ∷ 2 ∷ 2 ∷ []) ∷ (3 ∷ 4 ∷ 3 ∷ 1 ∷ []) ∷ [];
     }
-    ∷ record { computed = bringSays 0 run9; document = (1 ∷ 0 ∷ 1 ∷ 7 ∷ 100 ∷ 0 ∷ []) ∷ (4 ∷ 2 ∷ []) ∷ [] }
+    ∷ record { computed = bringSays 0 run9; document = (1 ∷ []) ∷ (1 ∷ 0 ∷ 1 ∷ 7 ∷ 100 ∷ 0 ∷ []) ∷ (4 ∷ 2 ∷ []) ∷ [] }
     ∷ record {
       computed = expireSays 0 run10 ++ rangesSay (run10 .state) 0;
       document = (1 ∷ 3 ∷ 4 ∷ 7 ∷ 100 ∷ 100 ∷ []) ∷ (3 ∷ 3 ∷ []) ∷ (1 ∷ 3 ∷ 2 ∷ 2 ∷ []) ∷ (4 ∷ 5 ∷ 4 ∷ 3 ∷ []) ∷ [];
     }
     ∷ record {
       computed = removeSays 0 run11;
-      document = (7 ∷ []) ∷ (2 ∷ 4 ∷ []) ∷ (2 ∷ 3 ∷ 2 ∷ 2 ∷ []) ∷ (4 ∷ 5 ∷ 4 ∷ 3 ∷ []) ∷ [];
+      document = (1 ∷ []) ∷ (7 ∷ []) ∷ (2 ∷ 4 ∷ []) ∷ (2 ∷ 3 ∷ 2 ∷ 2 ∷ []) ∷ (4 ∷ 5 ∷ 4 ∷ 3 ∷ []) ∷ [];
     }
     ∷ record { computed = lookupSays 2 run12; document = (1 ∷ 1 ∷ 0 ∷ 4 ∷ []) ∷ (0 ∷ 4 ∷ []) ∷ [] }
-    ∷ record { computed = bringSays 0 run13 ++ ((stallsOf (run13 .state) ∷ []) ∷ []); document = (4 ∷ 0 ∷ []) ∷ (1 ∷ []) ∷ [] }
+    ∷ record { computed = bringSays 0 run13 ++ ((stallsOf (run13 .state) ∷ []) ∷ []); document = (2 ∷ []) ∷ (4 ∷ 0 ∷ []) ∷ (1 ∷ []) ∷ [] }
     ∷ []

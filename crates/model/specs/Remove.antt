@@ -1,5 +1,5 @@
 -- Document 01, "Remove". Assumes nothing.
-use Prim.Native.Nat.{ℕ, zero, suc, _%_}
+use Prim.Native.Nat.{ℕ, zero, suc, _+_, _-_, _%_, min, max}
 use mathlib.Core.Bool.{Bool, true, false, _&&_}
 use mathlib.Core.List.{List, [], _∷_}
 use lib.ListN.{length}
@@ -43,28 +43,41 @@ unfoldable pub writes : List Range → List ℕ
 writes [] = []
 writes (r ∷ rs) = listed (r .write) (writes rs)
 
--- the store afterwards, how many records and ids it needed, and the writes
+-- the blocks from a up to z that overlapped ranges have: these go
+unfoldable pub goneBlocks : ℕ → ℕ → List Range → ℕ
+goneBlocks a z [] = 0
+goneBlocks a z (r ∷ rs) = min z (r .end) - max a (r .start) + goneBlocks a z rs
+
+-- "The version rises by 1 if a block went"
+abbrev pub versionPast : ℕ → ℕ → ℕ
+versionPast zero v = v
+versionPast (suc k) v = suc v % versions
+
+-- the store afterwards, how many records and ids it needed, the writes, and the blocks that went
 pub record Removed : Type 0 where
   pub store : Store
   pub need : ℕ
   pub writes : List ℕ
+  pub blocks : ℕ
 
--- "The version rises by 1 if a block went": if the span overlapped a range
+-- a span that overlaps no range changes nothing
 abbrev pub removeHits : List Range → Store → ℕ → Span → Removed
-removeHits [] x next sp = record { store = x; need = 0; writes = [] }
+removeHits [] x next sp = record { store = x; need = 0; writes = []; blocks = 0 }
 removeHits (r ∷ rs) x next sp =
     let left = cutOut (sp .node) (sp .start) (sp .end) next (x .ranges) in
+    let k = goneBlocks (sp .start) (sp .end) (r ∷ rs) in
     record {
       store = record {
-        book = ranged (x .book) (length left) (total left) (x .book .stamp) (suc (x .book .version) % versions);
+        book = ranged (x .book) (length left) (total left) (x .book .stamp) (versionPast k (x .book .version));
         ranges = left;
         pins = x .pins;
         marks = unmark (sp .node) left (x .marks);
       };
       need = middleCuts (sp .node) (sp .start) (sp .end) (x .ranges);
       writes = writes (r ∷ rs);
+      blocks = k;
     }
 
 unfoldable pub remove : Store → ℕ → Span → Removed
-unfolding overlapped cutOut middleCuts writes total
+unfolding overlapped cutOut middleCuts writes goneBlocks total
 remove x next sp = removeHits (overlapped (sp .node) (sp .start) (sp .end) (x .ranges)) x next sp

@@ -18,6 +18,11 @@ pub record Out : Type 0 where
   pub bytes : ℕ
   pub dead : ℕ
 
+-- the blocks of given-out spans together
+unfoldable pub outBlocks : List Out → ℕ
+outBlocks [] = 0
+outBlocks (o ∷ os) = o .end - o .start + outBlocks os
+
 -- ---- bytes
 
 -- "Bytes of a span are the byte table at depth + end minus at depth + start"

@@ -1,5 +1,5 @@
 -- A row of numbers copied one by one, out of the list and into it; and what that comes to for a store's part. Assumes nothing.
-use Prim.Native.Nat.{ℕ, zero, suc, _+_, _*_, _≤_, _<_}
+use Prim.Native.Nat.{ℕ, zero, suc, _+_, _*_, _%_, _≤_, _<_}
 use mathlib.Core.Path.{_≡_, refl, sym, ap, _∙_}
 use mathlib.Core.List.{List, [], _∷_, _++_, append-nil, append-assoc}
 use native.Mathlib.Omega.{arith}
@@ -8,9 +8,10 @@ use native.Mathlib.Numerals.{add-one}
 use lib.ListN.{length, set, take, drop, replicate, length-set, length-drop}
 use lib.Seq.{paste, paste-zero, paste-suc, getD-drop, drop-drop}
 use Rattle.model.specs.declared.Book.{Book}
-use Rattle.model.specs.Sizes.{maxStores, maxNumbers, storeNumbers}
+use Rattle.model.specs.Sizes.{maxStores, maxNumbers, storeNumbers, versions}
 use Rattle.model.specs.State.{at, whole, numbers, bookFrom, bookIn}
 use Rattle.model.specs.Store.{lay, layBook, layNext, layCounts}
+use Rattle.model.specs.Remove.{versionPast}
 use Rattle.pool_book.specs.Books.{eachStore, recordsIn, entriesIn}
 
 -- ---- a loop that copies
@@ -120,3 +121,13 @@ records-at l s h = store-at (λ i. bookIn l i .records) s h
 
 pub entries-at : (l : List ℕ) (s : ℕ) → s < maxStores → at (entriesIn l) s ≡ bookIn l s .entries
 entries-at l s h = store-at (λ i. bookIn l i .entries) s h
+
+-- ---- the version after a removal
+
+pub past-none : (k v : ℕ) → k ≡ 0 → v ≡ versionPast k v
+past-none zero v e = refl
+past-none (suc k) v e = absurd (omega arith)
+
+pub past-some : (k v r : ℕ) → (k ≡ 0 → ⊥) → r ≡ (v + 1) % versions → r ≡ versionPast k v
+past-some zero v r n e = absurd (n refl)
+past-some (suc k) v r n e = e ∙ ap (λ (y : ℕ). y % versions) (add-one v)

@@ -9,7 +9,8 @@ ghost use lib.Seq.{paste};
 ghost use Rattle.model.specs.Words.{Says};
 ghost use Rattle.model.specs.Sizes.{maxStores, storeNumbers, maxNumbers};
 ghost use Rattle.model.specs.State.{numbers, bookFrom, bookIn};
-ghost use Rattle.model.specs.Store.{layBook, layNext, layCounts};
+ghost use Rattle.model.specs.Store.{ranged, layBook, layNext, layCounts};
+ghost use Rattle.model.specs.Remove.{versionPast};
 ghost use Rattle.pool_book.specs.Books.{recordsIn, entriesIn};
 
 // How many numbers there are in all.
@@ -123,6 +124,27 @@ pub fn put_book(books: &mut [u64], s: usize, b: Book)
     put_row(books, a, row);
 }
 
+// b for store s after a rule on its ranges: these four are new, the rest stays.
+pub fn put_ranged(
+    books: &mut [u64],
+    s: usize,
+    b: Book,
+    records: usize,
+    held: u64,
+    stamp: u64,
+    version: u64,
+)
+    requires { ⌜ (s < maxStores) × (maxNumbers ≤ length (now books)) ⌝ }
+    ensures { λ _. ⌜ now (books .exit) ≡ layBook s (ranged b records held stamp version) (now (books .entry)) ⌝ }
+{
+    let mut new = b;
+    new.records = records;
+    new.held = held;
+    new.stamp = stamp;
+    new.version = version;
+    put_book(books, s, new);
+}
+
 // The next id and the stalls.
 pub fn put_next(books: &mut [u64], next: u64, stalls: u64)
     requires { ⌜ maxNumbers ≤ length (now books) ⌝ }
@@ -189,4 +211,14 @@ pub fn entries_of(books: &[u64]) -> [usize; 8]
         g.entries,
         h.entries,
     ]
+}
+
+// The version, one higher if a block went.
+pub fn version_past(removed: u64, version: u64) -> u64
+    ensures { λ r. ⌜ r ≡ versionPast removed version ⌝ }
+{
+    if removed == 0 {
+        return version;
+    }
+    std::num::wrapping_add_u64(version, 1)
 }

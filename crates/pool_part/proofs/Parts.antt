@@ -7,6 +7,7 @@ use native.Mathlib.Omega.{arith}
 use lib.ListN.{length, getD, take, drop, replicate, length-take, length-drop}
 use lib.Seq.{drop-drop, getD-take, getD-drop}
 use lib.Ieee.{nan}
+use borrow.Rule.Slice.PartMut.{same-len-mid}
 use Rattle.model.specs.Sizes.{maxRecords}
 use Rattle.model.specs.State.{Ranges, Pins, Range, Pin, rangeAt, pinAt}
 use Rattle.model.specs.Sound.{RangesLent}
@@ -42,6 +43,11 @@ unfolding lay
 back-full blank a w xs pool e =
     let z : w - length xs ≡ 0 = omega arith in
     rw z (ap (λ t. take a pool ++ (xs ++ t)) (drop-drop w a pool))
+
+-- the pool is as long as it was, where the part of w places at the w * s th is
+pub part-kept : {A : Type 0} (w s : ℕ) (pool part : List A) → length part ≡ length (mid (w * s) ((w * s + w) - w * s) pool)
+    → length (back (w * s) ((w * s + w) - w * s) part pool) ≡ length pool
+part-kept w s pool part h = same-len-mid (w * s) ((w * s + w) - w * s) pool part h
 
 pub mid-at : {A : Type 0} (a w i : ℕ) (l : List A) (d : A) → i < w → getD (mid a w l) i d ≡ getD l (a + i) d
 mid-at a w i l d h = getD-take w (drop a l) i d h ∙ getD-drop a l i d

@@ -11,7 +11,9 @@ use Rattle.shape_state.specs.Lent.{rangesOf}
 use Rattle.pool_range.proofs.Copied.{Copying, copy-turn, copy-end}
 use Rattle.pool_part.specs.Parts.{mid, back, backRanges}
 use Rattle.pool_part.proofs.Parts.{mid-at, mid-long}
+use Rattle.shape_answer.specs.Lists.{outList}
 use Rattle.pool_undo.specs.declared.Old.{Old}
+use Rattle.pool_undo.specs.declared.OldOuts.{OldOuts}
 use Rattle.pool_undo.specs.Old.{oldRanges}
 
 -- ---- a part copied, and put back
@@ -45,15 +47,25 @@ module _ {A : Type 0} where
 
 -- ---- column by column
 
-pub old-eq : {a a′ b b′ c c′ d d′ e e′ : List ℕ} {f f′ : List Float} {g g′ h h′ : List ℕ} → a ≡ a′ → b ≡ b′ → c ≡ c′ → d ≡ d′ → e ≡ e′ → f ≡ f′ → g ≡ g′ → h ≡ h′
+pub old-eq : {a a′ b b′ c c′ d d′ e e′ : List ℕ} {f f′ : List Float} {g g′ h h′ : List ℕ} → a ≡ a′ → b ≡ b′ → c ≡ c′ → d ≡ d′ → e ≡ e′ → f ≡ f′ → g ≡ g′ → h
+    ≡ h′
     → _≡_ {A = Old} (record { node = a; start = b; end = c; id = d; stamp = e; touched = f; write = g; marks = h })
     (record { node = a′; start = b′; end = c′; id = d′; stamp = e′; touched = f′; write = g′; marks = h′ })
 old-eq p q r s t u v w = cc
 
-pub undone-eq : (s : ℕ) (old : Old) (node start end id stamp : List ℕ) (touched : List Float) (write : List ℕ) {a b d e f : List ℕ} {g : List Float} {h : List ℕ}
+pub undone-eq : (s : ℕ) (old : Old) (node start end id stamp : List ℕ) (touched : List Float) (write : List ℕ) {a b d e f : List ℕ} {g : List Float}
+    {h : List ℕ}
     → a ≡ back (128 * s) 128 (old .node) node → b ≡ back (128 * s) 128 (old .start) start → d ≡ back (128 * s) 128 (old .end) end
     → e ≡ back (128 * s) 128 (old .id) id → f ≡ back (128 * s) 128 (old .stamp) stamp → g ≡ back (128 * s) 128 (old .touched) touched
     → h ≡ back (128 * s) 128 (old .write) write
     → rangesOf a b d e f g h ≡ backRanges (128 * s) 128 (oldRanges old) (rangesOf node start end id stamp touched write)
 unfolding backRanges
 undone-eq s old node start end id stamp touched write p q r t u v w = cc
+
+pub old-outs-eq : {a a′ b b′ c c′ d d′ e e′ f f′ : List ℕ} → a ≡ a′ → b ≡ b′ → c ≡ c′ → d ≡ d′ → e ≡ e′ → f ≡ f′
+    → _≡_ {A = OldOuts} (record { node = a; start = b; end = c; write = d; bytes = e; dead = f })
+    (record { node = a′; start = b′; end = c′; write = d′; bytes = e′; dead = f′ })
+old-outs-eq p q r s t u = cc
+
+pub outs-eq : {a a′ b b′ c c′ d d′ e e′ f f′ : List ℕ} → a ≡ a′ → b ≡ b′ → c ≡ c′ → d ≡ d′ → e ≡ e′ → f ≡ f′ → outList a b c d e f ≡ outList a′ b′ c′ d′ e′ f′
+outs-eq p q r s t u = cc

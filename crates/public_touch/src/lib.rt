@@ -78,6 +78,7 @@ pub fn store_used(
     let z = call_touch::look_spans(spans, len, y);
     let w = call_touch::touch_spans(
         spans,
+        depth,
         node,
         start,
         end,
@@ -86,7 +87,6 @@ pub fn store_used(
         touched,
         write,
         marks,
-        depth,
         bytes,
         z,
     );

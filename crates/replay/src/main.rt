@@ -1,8 +1,7 @@
 // Reads the lines of the replay form on standard input and writes an answer line for each. docs/REPLAY.md has the form.
-mod input;
-
-use input::Cursor;
 use known::NUMBERS;
+use text_input::Cursor;
+use text_lines::Op;
 ghost use Prim.Native.Nat.{_≤_};
 ghost use lib.ListN.{length};
 
@@ -61,7 +60,7 @@ fn main() {
     };
     let mut turns = u64::MAX;
     while turns > 0 {
-        let n = input::next_op(
+        let n = text_input::next_op(
             &mut buf,
             &mut list,
             &mut spans,
@@ -74,7 +73,7 @@ fn main() {
             flush(&out, at, 0);
             return;
         }
-        let op = n.op;
+        let op: Op = n.op;
         let past = prog_calls::call(
             &mut parent,
             &mut depth,

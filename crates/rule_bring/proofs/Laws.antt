@@ -1,20 +1,18 @@
 -- Filling a store's part and trimming what it then holds: each call's needs from what the part was ready for, and the two results as one.
 use Prim.Native.Nat.{ℕ, _+_, _*_, _≤_, _<_}
 use mathlib.Core.Bool.{Bool}
-use mathlib.Core.Path.{_≡_, ap, subst, _∙_}
-use mathlib.Core.List.{List, [], _∷_}
+use mathlib.Core.Path.{_≡_, sym, ap, subst, _∙_}
+use mathlib.Core.List.{List}
 use native.Mathlib.Nat.{le-refl}
 use native.Mathlib.Omega.{arith}
 use lib.ListN.{length}
 use lib.Ieee.{Float}
-use mir.Val.{Fits}
-use mir.Syntax.{w64}
 use Rattle.model.specs.State.{Ranges, Range, Pin}
 use Rattle.model.specs.Store.{ranges, pins, layRanges, total}
 use Rattle.model.specs.Bring.{fill}
 use Rattle.model.specs.Trim.{Trimmed, trim}
 use Rattle.model.specs.Refusals.{OutList}
-use Rattle.theory_sound.specs.Facts.{All}
+use Rattle.model.proofs.Conserved.{fill-total}
 use Rattle.theory_bring.proofs.Fill.{fill-length}
 use Rattle.theory_lay.proofs.Rows.{ranges-length}
 use Rattle.rule_resolve.specs.Span.{onlyDepth}
@@ -24,20 +22,12 @@ use Rattle.pool_part.proofs.Parts.{mid-long, ranges-part, ranges-back, pins-par
 use Rattle.rule_fill.specs.declared.Gaps.{Gaps}
 use Rattle.rule_fill.specs.Gaps.{gapsOf}
 use Rattle.rule_fill.proofs.Missing.{gaps-length}
-use Rattle.rule_fill.specs.Fill.{blocks}
-use Rattle.rule_fill.proofs.Laws.{fill-total}
 use Rattle.rule_fill.proofs.Part.{sized-laid, ranges-laid, laid-twice}
-use Rattle.rule_evict.specs.Evict.{Reach}
 use Rattle.rule_evict.specs.Given.{Ready, GivenOut}
 use Rattle.rule_bring.specs.Part.{PartReady}
 use Rattle.rule_bring.specs.Pool.{PoolReady, GivenOutAt}
 
 -- ---- a store's part
-
-reach-total : (depth : List ℕ) (rs : List Range) → All (Reach depth) rs → total rs ≤ 1024 * length rs
-unfolding All total
-reach-total depth [] a = omega arith
-reach-total depth (r ∷ rs) a = omega (arith, a .0 .ends, reach-total depth rs (a .1))
 
 module _ {depth bytes : List ℕ} {n h : ℕ} {c : Ranges} {ms : List ℕ} {l : OutList} {nd : ℕ} {g : Gaps} {top next : ℕ} {time : Float} {w : ℕ}
     (p : PartReady depth bytes n h c ms l nd g top next time w) where
@@ -50,29 +40,22 @@ module _ {depth bytes : List ℕ} {n h : ℕ} {c : Ranges} {ms : List ℕ} {l : 
   few : n + length (gapsOf g) ≤ 128
   few = omega (arith, gaps-length (g .from) (g .upto) (g .n), p .room .records)
 
-  pub gaps-few : g .n ≤ 129
-  gaps-few = omega (arith, p .room .records)
-
-  sums : (b : ℕ) → b ≡ blocks (gapsOf g) → h + b ≡ total filledWith
-  sums b e = omega (arith, p .ready .held, fill-total nd (gapsOf g) top next time w (ranges c 0 n))
-
-  pub sum-fits : {b : ℕ} → b ≡ blocks (gapsOf g) → Fits w64 (h + b)
-  sum-fits {b} e = omega (arith, sums b e, reach-total depth filledWith (p .reach), long, few)
+  held-filled : h ≡ total filledWith
+  held-filled = p .held ∙ sym (fill-total nd (gapsOf g) top next time w (ranges c 0 n))
 
   -- after the fill
-  module _ {k b : ℕ} {c₁ : Ranges} (count : k ≡ n + length (gapsOf g)) (more : b ≡ blocks (gapsOf g))
-      (laid : c₁ ≡ layRanges 0 (n + length (gapsOf g)) filledWith c) where
+  module _ {k : ℕ} {c₁ : Ranges} (count : k ≡ n + length (gapsOf g)) (laid : c₁ ≡ layRanges 0 (n + length (gapsOf g)) filledWith c) where
     read : ranges c₁ 0 k ≡ filledWith
     read = rw (laid, count) (ranges-laid (n + length (gapsOf g)) filledWith c (p .ready .cols) long few)
 
-    pub part-ready : Ready depth bytes k (h + b) c₁ ms l
+    pub part-ready : Ready depth bytes k h c₁ ms l
     part-ready =
         record {
           few = omega (arith, count, few);
           cols = rw laid (sized-laid (n + length (gapsOf g)) filledWith c (p .ready .cols) (omega (arith, long)) few);
           tables = p .ready .tables;
           reach = rw read (p .reach);
-          held = rw read (sums b more);
+          held = rw read held-filled;
           fits = p .ready .fits;
         }
 

@@ -4,4 +4,3 @@ pub mod Step
 pub mod Across
 pub mod Over
 pub mod Steps
-pub mod Marks

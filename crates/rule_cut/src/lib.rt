@@ -1,7 +1,7 @@
-// The ranges and the marks of a store where a node is cut.
+// The ranges of a store where a node is cut.
 ghost use mathlib.Core.Path.{_≡_};
 ghost use mathlib.Core.Bool.{true};
-ghost use Prim.Native.Nat.{_-_, _^_, _≤_, _<_, _+_, min};
+ghost use Prim.Native.Nat.{_-_, _^_, _≤_, _<_, _+_};
 ghost use lib.ListN.{length};
 ghost use lib.Dec.{ltb};
 ghost use Rattle.model.specs.State.{at, Ranges};
@@ -10,7 +10,6 @@ ghost use Rattle.pool_range.specs.Part.{Sized};
 ghost use Rattle.rule_cut.specs.Cut.{isAcross, acrossBefore, isBeyond, splitRange, moveRange, stepRanges, stepProgress};
 ghost use Rattle.model.specs.Sizes.{maxStamp};
 ghost use Rattle.model.specs.Store.{ranges};
-ghost use Rattle.model.specs.Insert.{ifHeld, cutMarks};
 ghost use Rattle.rule_cut.specs.Cutting.{acrossIn, cutRanges};
 
 // Is what stands at place `i` across `k` on node `j`? Most places are on another node: then nothing else is read.
@@ -320,41 +319,4 @@ pub fn cut_ranges(
         n: s.n,
         next: s.next,
     }
-}
-
-// What becomes of a read mark on the node that is cut, and on the new one: 0 where nothing is held.
-fn head_mark(held: bool, mark: usize, k: usize) -> usize
-    ensures { λ r. ⌜ r ≡ ifHeld held (min mark k) ⌝ }
-{
-    if held {
-        if mark < k {
-            return mark;
-        }
-        return k;
-    }
-    0
-}
-
-fn tail_mark(held: bool, mark: usize, k: usize) -> usize
-    ensures { λ r. ⌜ r ≡ ifHeld held (mark - k) ⌝ }
-{
-    if held {
-        if mark < k {
-            return 0;
-        }
-        return mark - k;
-    }
-    0
-}
-
-// The store's read marks, cut; `node` and `n` are those after the cut of the ranges.
-pub fn cut_marks(marks: &mut [usize], node: &[usize], n: usize, j: usize, k: usize, m: usize)
-    requires { ⌜ (n ≤ length (now node)) × (j < length (now marks)) × (m < length (now marks)) ⌝ }
-    ensures { λ _. ⌜ ((c : Ranges) → c .node ≡ now (node .entry) → now (marks .exit) ≡ cutMarks j k m (ranges c 0 n) (now (marks .entry))) ⌝ }
-{
-    let mark = marks[j];
-    let head = head_mark(pool_mark::on_node(node, n, j), mark, k);
-    let tail = tail_mark(pool_mark::on_node(node, n, m), mark, k);
-    marks[j] = head;
-    marks[m] = tail;
 }

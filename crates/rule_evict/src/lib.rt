@@ -94,6 +94,7 @@ pub struct Gone {
 
 // Of the record at i the last min(length, excess) blocks go; the version goes up by 1, from 2^64 - 1 to 0.
 pub fn store_evict_entry(
+    depth: &[usize],
     node: &mut [usize],
     start: &mut [usize],
     end: &mut [usize],
@@ -102,7 +103,6 @@ pub fn store_evict_entry(
     touched: &mut [f64],
     write: &mut [u32],
     marks: &mut [usize],
-    depth: &[usize],
     bytes: &[u64],
     n: usize,
     i: usize,

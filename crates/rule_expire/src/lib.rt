@@ -50,6 +50,7 @@ pub struct Expiring {
 
 // While the first range by stamp, then id, pinned or not, is aged, it is given out whole.
 pub fn store_expire(
+    depth: &[usize],
     node: &mut [usize],
     start: &mut [usize],
     end: &mut [usize],
@@ -58,14 +59,13 @@ pub fn store_expire(
     touched: &mut [f64],
     write: &mut [u32],
     marks: &mut [usize],
+    bytes: &[u64],
     out_node: &mut [usize],
     out_start: &mut [usize],
     out_end: &mut [usize],
     out_write: &mut [u32],
     out_bytes: &mut [u64],
     out_dead: &mut [u64],
-    depth: &[usize],
-    bytes: &[u64],
     n: usize,
     held: u64,
     version: u64,
@@ -109,6 +109,7 @@ pub fn store_expire(
             };
         };
         let g = rule_evict::store_evict_entry(
+            depth,
             &mut *node,
             &mut *start,
             &mut *end,
@@ -117,7 +118,6 @@ pub fn store_expire(
             &mut *touched,
             &mut *write,
             &mut *marks,
-            depth,
             bytes,
             left,
             i,

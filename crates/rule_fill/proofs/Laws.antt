@@ -1,6 +1,5 @@
--- Filling gap after gap: what stands in the part, and what is left to fill, give what was to be filled; the blocks that a fill adds are those of its gaps.
+-- Filling gap after gap: what stands in the part, and what is left to fill, give what was to be filled; the blocks of the gaps are summed one by one.
 use Prim.Native.Nat.{ℕ, suc, _+_, _-_, _*_, _≤_, _<_}
-use mathlib.Core.Bool.{Bool, true, false}
 use mathlib.Core.Path.{_≡_, refl, sym, ap, subst, _∙_}
 use mathlib.Core.List.{List, [], _∷_, _++_}
 use native.Mathlib.Nat.{add-zero}
@@ -9,8 +8,8 @@ use native.Mathlib.Omega.{arith}
 use lib.ListN.{length, drop, drop-of-length-le}
 use lib.Ieee.{Float}
 use Rattle.model.specs.State.{Ranges, Range, at}
-use Rattle.model.specs.Store.{ranges, layRanges, lengthOf, total, ahead, insert}
-use Rattle.model.specs.Bring.{Gap, fresh, fill}
+use Rattle.model.specs.Store.{ranges, layRanges, insert}
+use Rattle.model.specs.Bring.{Gap, gapBlocks, fresh, fill}
 use Rattle.theory_sound.specs.Facts.{All}
 use Rattle.theory_bring.proofs.Facts.{all-at}
 use Rattle.theory_bring.proofs.Fill.{Rising, insert-length}
@@ -19,17 +18,17 @@ use Rattle.pool_range.specs.Part.{Sized, putRange}
 use Rattle.pool_range.proofs.Records.{put-laid}
 use Rattle.rule_fill.specs.Gaps.{gapAt, gapsIn, PlaceFor}
 use Rattle.rule_fill.proofs.Missing.{gaps-length, gaps-at, gaps-from}
-use Rattle.rule_fill.specs.Fill.{Filled, blocks, Room}
+use Rattle.rule_fill.specs.Fill.{Filled, Room}
 use Rattle.rule_fill.proofs.Part.{sized-laid, ranges-laid, laid-twice, laid-back}
 
 -- ---- blocks
 
-blocks-last : (gs : List Gap) (g : Gap) → blocks (gs ++ (g ∷ [])) ≡ blocks gs + (g .upto - g .from)
-unfolding blocks
+blocks-last : (gs : List Gap) (g : Gap) → gapBlocks (gs ++ (g ∷ [])) ≡ gapBlocks gs + (g .upto - g .from)
+unfolding gapBlocks
 blocks-last [] g = omega arith
 blocks-last (h ∷ gs) g = omega (arith, blocks-last gs g)
 
-blocks-suc : (from upto : List ℕ) (i : ℕ) → blocks (gapsIn from upto (suc i)) ≡ blocks (gapsIn from upto i) + (gapAt from upto i .upto - gapAt from upto i .from)
+blocks-suc : (from upto : List ℕ) (i : ℕ) → gapBlocks (gapsIn from upto (suc i)) ≡ gapBlocks (gapsIn from upto i) + (gapAt from upto i .upto - gapAt from upto i .from)
 unfolding gapsIn
 blocks-suc from upto i = blocks-last (gapsIn from upto i) (gapAt from upto i)
 
@@ -41,11 +40,11 @@ gap-filled from upto k i a h =
 -- the first i gaps are summed
 pub record Summing (from upto : List ℕ) (k sum i : ℕ) : Type 0 where
   pub high : i ≤ k
-  pub sums : sum ≡ blocks (gapsIn from upto i)
+  pub sums : sum ≡ gapBlocks (gapsIn from upto i)
   pub small : sum ≤ 1024 * i
 
 pub sum-start : (from upto : List ℕ) (k : ℕ) → Summing from upto k 0 0
-unfolding blocks gapsIn
+unfolding gapBlocks gapsIn
 sum-start from upto k = record { high = omega arith; sums = refl; small = omega arith }
 
 pub sum-turn : (from upto : List ℕ) (k sum i a b : ℕ) → Summing from upto k sum i → i < k → Filled (gapAt from upto i) → a ≡ at from i → b ≡ at upto i
@@ -57,7 +56,7 @@ sum-turn from upto k sum i a b s h f ea eb =
       small = omega (arith, s .small, f .high);
     }
 
-pub sum-end : (from upto : List ℕ) (k sum i : ℕ) → Summing from upto k sum i → k ≤ i → sum ≡ blocks (gapsIn from upto k)
+pub sum-end : (from upto : List ℕ) (k sum i : ℕ) → Summing from upto k sum i → k ≤ i → sum ≡ gapBlocks (gapsIn from upto k)
 sum-end from upto k sum i s h = let e : i ≡ k = omega (arith, s .high) in s .sums ∙ rw e
 
 -- the gaps of a span that ends where a node can
@@ -65,25 +64,6 @@ pub rising-filled : (lo z : ℕ) (gs : List Gap) → z ≤ 1024 → Rising lo z 
 unfolding Rising All
 rising-filled lo z [] h r = tt
 rising-filled lo z (g ∷ gs) h r = (record { some = r .1; high = omega (arith, r .2) }, rising-filled (g .upto) z gs h (r .3))
-
-insert-total : (g : Range) (rs : List Range) → total (insert g rs) ≡ lengthOf g + total rs
-unfolding insert total
-insert-total g [] = refl
-insert-total g (r ∷ rs) = go (ahead g r) (insert-total g rs)
-  where
-    go : (b : Bool) → total (insert g rs) ≡ lengthOf g + total rs
-        → total (elim b [ true ↦ g ∷ r ∷ rs | false ↦ r ∷ insert g rs ]) ≡ lengthOf g + (lengthOf r + total rs)
-    go true e = refl
-    go false e = omega arith
-
--- "Held is the sum of their lengths": it rises by the gaps' blocks
-pub fill-total : (nd : ℕ) (gs : List Gap) (top next : ℕ) (time : Float) (w : ℕ) (rs : List Range)
-    → total (fill nd gs top next time w rs) ≡ total rs + blocks gs
-unfolding fill blocks
-fill-total nd [] top next time w rs = omega arith
-fill-total nd (g ∷ gs) top next time w rs =
-    let r = fresh nd g (suc top) next time w in
-    omega (arith, fill-total nd gs (suc top) (suc next) time w (insert r rs), insert-total r rs)
 
 -- ---- one record more
 

@@ -8,13 +8,13 @@ ghost use lib.Ieee.{Float};
 ghost use lib.Dec.{ltb, leb, eqb};
 ghost use mathlib.Core.Bool.{_&&_, _||_};
 ghost use Rattle.model.specs.Store.{ranges, insert, layRanges};
-ghost use Rattle.model.specs.Bring.{gaps as gapsBetween, piece, fresh, fill as fillOf};
+ghost use Rattle.model.specs.Bring.{gaps as gapsBetween, piece, gapBlocks, fresh, fill as fillOf};
 ghost use Rattle.shape_state.specs.Lent.{rangesOf};
 ghost use Rattle.rule_fill.specs.Gaps.{gapsOf, PlaceFor};
 ghost use Rattle.model.specs.State.{at};
 ghost use Rattle.theory_sound.specs.Facts.{All};
 ghost use Rattle.pool_range.specs.Part.{rangeOf, Sized};
-ghost use Rattle.rule_fill.specs.Fill.{Filled, blocks, Room};
+ghost use Rattle.rule_fill.specs.Fill.{Filled, Room};
 
 // The gaps of a span, lowest first; one more than the records of a store at most.
 pub struct Gaps {
@@ -134,7 +134,7 @@ fn upto_at(g: Gaps, i: usize) -> usize
 // The blocks of the gaps together: what a store holds more, once they are filled.
 pub fn gap_blocks(g: Gaps) -> u64
     requires { ⌜ (g .n ≤ 129) × All Filled (gapsOf g) ⌝ }
-    ensures { λ r. ⌜ r ≡ blocks (gapsOf g) ⌝ }
+    ensures { λ r. ⌜ r ≡ gapBlocks (gapsOf g) ⌝ }
 {
     let k = g.n;
     let mut sum: u64 = 0;

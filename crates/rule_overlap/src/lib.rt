@@ -67,9 +67,9 @@ pub fn end_overlap(
 
 // The bytes of a span's part that the records from lo up to hi hold.
 pub fn held_bytes(
+    depth: &[usize],
     start: &[usize],
     end: &[usize],
-    depth: &[usize],
     bytes: &[u64],
     sp: Span,
     lo: usize,

@@ -3,19 +3,18 @@
 use mathlib.Core.Path.{_≡_, refl, sym, ap, subst, _∙_}
 use mathlib.Core.Bool.{Bool, true, false, _&&_, true≢false, false≢true}
 use mathlib.Core.List.{List, [], _∷_, _++_, append-assoc, append-nil}
-use Prim.Native.Nat.{ℕ, zero, suc, _+_, _-_, _*_, _%_, _≤_, _<_, min, max}
+use Prim.Native.Nat.{ℕ, zero, suc, _+_, _-_, _*_, _≤_, _<_, min, max}
 use native.Mathlib.Nat.{zero-add}
 use native.Mathlib.Omega.{arith}
 use lib.ListN.{length, set, length-append, length-set}
 use lib.Dec.{ltb}
-use borrow.Author.Tests.{lt-ltb, le-ltb, ltb-true, ltb-false}
+use borrow.Author.Tests.{lt-ltb, le-ltb, ltb-true}
 use Rattle.model.specs.declared.Span.{Span}
-use Rattle.model.specs.Sizes.{versions}
 use Rattle.model.specs.Words.{Each}
 use Rattle.model.specs.State.{Ranges, Range, at, rangeAt}
-use Rattle.model.specs.Store.{Store, ranges, layRanges, total, meets, unmark, part, put, plus}
-use Rattle.model.specs.Touch.{overlapped, hasHead, hasTail}
-use Rattle.model.specs.Remove.{middleCut, tailId, remains, cutOut, middleCuts, listed, writes, removeHits, remove}
+use Rattle.model.specs.Store.{Store, ranges, layRanges, meets, unmark, part, put, plus}
+use Rattle.model.specs.Touch.{overlapped}
+use Rattle.model.specs.Remove.{middleCut, tailId, remains, cutOut, middleCuts, listed, writes, goneBlocks, removeHits, remove}
 use Rattle.model.specs.Calls.{front}
 use Rattle.theory_sound.specs.Facts.{All}
 use Rattle.theory_touch.proofs.Bools.{and-true}
@@ -28,16 +27,16 @@ use Rattle.rule_overlap.proofs.Laid.{back, sized-laid, laid-at, laid-read, then
 use Rattle.rule_overlap.proofs.Lists.{Miss, out-skip, middles-none, at-seam}
 use Rattle.rule_overlap.proofs.Places.{all-places, ranges-cut0, ranges-cons, ranges-none, ranges-seam, misses-before, misses-after, hits-are, no-middle, middles-first}
 use Rattle.rule_overlap.proofs.Laws.{at-here, same-here, end-here, start-here, cut-here}
-use Rattle.rule_remove.specs.Remove.{leftOf, bothEnds, gone, onlyWrite, CutTo, Freed, versionPast}
+use Rattle.rule_remove.specs.Remove.{leftOf, bothEnds, onlyWrite, CutTo, Freed}
 
 -- ---- the blocks that go
 
-gone-cons : (a z : ℕ) (r : Range) (rs : List Range) → gone a z (r ∷ rs) ≡ (min z (r .end) - max a (r .start)) + gone a z rs
-unfolding gone
+gone-cons : (a z : ℕ) (r : Range) (rs : List Range) → goneBlocks a z (r ∷ rs) ≡ (min z (r .end) - max a (r .start)) + goneBlocks a z rs
+unfolding goneBlocks
 gone-cons a z r rs = refl
 
-gone-nil : (a z : ℕ) → gone a z [] ≡ 0
-unfolding gone
+gone-nil : (a z : ℕ) → goneBlocks a z [] ≡ 0
+unfolding goneBlocks
 gone-nil a z = refl
 
 -- the blocks so far, and those to come
@@ -45,35 +44,31 @@ pub record Counting (start end : List ℕ) (sp : Span) (lo hi sum i : ℕ) : Typ
   pub low : lo ≤ i
   pub high : i ≤ hi
   pub small : sum ≤ 1024 * i
-  pub most : i ≤ lo + sum
-  pub todo : sum + gone (sp .start) (sp .end) (ranges (onlySpans start end) i (hi - i)) ≡ gone (sp .start) (sp .end) (ranges (onlySpans start end) lo (hi - lo))
+  pub todo : sum + goneBlocks (sp .start) (sp .end) (ranges (onlySpans start end) i (hi - i)) ≡ goneBlocks (sp .start) (sp .end) (ranges (onlySpans start end) lo (hi - lo))
 
 pub count-start : (start end : List ℕ) (sp : Span) (lo hi : ℕ) → lo ≤ hi → Counting start end sp lo hi 0 lo
-count-start start end sp lo hi h = record { low = omega arith; high = h; small = omega arith; most = omega arith; todo = zero-add _ }
+count-start start end sp lo hi h = record { low = omega arith; high = h; small = omega arith; todo = zero-add _ }
 
 pub count-turn : (start end : List ℕ) (sp : Span) (lo hi sum i b : ℕ) → Counting start end sp lo hi sum i → i < hi
-    → b ≡ min (sp .end) (at end i) - max (sp .start) (at start i) → 1 ≤ b → b ≤ 1024 → Counting start end sp lo hi (sum + b) (i + 1)
-count-turn start end sp lo hi sum i b s h e l u =
+    → b ≡ min (sp .end) (at end i) - max (sp .start) (at start i) → b ≤ 1024 → Counting start end sp lo hi (sum + b) (i + 1)
+count-turn start end sp lo hi sum i b s h e u =
     record {
       low = omega (arith, s .low);
       high = omega arith;
       small = omega (arith, s .small);
-      most = omega (arith, s .most);
       todo =
           omega (
             arith,
             s .todo,
-            ap (gone (sp .start) (sp .end)) (ranges-cons (onlySpans start end) i hi h)
+            ap (goneBlocks (sp .start) (sp .end)) (ranges-cons (onlySpans start end) i hi h)
                 ∙ gone-cons (sp .start) (sp .end) (rangeAt (onlySpans start end) i) (ranges (onlySpans start end) (i + 1) (hi - (i + 1))),
           );
     }
 
 pub count-end : (start end : List ℕ) (sp : Span) (lo hi sum i : ℕ) → Counting start end sp lo hi sum i → hi ≤ i
-    → (sum ≡ gone (sp .start) (sp .end) (ranges (onlySpans start end) lo (hi - lo))) × (hi - lo ≤ sum)
-count-end start end sp lo hi sum i s h = (
-  omega (arith, s .todo, ap (gone (sp .start) (sp .end)) (ranges-none (onlySpans start end) i hi h) ∙ gone-nil (sp .start) (sp .end)),
-  omega (arith, s .most),
-)
+    → sum ≡ goneBlocks (sp .start) (sp .end) (ranges (onlySpans start end) lo (hi - lo))
+count-end start end sp lo hi sum i s h =
+    omega (arith, s .todo, ap (goneBlocks (sp .start) (sp .end)) (ranges-none (onlySpans start end) i hi h) ∙ gone-nil (sp .start) (sp .end))
 
 -- ---- the writes
 
@@ -455,53 +450,10 @@ module _ (c : Ranges) (n lo hi : ℕ) (sp : Span) (some : lo < hi) (w : Cuttable
           needs = sym one-cut;
         }
 
--- ---- the blocks that stay and those that go
-
--- a number where a test holds
-abbrev plusIf : Bool → ℕ → ℕ
-plusIf true k = k
-plusIf false k = 0
-
-and-yes : (b x : Bool) → b ≡ true → (b && x) ≡ x
-and-yes true x e = refl
-and-yes false x e = absurd (false≢true e)
-
-piece-sum : (s e a z : ℕ) (h g : Bool) (x k t : ℕ) → s < e → a < z → s < z → a < e → ltb s a ≡ h → ltb z e ≡ g → x + k ≡ t
-    → plusIf h (a - s) + (plusIf g (e - z) + x) + ((min z e - max a s) + k) ≡ (e - s) + t
-piece-sum s e a z true true x k t f az p q u v ih = let l = ltb-true s a u in let m = ltb-true z e v in omega arith
-piece-sum s e a z true false x k t f az p q u v ih = let l = ltb-true s a u in let m = ltb-false z e v in omega arith
-piece-sum s e a z false true x k t f az p q u v ih = let l = ltb-false s a u in let m = ltb-true z e v in omega arith
-piece-sum s e a z false false x k t f az p q u v ih = let l = ltb-false s a u in let m = ltb-false z e v in omega arith
-
-put-total : (h : Bool) (p : Range) (rs : List Range) → total (put h p rs) ≡ plusIf h (p .end - p .start) + total rs
-unfolding total
-put-total true p rs = refl
-put-total false p rs = sym (zero-add (total rs))
-
-pub total-gone : (v a z : ℕ) → a < z → (rs : List Range) → All (λ r. r .start < r .end) rs → (next : ℕ)
-    → total (cutOut v a z next rs) + gone a z (overlapped v a z rs) ≡ total rs
-unfolding cutOut overlapped total gone All
-total-gone v a z az [] k next = refl
-total-gone v a z az (r ∷ rs) k next = go (meets v a z r) refl (λ i. total-gone v a z az rs (k .1) i)
-  where
-    go : (b : Bool) → meets v a z r ≡ b → ((i : ℕ) → total (cutOut v a z i rs) + gone a z (overlapped v a z rs) ≡ total rs)
-        → total (remains b v a z next r (cutOut v a z (plus (middleCut v a z r) next) rs)) + gone a z (put b r (overlapped v a z rs)) ≡ (r .end - r .start) + total rs
-    go false e ih = omega (arith, ih (plus (middleCut v a z r) next))
-    go true e ih =
-        let m = met v a z r e in
-        let i = plus (middleCut v a z r) next in
-        let head = part r (r .node) (r .start) a (r .id) in
-        let tail = part r (r .node) z (r .end) (tailId (middleCut v a z r) next r) in
-        let p = put-total (hasHead v a z r) head (put (hasTail v a z r) tail (cutOut v a z i rs)) in
-        let q = put-total (hasTail v a z r) tail (cutOut v a z i rs) in
-        let w = piece-sum (r .start) (r .end) a z (hasHead v a z r) (hasTail v a z r) (total (cutOut v a z i rs)) (gone a z (overlapped v a z rs)) (total rs) (k .0) az
-        (m .left) (m .right) (sym (and-yes (meets v a z r) (ltb (r .start) a) e)) (sym (and-yes (meets v a z r) (ltb z (r .end)) e)) (ih i) in
-        omega (arith, p, q, w)
-
 -- ---- what the loops looked at is what stands in the columns
 
-gone-same : (a z : ℕ) (c : Ranges) (i m : ℕ) → gone a z (ranges (onlySpans (c .start) (c .end)) i m) ≡ gone a z (ranges c i m)
-unfolding gone ranges
+gone-same : (a z : ℕ) (c : Ranges) (i m : ℕ) → goneBlocks a z (ranges (onlySpans (c .start) (c .end)) i m) ≡ goneBlocks a z (ranges c i m)
+unfolding goneBlocks ranges
 gone-same a z c i zero = refl
 gone-same a z c i (suc m) = ap (λ t. (min z (at (c .end) i) - max a (at (c .start) i)) + t) (gone-same a z c (suc i) m)
 
@@ -509,10 +461,6 @@ writes-same : (c : Ranges) (i m : ℕ) → writes (ranges (onlyWrite (c .write))
 unfolding writes ranges
 writes-same c i zero = refl
 writes-same c i (suc m) = ap (listed (at (c .write) i)) (writes-same c (suc i) m)
-
-past-some : (k v : ℕ) → 1 ≤ k → suc v % versions ≡ versionPast k v
-past-some zero v h = absurd (omega arith)
-past-some (suc k) v h = refl
 
 -- ---- the whole
 
@@ -524,10 +472,10 @@ module _ (c : Ranges) (n lo hi : ℕ) (sp : Span) (next : ℕ) (w : Cuttable c n
   over-are : overlapped (sp .node) (sp .start) (sp .end) (x .ranges) ≡ ranges c lo (hi - lo)
   over-are = ap (overlapped (sp .node) (sp .start) (sp .end)) same ∙ hits-are c n sp lo hi (w .over)
 
-  pub freed-none : lo ≡ hi → (ms ls : List ℕ) → x .marks ≡ ms → Freed x (remove x next sp) c c ms ls ls n (record { n = n; need = 0; removed = 0; writes = 0 })
+  pub freed-none : lo ≡ hi → (ms ls : List ℕ) → x .marks ≡ ms → Freed (remove x next sp) c c ms ls ls n (record { n = n; need = 0; removed = 0; writes = 0 })
   freed-none e ms ls q =
       let z : n + 0 ≡ n = omega arith in
-      subst (λ r. Freed x r c c ms ls ls n (record { n = n; need = 0; removed = 0; writes = 0 })) (sym (remove-is [] x next sp (over-are ∙ ranges-none c lo hi (omega arith))))
+      subst (λ r. Freed r c c ms ls ls n (record { n = n; need = 0; removed = 0; writes = 0 })) (sym (remove-is [] x next sp (over-are ∙ ranges-none c lo hi (omega arith))))
       (record {
         columns = sym (back n c (w .sized) (w .few)) ∙ ap (λ t. layRanges 0 n t c) (sym same) ∙ ap (λ t. layRanges 0 t (x .ranges) c) (sym z);
         marks = sym q;
@@ -535,16 +483,15 @@ module _ (c : Ranges) (n lo hi : ℕ) (sp : Span) (next : ℕ) (w : Cuttable c n
         records = sym (ap length same ∙ ranges-length c 0 n);
         need = refl;
         writes = refl;
-        removed = zero-add (total (x .ranges)) ∙ ap total same;
-        version = refl;
+        blocks = refl;
       })
 
-  pub freed-some : (lo ≡ hi → ⊥) → sp .start < sp .end → Ordered (c .node) (c .start) (c .end) n → (c′ : Ranges) (ms ms′ ls ls′ : List ℕ) (m need removed k : ℕ) → x .marks ≡ ms
-      → (removed ≡ gone (sp .start) (sp .end) (ranges (onlySpans (c .start) (c .end)) lo (hi - lo))) × (hi - lo ≤ removed)
+  pub freed-some : (lo ≡ hi → ⊥) → (c′ : Ranges) (ms ms′ ls ls′ : List ℕ) (m need removed k : ℕ) → x .marks ≡ ms
+      → removed ≡ goneBlocks (sp .start) (sp .end) (ranges (onlySpans (c .start) (c .end)) lo (hi - lo))
       → (ls′ ≡ front (writes (ranges (onlyWrite (c .write)) lo (hi - lo))) ls) × (k ≡ length (writes (ranges (onlyWrite (c .write)) lo (hi - lo))))
       → n + middleCuts (sp .node) (sp .start) (sp .end) (ranges c 0 n) ≤ 128 → CutTo next need sp c c′ n m → ms′ ≡ unmark (sp .node) (ranges c′ 0 m) ms
-      → Freed x (remove x next sp) c c′ ms′ ls ls′ n (record { n = m; need = need; removed = removed; writes = k })
-  freed-some d az o c′ ms ms′ ls ls′ m need removed k q g l room t u =
+      → Freed (remove x next sp) c c′ ms′ ls ls′ n (record { n = m; need = need; removed = removed; writes = k })
+  freed-some d c′ ms ms′ ls ls′ m need removed k q g l room t u =
       let v = sp .node in
       let a = sp .start in
       let z = sp .end in
@@ -557,8 +504,7 @@ module _ (c : Ranges) (n lo hi : ℕ) (sp : Span) (next : ℕ) (w : Cuttable c n
       let read : ranges c′ 0 m ≡ cutOut v a z next (ranges c 0 n) =
       ap (λ s. ranges s 0 m) (t .columns) ∙ laid-read c (w .sized) (n + need) m (cutOut v a z next (ranges c 0 n)) (sym (t .records)) (t .few) (omega (arith, t .needs)) in
       let lists : writes (ranges (onlyWrite (c .write)) lo (hi - lo)) ≡ writes (r ∷ rest) = writes-same c lo (hi - lo) ∙ ap writes (ranges-cons c lo hi some) in
-      let filled : All (λ (q : Range). q .start < q .end) (ranges c 0 n) = all-places (λ q. q .start < q .end) c 0 n (λ i low high. o .filled i low (omega arith)) in
-      subst (λ s. Freed x s c c′ ms′ ls ls′ n (record { n = m; need = need; removed = removed; writes = k })) (sym (remove-is (r ∷ rest) x next sp e))
+      subst (λ s. Freed s c c′ ms′ ls ls′ n (record { n = m; need = need; removed = removed; writes = k })) (sym (remove-is (r ∷ rest) x next sp e))
       (record {
         columns = t .columns ∙ ap (λ s. layRanges 0 (n + need) s c) out ∙ ap (λ s. layRanges 0 (n + s) (cutOut v a z next (x .ranges)) c) (t .needs ∙ mids);
         marks = u ∙ ap (λ s. unmark v s ms) (read ∙ out) ∙ ap (unmark v (cutOut v a z next (x .ranges))) (sym q);
@@ -566,7 +512,5 @@ module _ (c : Ranges) (n lo hi : ℕ) (sp : Span) (next : ℕ) (w : Cuttable c n
         records = t .records ∙ ap length out;
         need = t .needs ∙ mids;
         writes = l .1 ∙ ap length lists;
-        removed =
-            omega (arith, g .0, gone-same a z c lo (hi - lo), ap (gone a z) (hits-are c n sp lo hi (w .over)), ap total out, total-gone v a z az (ranges c 0 n) filled next);
-        version = past-some removed (x .book .version) (omega (arith, g .1));
+        blocks = g ∙ gone-same a z c lo (hi - lo) ∙ ap (goneBlocks a z) (ranges-cons c lo hi some);
       })

@@ -1,13 +1,12 @@
--- What a removal leaves of one range, the blocks that go, and what a removal of a span leaves of a store's part. Assumes nothing.
-use Prim.Native.Nat.{ℕ, zero, suc, _+_, _-_, _%_, _≤_, min, max}
+-- What a removal leaves of one range, and what a removal of a span leaves of a store's part. Assumes nothing.
+use Prim.Native.Nat.{ℕ, _+_, _≤_}
 use mathlib.Core.Path.{_≡_}
 use mathlib.Core.List.{List, [], _∷_}
 use lib.ListN.{length}
 use lib.Dec.{ltb}
 use Rattle.model.specs.declared.Span.{Span}
-use Rattle.model.specs.Sizes.{versions}
 use Rattle.model.specs.State.{Ranges, Range}
-use Rattle.model.specs.Store.{Store, ranges, layRanges, total, part, put}
+use Rattle.model.specs.Store.{ranges, layRanges, part, put}
 use Rattle.model.specs.Remove.{Removed, cutOut, middleCuts}
 use Rattle.model.specs.Calls.{front}
 use Rattle.shape_state.specs.Lent.{rangesOf}
@@ -21,19 +20,9 @@ leftOf a z r rs = put (ltb (r .start) a) (part r (r .node) (r .start) a (r .id))
 abbrev pub bothEnds : ℕ → ℕ → ℕ → Range → List Range → List Range
 bothEnds a z i r rs = part r (r .node) (r .start) a (r .id) ∷ part r (r .node) z (r .end) i ∷ rs
 
--- how many blocks from a up to z the ranges have
-unfoldable pub gone : ℕ → ℕ → List Range → ℕ
-gone a z [] = 0
-gone a z (r ∷ rs) = (min z (r .end) - max a (r .start)) + gone a z rs
-
 -- the columns of which only the writes are looked at
 abbrev pub onlyWrite : List ℕ → Ranges
 onlyWrite write = rangesOf [] [] [] [] [] [] write
-
--- "The version rises by 1 if a block went"
-abbrev pub versionPast : ℕ → ℕ → ℕ
-versionPast zero v = v
-versionPast (suc k) v = suc v % versions
 
 -- from the part c with n records a cut makes c′ with m records, and needs `need`
 pub record CutTo (next need : ℕ) (sp : Span) (c c′ : Ranges) (n m : ℕ) : Type 0 where
@@ -42,13 +31,12 @@ pub record CutTo (next need : ℕ) (sp : Span) (c c′ : Ranges) (n m : ℕ) : T
   pub few : m ≤ n + need
   pub needs : need ≡ middleCuts (sp .node) (sp .start) (sp .end) (ranges c 0 n)
 
--- from the part c with n records, the marks ms and the list ls a removal makes c′, ms′ and ls′ and answers r; w is what the definition says of store x
-pub record Freed (x : Store) (w : Removed) (c c′ : Ranges) (ms′ ls ls′ : List ℕ) (n : ℕ) (r : Removing) : Type 0 where
+-- from the part c with n records and the list ls a removal makes c′, the marks ms′ and ls′ and answers r; w is what the definition says
+pub record Freed (w : Removed) (c c′ : Ranges) (ms′ ls ls′ : List ℕ) (n : ℕ) (r : Removing) : Type 0 where
   pub columns : c′ ≡ layRanges 0 (n + w .need) (w .store .ranges) c
   pub marks : ms′ ≡ w .store .marks
   pub list : ls′ ≡ front (w .writes) ls
   pub records : r .n ≡ length (w .store .ranges)
   pub need : r .need ≡ w .need
   pub writes : r .writes ≡ length (w .writes)
-  pub removed : r .removed + total (w .store .ranges) ≡ total (ranges c 0 n)
-  pub version : w .store .book .version ≡ versionPast (r .removed) (x .book .version)
+  pub blocks : r .removed ≡ w .blocks

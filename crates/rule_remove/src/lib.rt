@@ -7,12 +7,12 @@ ghost use lib.Dec.{ltb};
 ghost use Rattle.model.specs.Words.{Each};
 ghost use Rattle.model.specs.State.{at};
 ghost use Rattle.model.specs.Store.{Store, ranges, layRanges, plus};
-ghost use Rattle.model.specs.Remove.{middleCuts, writes, remove};
+ghost use Rattle.model.specs.Remove.{middleCuts, writes, goneBlocks, remove};
 ghost use Rattle.model.specs.Calls.{front};
 ghost use Rattle.shape_state.specs.Lent.{rangesOf};
 ghost use Rattle.pool_range.specs.Part.{Sized};
 ghost use Rattle.rule_overlap.specs.Overlap.{Ordered, Cuttable, onlySpans, atPlace, RemoveFits};
-ghost use Rattle.rule_remove.specs.Remove.{leftOf, bothEnds, gone, onlyWrite, CutTo, Freed};
+ghost use Rattle.rule_remove.specs.Remove.{leftOf, bothEnds, onlyWrite, CutTo, Freed};
 
 // How many records there are then and how many were needed, the blocks that went, and how many writes are listed.
 pub struct Removing {
@@ -26,7 +26,7 @@ pub struct Removing {
 fn removed_blocks(start: &[usize], end: &[usize], sp: Span, lo: usize, hi: usize) -> u64
     requires { ⌜ (lo ≤ hi) × (hi ≤ 128) × (hi ≤ length (now start)) × (hi ≤ length (now end)) × (sp .end ≤ 1024) ⌝ }
     requires { ⌜ Each lo hi (λ (i : ℕ). max (sp .start) (at (now start) i) < min (sp .end) (at (now end) i)) ⌝ }
-    ensures { λ r. ⌜ (r ≡ gone (sp .start) (sp .end) (ranges (onlySpans (now (start .entry)) (now (end .entry))) lo (hi - lo))) × (hi - lo ≤ r) ⌝ }
+    ensures { λ r. ⌜ r ≡ goneBlocks (sp .start) (sp .end) (ranges (onlySpans (now (start .entry)) (now (end .entry))) lo (hi - lo)) ⌝ }
 {
     let mut sum: u64 = 0;
     let mut i = lo;
@@ -275,7 +275,7 @@ pub fn store_remove(
         (now (write .entry)))
         0 n
         → x .marks ≡ now (marks .entry)
-        → Freed x (remove x next sp)
+        → Freed (remove x next sp)
         (rangesOf (now (node .entry)) (now (start .entry)) (now (end .entry)) (now (id .entry)) (now (stamp .entry)) (now (touched .entry))
         (now (write .entry)))
         (rangesOf (now (node .exit)) (now (start .exit)) (now (end .exit)) (now (id .exit)) (now (stamp .exit)) (now (touched .exit)) (now (write .exit)))

@@ -1,4 +1,4 @@
--- Laws over variables that the proofs cite: the byte table rises; a scan for a child, which passes the children of others, and a halving
+-- Laws over variables that the proofs cite: a scan for a child, which passes the children of others, and a halving
 -- have left to do what the definition has.
 use Prim.Native.Nat.{ℕ, zero, suc, _+_, _-_, _/_, _≤_, _<_, min}
 use mathlib.Core.Bool.{Bool, true, false}
@@ -12,17 +12,8 @@ use native.Mathlib.Nat.{eq-or-lt-of-le}
 use lib.ListN.{length}
 use borrow.Author.Tests.{lt-ltb, le-ltb, ne-eqb}
 use Rattle.model.specs.State.{Tree, at}
-use Rattle.model.specs.Sound.{Rising}
 use Rattle.model.specs.Tree.{isChild, childFrom, child, halve, matching, agrees, matched}
 use Rattle.rule_resolve.specs.Walk.{Others}
-
--- ---- bytes
-
-pub rises : {table : List ℕ} → Rising table → (i j : ℕ) → i ≤ j → j ≤ 1024 → at table i ≤ at table j
-rises {table} r i zero a b = let e : i ≡ 0 = omega arith in rw e (omega arith)
-rises {table} r i (suc j) a b =
-    ⊎-elim (λ (e : i ≡ suc j). rw e (omega arith)) (λ (l : i < suc j). omega (arith, rises r i j (omega arith) (omega arith), r .steps j (omega arith) (omega arith)))
-    (eq-or-lt-of-le a)
 
 -- ---- the scan for a child
 

@@ -416,9 +416,9 @@ fn refresh(
 
 // The bytes read, if reads are counted.
 fn read_bytes(
+    depth: &[usize],
     start: &[usize],
     end: &[usize],
-    depth: &[usize],
     bytes: &[u64],
     sp: Span,
     lo: usize,
@@ -435,11 +435,12 @@ fn read_bytes(
     if !counted {
         return 0;
     }
-    rule_overlap::held_bytes(start, end, depth, bytes, sp, lo, hi)
+    rule_overlap::held_bytes(depth, start, end, bytes, sp, lo, hi)
 }
 
 // One span of a store used at a time: the read is marked and counted, and what the span overlaps is refreshed.
 pub fn store_used(
+    depth: &[usize],
     node: &mut [usize],
     start: &mut [usize],
     end: &mut [usize],
@@ -448,7 +449,6 @@ pub fn store_used(
     touched: &mut [f64],
     write: &mut [u32],
     marks: &mut [usize],
-    depth: &[usize],
     bytes: &[u64],
     n: usize,
     sp: Span,
@@ -493,7 +493,7 @@ pub fn store_used(
             bytes: 0,
         };
     }
-    let read = read_bytes(start, end, depth, bytes, sp, lo, hi, counted);
+    let read = read_bytes(depth, start, end, bytes, sp, lo, hi, counted);
     mark_read(marks, sp, counted);
     if !refreshes {
         return Used {

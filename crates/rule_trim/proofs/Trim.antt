@@ -18,7 +18,8 @@ use Rattle.model.specs.Refusals.{OutList, OutFits}
 use Rattle.model.specs.Calls.{layOuts}
 use Rattle.theory_sound.specs.Facts.{All}
 use Rattle.theory_bring.proofs.Facts.{all-at, thin-length}
-use Rattle.theory_bring.proofs.Evict.{evict-cut, evict-total, evict-whole, first-some}
+use Rattle.model.proofs.Conserved.{evict-total}
+use Rattle.theory_bring.proofs.Evict.{evict-cut, evict-whole, first-some}
 use Rattle.theory_lay.proofs.Rows.{ranges-length}
 use Rattle.rule_resolve.specs.Span.{onlyDepth}
 use Rattle.pool_range.specs.Part.{Sized}

@@ -20,6 +20,7 @@ pub struct Trimming {
 
 // While more than the capacity is held: of the first range that no pin overlaps the last blocks are given out.
 pub fn store_trim_capacity(
+    depth: &[usize],
     node: &mut [usize],
     start: &mut [usize],
     end: &mut [usize],
@@ -27,18 +28,17 @@ pub fn store_trim_capacity(
     stamp: &mut [u64],
     touched: &mut [f64],
     write: &mut [u32],
+    pin_node: &[usize],
+    pin_start: &[usize],
+    pin_end: &[usize],
     marks: &mut [usize],
+    bytes: &[u64],
     out_node: &mut [usize],
     out_start: &mut [usize],
     out_end: &mut [usize],
     out_write: &mut [u32],
     out_bytes: &mut [u64],
     out_dead: &mut [u64],
-    depth: &[usize],
-    pin_node: &[usize],
-    pin_start: &[usize],
-    pin_end: &[usize],
-    bytes: &[u64],
     n: usize,
     m: usize,
     held: u64,
@@ -96,6 +96,7 @@ pub fn store_trim_capacity(
             };
         };
         let g = rule_evict::store_evict_entry(
+            depth,
             &mut *node,
             &mut *start,
             &mut *end,
@@ -104,7 +105,6 @@ pub fn store_trim_capacity(
             &mut *touched,
             &mut *write,
             &mut *marks,
-            depth,
             bytes,
             left,
             i,

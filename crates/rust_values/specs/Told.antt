@@ -47,13 +47,13 @@ abbrev pub insertAt : List ℕ → InsertAnswer
 insertAt l = record { path = pathAt l; split = splitAt (at l 2) l }
 
 abbrev pub bringAt : List ℕ → BringAnswer
-bringAt l = record { outs = at l 0 }
+bringAt l = record { outs = at l 0; blocks = at l 1 }
 
 abbrev pub touchAt : List ℕ → TouchAnswer
 touchAt l = record { bytes = at l 0 }
 
 abbrev pub removeAt : List ℕ → RemoveAnswer
-removeAt l = record { writes = at l 0 }
+removeAt l = record { writes = at l 0; blocks = at l 1 }
 
 abbrev pub expireAt : List ℕ → ExpireAnswer
 expireAt l = record { outs = at l 0 }
@@ -86,13 +86,13 @@ abbrev pub insertValues : InsertAnswer → List ℕ
 insertValues v = v .path .segs ∷ v .path .blocks ∷ splitValues (v .split)
 
 abbrev pub bringValues : BringAnswer → List ℕ
-bringValues v = v .outs ∷ []
+bringValues v = v .outs ∷ v .blocks ∷ []
 
 abbrev pub touchValues : TouchAnswer → List ℕ
 touchValues v = v .bytes ∷ []
 
 abbrev pub removeValues : RemoveAnswer → List ℕ
-removeValues v = v .writes ∷ []
+removeValues v = v .writes ∷ v .blocks ∷ []
 
 abbrev pub expireValues : ExpireAnswer → List ℕ
 expireValues v = v .outs ∷ []

@@ -84,6 +84,7 @@ pub fn store_inserted(answer: &mut [u64; 19], a: StoreInserted) -> u8
         StoreInserted::Refused(n) => n,
         StoreInserted::Done(v) => {
             answer[0] = v.outs;
+            answer[1] = v.blocks;
             0
         }
     }
@@ -108,6 +109,7 @@ pub fn store_removed(answer: &mut [u64; 19], a: StoreRemoved) -> u8
         StoreRemoved::Refused(n) => n,
         StoreRemoved::Done(v) => {
             answer[0] = v.writes;
+            answer[1] = v.blocks;
             0
         }
     }

@@ -1,2 +1,3 @@
 pub mod Infinities
 pub mod Laws
+pub mod Need

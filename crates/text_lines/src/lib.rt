@@ -35,13 +35,13 @@ struct Listed {
 
 // ---- words
 
-struct Word {
-    from: usize,
-    to: usize,
+pub struct Word {
+    pub from: usize,
+    pub to: usize,
 }
 
 // The next word from i on; empty, at the line's end, where there is none.
-fn next_word(s: &[u8], i: usize) -> Word
+pub fn next_word(s: &[u8], i: usize) -> Word
     requires { ⌜ i ≤ length (now s) ⌝ }
     ensures { λ r. ⌜ WordAt (now (s .entry)) i (r .from) (r .to) ⌝ }
 {
@@ -57,13 +57,13 @@ fn ended(s: &[u8], i: usize) -> bool
 }
 
 // A number, and the place past it.
-struct Taken {
-    found: bool,
-    value: u64,
-    next: usize,
+pub struct Taken {
+    pub found: bool,
+    pub value: u64,
+    pub next: usize,
 }
 
-fn take_number(s: &[u8], i: usize) -> Taken
+pub fn take_number(s: &[u8], i: usize) -> Taken
     requires { ⌜ i ≤ length (now s) ⌝ }
     ensures { λ r. ⌜ Taking (now (s .entry)) i (r .found) (r .next) ⌝ }
 {
@@ -95,13 +95,13 @@ fn take_number(s: &[u8], i: usize) -> Taken
 }
 
 // A time, and the place past it.
-struct Moment {
-    found: bool,
-    value: f64,
-    next: usize,
+pub struct Moment {
+    pub found: bool,
+    pub value: f64,
+    pub next: usize,
 }
 
-fn take_time(s: &[u8], i: usize) -> Moment
+pub fn take_time(s: &[u8], i: usize) -> Moment
     requires { ⌜ i ≤ length (now s) ⌝ }
     ensures { λ r. ⌜ Taking (now (s .entry)) i (r .found) (r .next) ⌝ }
 {

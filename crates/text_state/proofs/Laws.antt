@@ -93,7 +93,7 @@ module _ (st : State) (h : Sound st) where
       }
 
   pub record-spots : (s : ℕ) → s < storesOf st
-      → Spots 128 s (recordsOf st s) (st .ranges .node) (st .ranges .start) (st .ranges .end) (st .tree .depth) (st .tree .run) (st .tree .words)
+      → Spots 128 s (recordsOf st s) (st .tree .depth) (st .tree .run) (st .tree .words) (st .ranges .node) (st .ranges .start) (st .ranges .end)
   unfolding RecordsInside
   record-spots s less k low few =
       let i = h .inside s (omega arith) less k low few in
@@ -107,7 +107,7 @@ module _ (st : State) (h : Sound st) where
       }
 
   pub pin-spots : (s : ℕ) → s < storesOf st
-      → Spots 32 s (entriesOf st s) (st .pins .node) (st .pins .start) (st .pins .end) (st .tree .depth) (st .tree .run) (st .tree .words)
+      → Spots 32 s (entriesOf st s) (st .tree .depth) (st .tree .run) (st .tree .words) (st .pins .node) (st .pins .start) (st .pins .end)
   unfolding PinsInside
   pin-spots s less k low few =
       let i = h .pinsInside s (omega arith) less k low few in

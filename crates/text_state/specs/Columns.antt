@@ -27,7 +27,7 @@ pub record Spot (depth run words : List ℕ) (node start end : ℕ) : Type 0 whe
   pub last : at run node + end ≤ length words
 
 -- the span that stands at place i of its columns
-pub record SpotAt (i : ℕ) (node start end depth run words : List ℕ) : Type 0 where
+pub record SpotAt (i : ℕ) (depth run words node start end : List ℕ) : Type 0 where
   pub hasNode : i < length node
   pub hasStart : i < length start
   pub hasEnd : i < length end
@@ -35,4 +35,4 @@ pub record SpotAt (i : ℕ) (node start end depth run words : List ℕ) : Type 0
 
 -- the n spans of store s, which has `size` places of each column
 abbrev pub Spots : ℕ → ℕ → ℕ → List ℕ → List ℕ → List ℕ → List ℕ → List ℕ → List ℕ → Type 0
-Spots size s n node start end depth run words = Each 0 n (λ k. SpotAt (size * s + k) node start end depth run words)
+Spots size s n depth run words node start end = Each 0 n (λ k. SpotAt (size * s + k) depth run words node start end)

@@ -151,13 +151,13 @@ fn put_place(
     out: &mut [u8],
     at: usize,
     name: &[u8],
+    depth: &[usize],
+    run: &[usize],
+    words: &[u64],
     s: usize,
     node: usize,
     start: usize,
     end: usize,
-    depth: &[usize],
-    run: &[usize],
-    words: &[u64],
 ) -> usize
     requires { ⌜ (length (now name) ≤ 5) × Spot (now depth) (now run) (now words) node start end × (at + 224 ≤ length (now out)) ⌝ }
     ensures { λ r. ⌜ Wrote at 182 r ⌝ }
@@ -192,6 +192,9 @@ fn put_record_end(out: &mut [u8], at: usize, id: u64, stamp: u64, touched: f64, 
 fn put_record(
     out: &mut [u8],
     at: usize,
+    depth: &[usize],
+    run: &[usize],
+    words: &[u64],
     node: &[usize],
     start: &[usize],
     end: &[usize],
@@ -199,14 +202,11 @@ fn put_record(
     stamp: &[u64],
     touched: &[f64],
     write: &[u32],
-    depth: &[usize],
-    run: &[usize],
-    words: &[u64],
     s: usize,
     i: usize,
 ) -> usize
     requires { ⌜
-        SpotAt i (now node) (now start) (now end) (now depth) (now run) (now words)
+        SpotAt i (now depth) (now run) (now words) (now node) (now start) (now end)
         × (i < length (now id))
         × (i < length (now stamp))
         × (i < length (now touched))
@@ -219,13 +219,13 @@ fn put_record(
         out,
         at,
         b" | r ",
+        depth,
+        run,
+        words,
         s,
         node[i],
         start[i],
         end[i],
-        depth,
-        run,
-        words,
     );
     put_record_end(out, a, id[i], stamp[i], touched[i], write[i])
 }
@@ -234,6 +234,9 @@ fn put_record(
 fn put_records(
     out: &mut [u8],
     at: usize,
+    depth: &[usize],
+    run: &[usize],
+    words: &[u64],
     node: &[usize],
     start: &[usize],
     end: &[usize],
@@ -241,14 +244,11 @@ fn put_records(
     stamp: &[u64],
     touched: &[f64],
     write: &[u32],
-    depth: &[usize],
-    run: &[usize],
-    words: &[u64],
     s: usize,
     n: usize,
 ) -> usize
     requires { ⌜
-        Spots 128 s n (now node) (now start) (now end) (now depth) (now run) (now words)
+        Spots 128 s n (now depth) (now run) (now words) (now node) (now start) (now end)
         × (s < 8)
         × (n ≤ 128)
         × (1024 ≤ length (now id))
@@ -265,6 +265,9 @@ fn put_records(
         next = put_record(
             out,
             next,
+            depth,
+            run,
+            words,
             node,
             start,
             end,
@@ -272,9 +275,6 @@ fn put_records(
             stamp,
             touched,
             write,
-            depth,
-            run,
-            words,
             s,
             128 * s + k,
         );
@@ -287,18 +287,18 @@ fn put_records(
 fn put_pin(
     out: &mut [u8],
     at: usize,
+    depth: &[usize],
+    run: &[usize],
+    words: &[u64],
     node: &[usize],
     start: &[usize],
     end: &[usize],
     count: &[u64],
-    depth: &[usize],
-    run: &[usize],
-    words: &[u64],
     s: usize,
     i: usize,
 ) -> usize
     requires { ⌜
-        SpotAt i (now node) (now start) (now end) (now depth) (now run) (now words) × (i < length (now count)) × (at + 256 ≤ length (now out))
+        SpotAt i (now depth) (now run) (now words) (now node) (now start) (now end) × (i < length (now count)) × (at + 256 ≤ length (now out))
         ⌝ }
     ensures { λ r. ⌜ Wrote at 208 r ⌝ }
 {
@@ -306,13 +306,13 @@ fn put_pin(
         out,
         at,
         b" | p ",
+        depth,
+        run,
+        words,
         s,
         node[i],
         start[i],
         end[i],
-        depth,
-        run,
-        words,
     );
     put_field(out, a, b" c=", count[i])
 }
@@ -321,18 +321,18 @@ fn put_pin(
 fn put_pins(
     out: &mut [u8],
     at: usize,
+    depth: &[usize],
+    run: &[usize],
+    words: &[u64],
     node: &[usize],
     start: &[usize],
     end: &[usize],
     count: &[u64],
-    depth: &[usize],
-    run: &[usize],
-    words: &[u64],
     s: usize,
     n: usize,
 ) -> usize
     requires { ⌜
-        Spots 32 s n (now node) (now start) (now end) (now depth) (now run) (now words)
+        Spots 32 s n (now depth) (now run) (now words) (now node) (now start) (now end)
         × (s < 8)
         × (n ≤ 32)
         × (256 ≤ length (now count))
@@ -346,13 +346,13 @@ fn put_pins(
         next = put_pin(
             out,
             next,
+            depth,
+            run,
+            words,
             node,
             start,
             end,
             count,
-            depth,
-            run,
-            words,
             s,
             32 * s + k,
         );
@@ -426,6 +426,9 @@ fn put_whole_store(
     let b = put_records(
         out,
         a,
+        depth,
+        run,
+        words,
         node,
         start,
         end,
@@ -433,22 +436,19 @@ fn put_whole_store(
         stamp,
         touched,
         write,
-        depth,
-        run,
-        words,
         s,
         own.records,
     );
     let c = put_pins(
         out,
         b,
+        depth,
+        run,
+        words,
         pin_node,
         pin_start,
         pin_end,
         pin_count,
-        depth,
-        run,
-        words,
         s,
         own.entries,
     );

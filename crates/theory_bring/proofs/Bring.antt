@@ -10,10 +10,11 @@ use Rattle.model.specs.declared.Span.{Span}
 use Rattle.model.specs.Sizes.{storeRecords, maxStamp, outPlaces}
 use Rattle.model.specs.State.{Tree, Range}
 use Rattle.model.specs.Sound.{Finite}
-use Rattle.model.specs.Store.{Store}
-use Rattle.model.specs.Trim.{Trimmed, trim}
-use Rattle.model.specs.Bring.{Gap, gaps, fill, Brought, giveBack, keep, bring, bringNeed}
+use Rattle.model.specs.Store.{Store, total}
+use Rattle.model.specs.Trim.{Trimmed, outBlocks, trim}
+use Rattle.model.specs.Bring.{Gap, gaps, fill, Brought, giveBack, keep, bring, bringNeed, gapBlocks, bringBlocks}
 use Rattle.model.specs.Refusals.{SpanIn}
+use Rattle.model.proofs.Conserved.{trim-total, fill-total}
 use Rattle.theory_sound.specs.Facts.{IdsFrom}
 use Rattle.theory_sound.specs.StoreSound.{RangesSound, StoreSound}
 use Rattle.theory_bring.proofs.Facts.{thin-length, ids-same, ids-trans, Steady, steady-same}
@@ -110,3 +111,22 @@ module _ (t : Tree) (table : List ℕ) (next : ℕ) (x : Store) (sp : Span) (tim
   unfolding giveBack keep
   bring-steady =
       bring-cases (λ k b. Steady x (b .store)) (λ e. steady-same x) (λ c. record { book = refl; pins = refl })
+
+  -- ---- how many blocks
+
+  pub bring-blocks : (x .book .capacity ≡ 0 → ⊥) → x .book .held ≡ total (x .ranges)
+      → bring t table x next sp time write .store .book .held + outBlocks (bring t table x next sp time write .outs) ≡ x .book .held + bringBlocks x sp
+  unfolding bring bringBlocks keep
+  bring-blocks c h = go (x .book .capacity) refl
+    where
+      go : (n : ℕ) → x .book .capacity ≡ n
+          → elim n as (λ z. Brought) [ zero ↦ giveBack t table x sp write | suc d ↦ keep t table x next sp time write ] .store .book .held
+          + outBlocks (elim n as (λ z. Brought) [ zero ↦ giveBack t table x sp write | suc d ↦ keep t table x next sp time write ] .outs)
+          ≡ x .book .held + elim n as (λ z. ℕ) [ zero ↦ 0 | suc d ↦ gapBlocks gs ]
+      go zero e = absurd (c e)
+      go (suc d) e =
+          omega (arith, trim-total t table (x .pins) (x .book .capacity) filled (x .marks), fill-total (sp .node) gs (x .book .stamp) next time write (x .ranges))
+
+  pub bring-none : x .book .capacity ≡ 0 → bringBlocks x sp ≡ 0
+  unfolding bringBlocks
+  bring-none e = rw e refl

@@ -1,6 +1,6 @@
 -- One eviction: what it leaves is the ranges as they were, one of them shorter or gone; so they stay sound, and so do the marks. And a range that is
 -- chosen is one there is, and may go. Assumes nothing.
-use Prim.Native.Nat.{ℕ, zero, suc, _+_, _-_, _≤_, _<_, zero-le, suc-le-suc, min}
+use Prim.Native.Nat.{ℕ, zero, suc, _-_, _≤_, _<_, zero-le, suc-le-suc}
 use mathlib.Core.Bool.{Bool, true, false, _||_, true≢false}
 use mathlib.Core.Path.{_≡_, refl, sym, ap, subst, _∙_}
 use mathlib.Core.Logic.{inl}
@@ -12,11 +12,11 @@ use native.Mathlib.Decide.{ℕ-discrete}
 use lib.ListN.{length, set, length-set}
 use lib.Seq.{getD-set-same, getD-set-other}
 use lib.Dec.{leb, eqb}
-use borrow.Author.Tests.{leb-true, leb-false, ne-eqb}
+use borrow.Author.Tests.{leb-false, ne-eqb}
 use Rattle.model.specs.Sizes.{maxNodes}
 use Rattle.model.specs.State.{Tree, Range, at}
 use Rattle.model.specs.Sound.{Before, Inside, IdBetween, StampBetween}
-use Rattle.model.specs.Store.{lengthOf, total, onNode, part, unmark}
+use Rattle.model.specs.Store.{lengthOf, onNode, part, unmark}
 use Rattle.model.specs.Trim.{Out, nth, sooner, better, first, shortened, evict, Trimmed, also}
 use Rattle.theory_sound.specs.Facts.{IdsFrom}
 use Rattle.theory_sound.specs.StoreSound.{RangesSound, MarksSound}
@@ -104,16 +104,6 @@ evict-cut [] i k = done
 evict-cut (r ∷ rs) zero k = cut-one r k rs (leb (lengthOf r) k) refl
 evict-cut (r ∷ rs) (suc i) k = kept (cut-same r) (evict-cut rs i k)
 
-pub evict-total : (rs : List Range) (i k : ℕ) → total (evict rs i k) + min (lengthOf (nth rs i)) k ≡ total rs
-unfolding evict total
-evict-total [] i k = omega arith
-evict-total (r ∷ rs) zero k = go (leb (lengthOf r) k) refl
-  where
-    go : (b : Bool) → leb (lengthOf r) k ≡ b → total (shortened b r k rs) + min (lengthOf r) k ≡ lengthOf r + total rs
-    go true e = omega (arith, leb-true)
-    go false e = omega (arith, leb-false)
-evict-total (r ∷ rs) (suc i) k = omega (arith, evict-total rs i k)
-
 -- a range that goes whole leaves one range less
 pub evict-whole : (rs : List Range) (i k : ℕ) → i < length rs → lengthOf (nth rs i) ≤ k → suc (length (evict rs i k)) ≡ length rs
 unfolding evict
@@ -175,33 +165,24 @@ evict-marks rs i k ms = unmark-sound (nth rs i .node) rs (evict rs i k) ms (λ v
 
 -- ---- several, one after another
 
-unfoldable pub blocksOut : List Out → ℕ
-blocksOut [] = 0
-blocksOut (o ∷ os) = o .end - o .start + blocksOut os
-
--- w is what is left of the ranges and marks after at most n evictions, with what was told of each
+-- w is what is left of the ranges and marks after at most n evictions, with a span given out for each
 pub data Evicted : ℕ → List Range → List ℕ → Trimmed → Type 0 where
   stop : {n : ℕ} {rs : List Range} {ms : List ℕ} {b : Bool} → Evicted n rs ms (record { ranges = rs; marks = ms; outs = []; stalled = b })
-  turn : {n : ℕ} {rs : List Range} {ms : List ℕ} {w : Trimmed} (i k : ℕ) (o : Out) → o .end - o .start ≡ min (lengthOf (nth rs i)) k
+  turn : {n : ℕ} {rs : List Range} {ms : List ℕ} {w : Trimmed} (i k : ℕ) (o : Out)
       → Evicted n (evict rs i k) (unmark (nth rs i .node) (evict rs i k) ms) w → Evicted (suc n) rs ms (also o w)
 
 pub evicted-cut : {n : ℕ} {rs : List Range} {ms : List ℕ} {w : Trimmed} → Evicted n rs ms w → Thinned Cut (w .ranges) rs
 evicted-cut (stop {rs = rs}) = thin-same cut-same rs
-evicted-cut (turn {rs = rs} i k o e h) = thin-trans cut-trans (evicted-cut h) (evict-cut rs i k)
+evicted-cut (turn {rs = rs} i k o h) = thin-trans cut-trans (evicted-cut h) (evict-cut rs i k)
 
 pub evicted-marks : {t : Tree} {n : ℕ} {rs : List Range} {ms : List ℕ} {w : Trimmed} → Evicted n rs ms w → MarksSound t rs ms
     → MarksSound t (w .ranges) (w .marks)
 evicted-marks stop m = m
-evicted-marks (turn {rs = rs} {ms = ms} i k o e h) m = evicted-marks h (evict-marks rs i k ms m)
-
-pub evicted-total : {n : ℕ} {rs : List Range} {ms : List ℕ} {w : Trimmed} → Evicted n rs ms w → total (w .ranges) + blocksOut (w .outs) ≡ total rs
-unfolding blocksOut
-evicted-total stop = omega arith
-evicted-total (turn {rs = rs} i k o e h) = omega (arith, evicted-total h, evict-total rs i k)
+evicted-marks (turn {rs = rs} {ms = ms} i k o h) m = evicted-marks h (evict-marks rs i k ms m)
 
 pub evicted-few : {n : ℕ} {rs : List Range} {ms : List ℕ} {w : Trimmed} → Evicted n rs ms w → length (w .outs) ≤ n
 evicted-few stop = zero-le
-evicted-few (turn i k o e h) = suc-le-suc (evicted-few h)
+evicted-few (turn i k o h) = suc-le-suc (evicted-few h)
 
 -- ---- the choice
 

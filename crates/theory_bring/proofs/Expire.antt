@@ -13,10 +13,11 @@ use Rattle.model.specs.State.{Tree, Range}
 use Rattle.model.specs.Store.{Store, lengthOf, unmark}
 use Rattle.model.specs.Trim.{told, nth, first, evict, Trimmed}
 use Rattle.model.specs.Expire.{aged, ifAged, oldest, expireBy, expire}
+use Rattle.model.proofs.Conserved.{expire-total}
 use Rattle.theory_sound.specs.Facts.{IdsFrom}
 use Rattle.theory_sound.specs.StoreSound.{StoreSound}
 use Rattle.theory_bring.proofs.Facts.{thin-length, Steady}
-use Rattle.theory_bring.proofs.Evict.{Evicted, stop, turn, cut-sound, cut-ids, evicted-cut, evicted-marks, evicted-total, evicted-few, evict-whole, first-some}
+use Rattle.theory_bring.proofs.Evict.{Evicted, stop, turn, cut-sound, cut-ids, evicted-cut, evicted-marks, evicted-few, evict-whole, first-some}
 
 module _ (t : Tree) (table : List ℕ) (now seconds : Float) where
   pub expireBy-evicted : (n : ℕ) (c : Option ℕ) (rs : List Range) (ms : List ℕ) → Evicted n rs ms (expireBy t table now seconds n c rs ms)
@@ -26,7 +27,7 @@ module _ (t : Tree) (table : List ℕ) (now seconds : Float) where
   expireBy-evicted (suc n) (some i) rs ms =
       let r = nth rs i in
       let rest = evict rs i (lengthOf r) in
-      turn {rs = rs} i (lengthOf r) (told t table ms r (r .start) (r .end)) (omega arith)
+      turn {rs = rs} i (lengthOf r) (told t table ms r (r .start) (r .end))
       (expireBy-evicted n (oldest now seconds rest) rest (unmark (r .node) rest ms))
 
   -- ---- where it ends
@@ -78,7 +79,7 @@ module _ (t : Tree) (table : List ℕ) (x : Store) (now seconds : Float) where
         stamp = h .stamp;
         ranges = cut-sound (evicted-cut row) (h .ranges);
         held = refl;
-        heldNone = λ e. omega (arith, evicted-total row, h .held, h .heldNone e);
+        heldNone = λ e. omega (arith, expire-total t table x now seconds, h .held, h .heldNone e);
         entries = h .entries;
         fewPins = h .fewPins;
         pins = h .pins;

@@ -1,4 +1,4 @@
--- A trim is a row of evictions, so it keeps ranges and marks sound and no block is lost, however many blocks an excess asks for. It stalls just where
+-- A trim is a row of evictions, so it keeps ranges and marks sound, however many blocks an excess asks for. It stalls just where
 -- too much is left, and then all that is left is pinned. Assumes nothing.
 use Prim.Native.Nat.{ℕ, zero, suc, _+_, _-_, _≤_, _<_}
 use mathlib.Core.Bool.{Bool, true, false, not}
@@ -12,8 +12,9 @@ use lib.Dec.{ltb}
 use borrow.Author.Tests.{ltb-true, ltb-false, lt-ltb}
 use Rattle.model.specs.State.{Tree, Range, Pin}
 use Rattle.model.specs.Store.{total, unmark}
-use Rattle.model.specs.Trim.{told, isPinned, nth, evict, asked, chosen, amount, trimBy, trim}
-use Rattle.theory_bring.proofs.Evict.{Evicted, stop, turn, blocksOut, evict-whole, evicted-total, Right, first-right, first-some}
+use Rattle.model.specs.Trim.{outBlocks, told, isPinned, nth, evict, asked, chosen, amount, trimBy, trim}
+use Rattle.model.proofs.Conserved.{trim-total}
+use Rattle.theory_bring.proofs.Evict.{Evicted, stop, turn, evict-whole, Right, first-right, first-some}
 
 less : (e k s b : ℕ) → s ≡ k → e - k - b ≡ e - (s + b)
 less e k s b h = omega arith
@@ -27,13 +28,13 @@ module _ (asks : ℕ → ℕ) (t : Tree) (table : List ℕ) (ps : List Pin) wher
       let r = nth rs i in
       let k = amount asks e r in
       let rest = evict rs i k in
-      turn {rs = rs} i k (told t table ms r (r .end - k) (r .end)) (omega arith)
+      turn {rs = rs} i k (told t table ms r (r .end - k) (r .end))
       (trimBy-evicted n (e - k) (chosen ps (e - k) rest) rest (unmark (r .node) rest ms))
 
   -- it stalls just where less goes than the excess
   pub trimBy-stalled : (n e : ℕ) (c : Option ℕ) (rs : List Range) (ms : List ℕ)
-      → trimBy asks t table ps n e c rs ms .stalled ≡ ltb 0 (e - blocksOut (trimBy asks t table ps n e c rs ms .outs))
-  unfolding trimBy blocksOut
+      → trimBy asks t table ps n e c rs ms .stalled ≡ ltb 0 (e - outBlocks (trimBy asks t table ps n e c rs ms .outs))
+  unfolding trimBy outBlocks
   trimBy-stalled zero e c rs ms = rw sub-zero
   trimBy-stalled (suc n) e none rs ms = rw sub-zero
   trimBy-stalled (suc n) e (some i) rs ms =
@@ -43,7 +44,7 @@ module _ (asks : ℕ → ℕ) (t : Tree) (table : List ℕ) (ps : List Pin) wher
       trimBy-stalled n (e - k) (chosen ps (e - k) rest) rest (unmark (r .node) rest ms) ∙ ap (ltb 0) (less e k (r .end - (r .end - k)) _ (omega arith))
 
   trimBy-short : (n e : ℕ) (c : Option ℕ) (rs : List Range) (ms : List ℕ) → trimBy asks t table ps n e c rs ms .stalled ≡ true
-      → blocksOut (trimBy asks t table ps n e c rs ms .outs) < e
+      → outBlocks (trimBy asks t table ps n e c rs ms .outs) < e
   trimBy-short n e c rs ms h = let s = sym (trimBy-stalled n e c rs ms) ∙ h in omega (arith, ltb-true)
 
 -- ---- where it stalls
@@ -103,9 +104,9 @@ module _ (t : Tree) (table : List ℕ) (ps : List Pin) (capacity : ℕ) (rs : Li
   trim-stalled =
       let e = total rs - capacity in
       let w = trimBy asked t table ps (length rs) e (chosen ps e rs) rs ms in
-      let s : total (w .ranges) + blocksOut (w .outs) ≡ total rs = evicted-total trim-evicted in
+      let s : total (w .ranges) + outBlocks (w .outs) ≡ total rs = trim-total t table ps capacity rs ms in
       trimBy-stalled asked t table ps (length rs) e (chosen ps e rs) rs ms
-      ∙ same-test 0 (e - blocksOut (w .outs)) capacity (total (w .ranges)) (λ h. omega arith) (λ h. omega arith)
+      ∙ same-test 0 (e - outBlocks (w .outs)) capacity (total (w .ranges)) (λ h. omega arith) (λ h. omega arith)
 
   -- where it does not stall, no more is left than the capacity
   pub trim-fits : trim t table ps capacity rs ms .stalled ≡ false → total (trim t table ps capacity rs ms .ranges) ≤ capacity

@@ -9,7 +9,7 @@ use native.Mathlib.Nat.{le-refl, add-zero, zero-add}
 use native.Mathlib.Decide.{ℕ-discrete}
 use lib.ListN.{length}
 use Rattle.model.specs.declared.Book.{Book}
-use Rattle.model.specs.Words.{Each}
+use Rattle.model.specs.Words.{Each, sumTo}
 use Rattle.model.specs.Sizes.{maxStamp, storeRecords, storePins}
 use Rattle.model.specs.State.{Tree, State, bookIn, storesOf, nextIdOf, stallsOf, recordsOf, entriesOf}
 use Rattle.model.specs.Store.{Store, storeOf, layNext, layCounts, withRanges, withPins, withNext}
@@ -22,11 +22,6 @@ use Rattle.theory_sound.specs.StoreSound.{TreeSound, StoreSound, Parts}
 use Rattle.theory_calls.proofs.Lists.{same-tree}
 use Rattle.theory_calls.proofs.Laid.{Laid, laid-next, laid-both}
 use Rattle.theory_calls.proofs.Changed.{Midway, midway-start, midway-end, midway-sizes, turn}
-
--- the sum of f over the numbers below n
-unfoldable pub sumTo : (ℕ → ℕ) → ℕ → ℕ
-sumTo f zero = 0
-sumTo f (suc n) = sumTo f n + f n
 
 pub sum-rises : (f : ℕ → ℕ) (m n : ℕ) → m ≤ n → sumTo f m ≤ sumTo f n
 unfolding sumTo

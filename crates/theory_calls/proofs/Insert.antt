@@ -8,7 +8,7 @@ use native.Mathlib.Omega.{arith}
 use native.Mathlib.Nat.{le-of-eq}
 use lib.ListN.{length, drop, length-drop}
 use borrow.Author.Tests.{ltb-true, ltb-false}
-use Rattle.model.specs.Words.{Each}
+use Rattle.model.specs.Words.{Each, sumTo}
 use Rattle.model.specs.Sizes.{maxNodes, maxWords, maxHashes, maxStamp, storeRecords, storePins}
 use Rattle.model.specs.State.{Tree, State, at, storesOf, nextIdOf, recordsOf, entriesOf}
 use Rattle.model.specs.Sound.{Sound}
@@ -23,7 +23,7 @@ use Rattle.theory_cut.proofs.Leaf.{leaf-store}
 use Rattle.theory_cut.proofs.Insert.{EndsAt, match-end, leaf-here, store-here, leaf-cut}
 use Rattle.theory_calls.proofs.Parts.{sound-parts, parts-sound}
 use Rattle.theory_calls.proofs.Changed.{tree-grown}
-use Rattle.theory_calls.proofs.Cut.{StoreCut, Room, AfterCut, cut-kept, needs, sumTo, records-counted, entries-counted, ids-counted}
+use Rattle.theory_calls.proofs.Cut.{StoreCut, Room, AfterCut, cut-kept, needs, records-counted, entries-counted, ids-counted}
 
 module _ (st : State) (hs : List ℕ) (n : ℕ) (e : Seg) (h : Parts st) (ends : EndsAt (st .tree) hs n e) (more : n < length hs) (short : length hs ≤ maxHashes)
     (words : st .tree .used + (length hs - n) ≤ maxWords) where

@@ -9,3 +9,4 @@ pub mod Stores
 pub mod Insert
 pub mod Calls
 pub mod Fits
+pub mod Blocks

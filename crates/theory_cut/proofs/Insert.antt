@@ -2,25 +2,23 @@
 -- and after a cut its one child begins with a hash that differs from it. So the tree and each store stay sound. Assumes nothing.
 use Prim.Native.Nat.{ℕ, zero, suc, _+_, _-_, _≤_, _<_}
 use mathlib.Core.Path.{_≡_, refl, sym, ap, _∙_}
-use mathlib.Core.Bool.{Bool, true, false}
+use mathlib.Core.Bool.{true}
 use mathlib.Core.List.{List}
 use native.Mathlib.Omega.{arith}
 use native.Mathlib.Nat.{add-zero}
 use lib.ListN.{length, drop, length-drop}
 use lib.Seq.{getD-drop}
-use borrow.Author.Tests.{ltb-true, ltb-false}
-use Rattle.model.specs.Sizes.{maxNodes, maxWords, maxHashes, storeRecords, storePins}
+use borrow.Author.Tests.{ltb-true}
+use Rattle.model.specs.Sizes.{maxNodes, maxWords, maxHashes}
 use Rattle.model.specs.State.{Tree, State, at, endOf, storesOf}
 use Rattle.model.specs.Sound.{DepthsAdd}
 use Rattle.model.specs.Tree.{Seg, hashAt, resolve, blocks}
-use Rattle.model.specs.Store.{Store, plus}
-use Rattle.model.specs.Insert.{nextNode, rangesAcross, pinsAcross, cutStore, cutTree, addLeaf, lastSeg, matchEnd, adds, endsInside, withTree, cutStoreIn, cutStores, cut, cutFirst, grow, insertPath}
-use Rattle.model.specs.Refusals.{nodeNeed, newBlocks}
+use Rattle.model.specs.Store.{Store}
+use Rattle.model.specs.Insert.{nextNode, cutTree, addLeaf, lastSeg, matchEnd, adds, withTree, cutStoreIn, cutStores, cut}
 use Rattle.theory_sound.specs.StoreSound.{TreeSound, StoreSound}
 use Rattle.theory_resolve.proofs.Walked.{Enters, Walked, ends, part, whole, resolve-walked}
 use Rattle.theory_cut.proofs.Facts.{each-more}
 use Rattle.theory_cut.proofs.CutTree.{CutTo, cut-to, cutTree-sound, head-end, only-child}
-use Rattle.theory_cut.proofs.CutStore.{cutStore-sound}
 use Rattle.theory_cut.proofs.Leaf.{NoChild, leaf-sound, leaf-store}
 
 -- ---- the match's end
@@ -111,17 +109,7 @@ module _ {t : Tree} {hs : List ℕ} {n : ℕ} {e : Seg} (s : TreeSound t) (a : E
         (omega (arith, was-cut .used))
         (rw (rest-first hs n) (cut-no-child s (i .0) (a .inUse) (i .1) inside was-cut (i .2)))
 
-    pub store-cut : {next : ℕ} {x : Store} → StoreSound t next x
-        → length (x .ranges) + rangesAcross (e .node) (e .len) (x .ranges) ≤ storeRecords
-        → length (x .pins) + pinsAcross (e .node) (e .len) (x .pins) ≤ storePins
-        → StoreSound (addLeaf (e .node) n (drop n hs) (cutTree (e .node) (e .len) t)) (next + rangesAcross (e .node) (e .len) (x .ranges))
-        (cutStore (e .node) (e .len) (nextNode t) next x)
-    store-cut h few fewPins =
-        leaf-store (e .node) n (drop n hs) (cutTree (e .node) (e .len) t) cut-tree-sound (omega (arith, was-cut .nodes))
-        (omega (arith, was-cut .used, rest-length hs n more))
-        (cutStore-sound (e .node) (e .len) t s (a .inNode inside .0) (a .inUse) (omega arith) h few fewPins)
-
--- ---- the tree of an insert: the hypotheses are that the refusals 3, 6 and 7 do not hold
+-- ---- the tree that a cut leaves
 
 cut-store-tree : (j k m s : ℕ) (st : State) → cutStoreIn j k m s st .tree ≡ st .tree
 unfolding cutStoreIn
@@ -135,27 +123,3 @@ cut-stores-tree j k m s (suc n) st = cut-stores-tree j k m (suc s) n (cutStoreIn
 pub cut-tree : (j k : ℕ) (st : State) → cut j k st .tree ≡ cutTree j k (st .tree)
 unfolding cut
 cut-tree j k st = cut-stores-tree j k (nextNode (st .tree)) 0 (storesOf st) (withTree (cutTree j k (st .tree)) st)
-
-pub insert-tree : (st : State) (hs : List ℕ) → TreeSound (st .tree) → length hs ≤ maxHashes → st .tree .nodes + nodeNeed st hs ≤ maxNodes
-    → st .tree .used + newBlocks st hs ≤ maxWords → TreeSound (insertPath hs (resolve (st .tree) hs) st .state .tree)
-unfolding insertPath nodeNeed newBlocks
-insert-tree st hs s short nodes words = go (adds hs (resolve (st .tree) hs)) refl nodes
-  where
-    t : Tree
-    t = st .tree
-
-    path : List Seg
-    path = resolve (st .tree) hs
-
-    inside : (b : Bool) → endsInside t path ≡ b → adds hs path ≡ true → t .nodes + plus b 1 ≤ maxNodes → TreeSound (cutFirst b hs path st .state .tree)
-    inside true e f n =
-        rw cut-tree (leaf-cut s (match-end t s hs f) (ltb-true _ _ f) short words (ltb-true _ _ e) (omega arith))
-    inside false e f n =
-        let a = match-end t s hs f in
-        let past : at (t .len) (matchEnd path .node) ≤ matchEnd path .len = ltb-false _ _ e in
-        leaf-here s a (ltb-true _ _ f) short words (omega (arith, a .within)) (omega arith)
-
-    go : (b : Bool) → adds hs path ≡ b → t .nodes + (elim b as (λ z. ℕ) [ true ↦ plus (endsInside t path) 1 | false ↦ 0 ]) ≤ maxNodes
-        → TreeSound (grow b hs path st .state .tree)
-    go true e n = inside (endsInside t path) refl e n
-    go false e n = s

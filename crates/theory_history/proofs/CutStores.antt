@@ -5,7 +5,7 @@ use mathlib.Core.List.{_++_}
 use native.Mathlib.Omega.{arith}
 use native.Mathlib.Nat.{le-refl, le-of-eq, zero-add}
 use native.Mathlib.Decide.{ℕ-discrete}
-use Rattle.model.specs.Words.{Each}
+use Rattle.model.specs.Words.{Each, sumTo}
 use Rattle.model.specs.Sizes.{maxNodes, maxStamp, storeRecords, storePins}
 use Rattle.model.specs.State.{Tree, State, at, storesOf, nextIdOf, recordsOf, entriesOf}
 use Rattle.model.specs.Store.{Store, storeOf}
@@ -16,7 +16,7 @@ use Rattle.theory_sound.specs.StoreSound.{TreeSound, StoreSound, Parts}
 use Rattle.theory_cut.proofs.CutTree.{cutTree-sound}
 use Rattle.theory_cut.proofs.CutStore.{cut-last, below-nodes, cutStore-ids, cutStore-length, cutStore-pins, cutStore-sound}
 use Rattle.theory_calls.proofs.Laid.{Laid}
-use Rattle.theory_calls.proofs.Cut.{Room, StoreCut, needs, sumTo, Cutting, first-turn, cutIn-is, laid, next-turn, inUse}
+use Rattle.theory_calls.proofs.Cut.{Room, StoreCut, needs, Cutting, first-turn, cutIn-is, laid, next-turn, inUse}
 
 -- the ranges of store q are those it had, cut; new ids begin somewhere
 pub record WasCut (j k m : ℕ) (st₀ : State) (q : ℕ) (st : State) : Type 0 where

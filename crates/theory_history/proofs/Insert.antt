@@ -8,7 +8,7 @@ use native.Mathlib.Omega.{arith}
 use native.Mathlib.Decide.{ℕ-discrete}
 use lib.ListN.{length, drop, length-drop}
 use borrow.Author.Tests.{ltb-true, ltb-false}
-use Rattle.model.specs.Words.{Each}
+use Rattle.model.specs.Words.{Each, sumTo}
 use Rattle.model.specs.Sizes.{maxNodes, maxWords, maxHashes, maxStamp, storeRecords, storePins}
 use Rattle.model.specs.State.{Tree, State, at, storesOf, nextIdOf, recordsOf, entriesOf, bookIn}
 use Rattle.model.specs.Sound.{Sound}
@@ -25,7 +25,7 @@ use Rattle.theory_cut.proofs.CutTree.{CutTo, cut-to, cutTree-sound}
 use Rattle.theory_cut.proofs.Leaf.{leaf-to}
 use Rattle.theory_cut.proofs.Insert.{match-end, leaf-here, leaf-cut, cut-tree}
 use Rattle.theory_calls.proofs.Parts.{sound-parts}
-use Rattle.theory_calls.proofs.Cut.{needs, sumTo, records-counted, entries-counted, ids-counted}
+use Rattle.theory_calls.proofs.Cut.{needs, records-counted, entries-counted, ids-counted}
 use Rattle.theory_calls.proofs.Accepted.{NoneHolds, each-fits, none-where}
 use Rattle.theory_calls.proofs.Insert.{after-cut}
 use Rattle.model.specs.Blocks.{Holds}

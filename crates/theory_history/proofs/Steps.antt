@@ -19,6 +19,7 @@ use Rattle.model.specs.Sizes.{storeRecords, maxStamp}
 use Rattle.model.specs.State.{State, Range, Pin, at, storesOf, nextIdOf, stallsOf, recordsOf, stampOf}
 use Rattle.model.specs.Sound.{Sound, Finite}
 use Rattle.model.specs.Store.{Store, ranges, storeOf, layBook, layNext, withRanges, withPins, withNext}
+use Rattle.model.specs.Bring.{bringBlocks}
 use Rattle.model.specs.Remove.{Removed}
 use Rattle.model.specs.Expire.{Expired, expire}
 use Rattle.model.specs.Pins.{pinOf, addPin, takePin, repinned, pin, pinNeed, unpin}
@@ -123,7 +124,7 @@ module _ (a : State) (l : OutList) (s : ℕ) (sp : Span) (time : Float) (write :
       record {
         state = bringIn a s sp time write;
         lists = layOuts (brought a s sp time write .outs) l;
-        answer = done (record { outs = length (brought a s sp time write .outs) });
+        answer = done (record { outs = length (brought a s sp time write .outs); blocks = bringBlocks (storeOf a s) sp });
       }
 
   module _ (e : n₀ ≡ 0) where
@@ -189,7 +190,7 @@ module _ (a : State) (l : List ℕ) (s : ℕ) (sp : Span) (h : History) (sound :
   removed = withNext (nextIdOf a + w .need) (stallsOf a) (withRanges s (w .need) (w .store) a)
 
   unmade : Outcome (List ℕ) RemoveAnswer
-  unmade = record { state = removed; lists = front (w .writes) l; answer = done (record { writes = length (w .writes) }) }
+  unmade = record { state = removed; lists = front (w .writes) l; answer = done (record { writes = length (w .writes); blocks = w .blocks }) }
 
   -- what an accepted removal asks of the state
   removable : NoneHolds (storeRemoveRefusals a l s sp)

@@ -3,16 +3,9 @@
 use Prim.Native.Nat.{ℕ}
 use mathlib.Core.Path.{_≡_, refl, sym, ap, _∙_}
 use mathlib.Core.List.{List}
-use Rattle.model.specs.declared.ResolveAnswer.{ResolveAnswer}
-use Rattle.model.specs.declared.InsertAnswer.{InsertAnswer}
-use Rattle.model.specs.declared.BringAnswer.{BringAnswer}
-use Rattle.model.specs.declared.TouchAnswer.{TouchAnswer}
-use Rattle.model.specs.declared.RemoveAnswer.{RemoveAnswer}
-use Rattle.model.specs.declared.ExpireAnswer.{ExpireAnswer}
-use Rattle.model.specs.declared.LookupAnswer.{LookupAnswer}
 use Rattle.model.specs.State.{State}
 use Rattle.model.specs.Refusals.{Condition}
-use Rattle.model.specs.Calls.{Outcome, Answer, refused, done, NoValue}
+use Rattle.model.specs.Calls.{Outcome, Answer, refused, done}
 use Rattle.theory_refuse.specs.Refused.{KeptWhenRefused}
 use Rattle.shape_answer.specs.declared.Plain.{Plain}
 use Rattle.shape_answer.specs.declared.Plain.the-variants as PlainIs
@@ -70,105 +63,73 @@ abbrev Apart : {A B : Type 0} → (B → Answer A) → Type 0
 Apart {A} {B} f = (a b : B) → f a ≡ f b → a ≡ b
 
 -- an answer that is read back from its number and values
-apart : {A B : Type 0} (f : B → Answer A) (back : Answer A → B) → ((b : B) → back (f b) ≡ b) → Apart f
-apart f back same a b e = sym (same a) ∙ ap back e ∙ same b
+abbrev back : {A B : Type 0} → (ℕ → B) → (A → B) → Answer A → B
+back refuse give (refused n) = refuse n
+back refuse give (done v) = give v
+
+apart : {A B : Type 0} (f : B → Answer A) (refuse : ℕ → B) (give : A → B) → ((b : B) → back refuse give (f b) ≡ b) → Apart f
+apart f refuse give same a b e = sym (same a) ∙ ap (back refuse give) e ∙ same b
 
 pub plain-one : Apart plainOf
-plain-one = apart plainOf back same
+plain-one = apart plainOf PlainIs.Refused (λ v. PlainIs.Done) same
   where
-    back : Answer NoValue → Plain
-    back (refused n) = PlainIs.Refused n
-    back (done v) = PlainIs.Done
-
-    same : (r : Plain) → back (plainOf r) ≡ r
+    same : (r : Plain) → back PlainIs.Refused (λ v. PlainIs.Done) (plainOf r) ≡ r
     same (PlainIs.Refused n) = refl
     same PlainIs.Done = refl
 
 pub count-one : Apart countOf
-count-one = apart countOf back same
+count-one = apart countOf CountIs.Refused CountIs.Done same
   where
-    back : Answer ℕ → Count
-    back (refused n) = CountIs.Refused n
-    back (done v) = CountIs.Done v
-
-    same : (r : Count) → back (countOf r) ≡ r
+    same : (r : Count) → back CountIs.Refused CountIs.Done (countOf r) ≡ r
     same (CountIs.Refused n) = refl
     same (CountIs.Done v) = refl
 
 pub resolved-one : Apart resolvedOf
-resolved-one = apart resolvedOf back same
+resolved-one = apart resolvedOf ResolvedIs.Refused ResolvedIs.Done same
   where
-    back : Answer ResolveAnswer → Resolved
-    back (refused n) = ResolvedIs.Refused n
-    back (done v) = ResolvedIs.Done v
-
-    same : (r : Resolved) → back (resolvedOf r) ≡ r
+    same : (r : Resolved) → back ResolvedIs.Refused ResolvedIs.Done (resolvedOf r) ≡ r
     same (ResolvedIs.Refused n) = refl
     same (ResolvedIs.Done v) = refl
 
 pub inserted-one : Apart insertedOf
-inserted-one = apart insertedOf back same
+inserted-one = apart insertedOf InsertedIs.Refused InsertedIs.Done same
   where
-    back : Answer InsertAnswer → Inserted
-    back (refused n) = InsertedIs.Refused n
-    back (done v) = InsertedIs.Done v
-
-    same : (r : Inserted) → back (insertedOf r) ≡ r
+    same : (r : Inserted) → back InsertedIs.Refused InsertedIs.Done (insertedOf r) ≡ r
     same (InsertedIs.Refused n) = refl
     same (InsertedIs.Done v) = refl
 
 pub storeInserted-one : Apart storeInsertedOf
-storeInserted-one = apart storeInsertedOf back same
+storeInserted-one = apart storeInsertedOf StoreInsertedIs.Refused StoreInsertedIs.Done same
   where
-    back : Answer BringAnswer → StoreInserted
-    back (refused n) = StoreInsertedIs.Refused n
-    back (done v) = StoreInsertedIs.Done v
-
-    same : (r : StoreInserted) → back (storeInsertedOf r) ≡ r
+    same : (r : StoreInserted) → back StoreInsertedIs.Refused StoreInsertedIs.Done (storeInsertedOf r) ≡ r
     same (StoreInsertedIs.Refused n) = refl
     same (StoreInsertedIs.Done v) = refl
 
 pub storeUsed-one : Apart storeUsedOf
-storeUsed-one = apart storeUsedOf back same
+storeUsed-one = apart storeUsedOf StoreUsedIs.Refused StoreUsedIs.Done same
   where
-    back : Answer TouchAnswer → StoreUsed
-    back (refused n) = StoreUsedIs.Refused n
-    back (done v) = StoreUsedIs.Done v
-
-    same : (r : StoreUsed) → back (storeUsedOf r) ≡ r
+    same : (r : StoreUsed) → back StoreUsedIs.Refused StoreUsedIs.Done (storeUsedOf r) ≡ r
     same (StoreUsedIs.Refused n) = refl
     same (StoreUsedIs.Done v) = refl
 
 pub storeRemoved-one : Apart storeRemovedOf
-storeRemoved-one = apart storeRemovedOf back same
+storeRemoved-one = apart storeRemovedOf StoreRemovedIs.Refused StoreRemovedIs.Done same
   where
-    back : Answer RemoveAnswer → StoreRemoved
-    back (refused n) = StoreRemovedIs.Refused n
-    back (done v) = StoreRemovedIs.Done v
-
-    same : (r : StoreRemoved) → back (storeRemovedOf r) ≡ r
+    same : (r : StoreRemoved) → back StoreRemovedIs.Refused StoreRemovedIs.Done (storeRemovedOf r) ≡ r
     same (StoreRemovedIs.Refused n) = refl
     same (StoreRemovedIs.Done v) = refl
 
 pub storeExpired-one : Apart storeExpiredOf
-storeExpired-one = apart storeExpiredOf back same
+storeExpired-one = apart storeExpiredOf StoreExpiredIs.Refused StoreExpiredIs.Done same
   where
-    back : Answer ExpireAnswer → StoreExpired
-    back (refused n) = StoreExpiredIs.Refused n
-    back (done v) = StoreExpiredIs.Done v
-
-    same : (r : StoreExpired) → back (storeExpiredOf r) ≡ r
+    same : (r : StoreExpired) → back StoreExpiredIs.Refused StoreExpiredIs.Done (storeExpiredOf r) ≡ r
     same (StoreExpiredIs.Refused n) = refl
     same (StoreExpiredIs.Done v) = refl
 
 pub looked-one : Apart lookedOf
-looked-one = apart lookedOf back same
+looked-one = apart lookedOf LookedIs.Refused LookedIs.Done same
   where
-    back : Answer LookupAnswer → Looked
-    back (refused n) = LookedIs.Refused n
-    back (done v) = LookedIs.Done v
-
-    same : (r : Looked) → back (lookedOf r) ≡ r
+    same : (r : Looked) → back LookedIs.Refused LookedIs.Done (lookedOf r) ≡ r
     same (LookedIs.Refused n) = refl
     same (LookedIs.Done a) = refl
 

@@ -14,7 +14,7 @@ use Rattle.theory_refuse.specs.Refused.{SomeHolds, KeptWhenRefused}
 use Rattle.theory_refuse.proofs.Refusals.{first-says, setUp-exact, resolve-exact, insert-exact, storeInsert-exact, storeUsed-exact, storeRemove-exact, storeExpire-exact, pin-exact, unpin-exact, lookup-exact, count-exact, storeCount-exact}
 
 -- no condition has the number 0, which says that none holds
-abbrev Numbered : List Condition → Type 0
+abbrev pub Numbered : List Condition → Type 0
 Numbered [] = Unit {0}
 Numbered (c ∷ cs) = (1 ≤ c .number) × Numbered cs
 
@@ -29,7 +29,7 @@ some-holds (c ∷ cs) n (inl f) = inl (f .0)
 some-holds (c ∷ cs) n (inr f) = inr (some-holds cs n (f .1))
 
 -- whatever the call does where it is not refused
-unless-kept : {L A : Type 0} {cs : List Condition} {st : State} {l : L} → Exact cs → Numbered cs → (st′ : State) (l′ : L) (v : A)
+pub unless-kept : {L A : Type 0} {cs : List Condition} {st : State} {l : L} → Exact cs → Numbered cs → (st′ : State) (l′ : L) (v : A)
     → KeptWhenRefused cs st l (unless (firstOf cs) st l (record { state = st′; lists = l′; answer = done v }))
 unless-kept {L} {A} {cs} {st} {l} e m st′ l′ v = go (firstOf cs) refl (first-says cs e)
   where

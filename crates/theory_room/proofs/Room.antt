@@ -19,7 +19,7 @@ use Rattle.model.specs.SoundTest.{sound}
 use Rattle.model.specs.Tree.{Seg, resolve}
 use Rattle.model.specs.Store.{Store, ranges, pins, storeOf, layBook}
 use Rattle.model.specs.Trim.{trim}
-use Rattle.model.specs.Bring.{gaps, fill, keep, bring, bringNeed}
+use Rattle.model.specs.Bring.{gaps, fill, keep, bring, bringNeed, bringBlocks}
 use Rattle.model.specs.Refusals.{firstOf, OutList, storeInsertRefusals, lookupRefusals}
 use Rattle.model.specs.Calls.{done, unless, brought, bringIn, storeInsert, LookupLists, lookup, pathOf, layPath, layTiers}
 use Rattle.model.specs.Lookup.{lookupPath, tierSums, spanBlocks, spanBytes, eachTier}
@@ -261,7 +261,7 @@ module _ (a : State) (s D : ℕ) (l : OutList) (sp : Span) (time : Float) (write
     brings-a = brings a l s sp time write v ha e
 
     abbrev told : BringAnswer
-    told = record { outs = length (brought c s sp time write .outs) }
+    told = record { outs = length (brought c s sp time write .outs); blocks = bringBlocks (storeOf c s) sp }
 
     second : storeInsert c l s sp time write .answer ≡ done told
     unfolding storeInsert

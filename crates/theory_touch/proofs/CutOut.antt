@@ -1,5 +1,6 @@
--- A removal leaves of each range the pieces outside the span, in order; so of the blocks held it leaves those that aren't in the span. Assumes nothing.
-use Prim.Native.Nat.{ℕ, zero, suc, _+_, _≤_, _<_}
+-- A removal leaves of each range the pieces outside the span, in order; so of the blocks held it leaves those that aren't in the span, and
+-- those that stay and those that go are all that there were. Assumes nothing.
+use Prim.Native.Nat.{ℕ, zero, suc, _+_, _-_, _≤_, _<_, min, max}
 use mathlib.Core.Bool.{Bool, true, false, _&&_, true≢false, false≢true}
 use mathlib.Core.Path.{_≡_, refl, sym, _∙_}
 use mathlib.Core.Logic.{_⊎_, inl, inr, ⊎-elim, _↔_}
@@ -9,18 +10,18 @@ use native.Mathlib.Nat.{le-refl}
 use native.Mathlib.Decide.{decLe}
 use lib.ListN.{length}
 use lib.Dec.{ltb}
-use borrow.Author.Tests.{ltb-true, lt-ltb}
+use borrow.Author.Tests.{ltb-true, ltb-false, lt-ltb}
 use Rattle.model.specs.declared.Span.{Span}
 use Rattle.model.specs.State.{Range}
 use Rattle.model.specs.Sound.{Before}
-use Rattle.model.specs.Store.{lengthOf, total, meets, part, put, plus}
+use Rattle.model.specs.Store.{total, meets, part, put, plus}
 use Rattle.model.specs.Touch.{overlapped, hasHead, hasTail}
-use Rattle.model.specs.Remove.{middleCut, tailId, remains, cutOut, middleCuts, listed, writes}
+use Rattle.model.specs.Remove.{middleCut, tailId, remains, cutOut, middleCuts, listed, writes, goneBlocks}
 use Rattle.theory_sound.specs.Facts.{All, InOrder, Sorted}
 use Rattle.theory_bring.proofs.Facts.{all-map}
 use Rattle.theory_touch.proofs.Bools.{and-true, and-false, and-right}
 use Rattle.model.specs.Blocks.{Filled, In, Holds, InSpan}
-use Rattle.theory_touch.proofs.Holds.{holds-append, total-append}
+use Rattle.theory_touch.proofs.Holds.{holds-append}
 use Rattle.theory_touch.proofs.Pieces.{Within, Pieces, Parted, none, more, Named, Cut, stop, cut}
 use Rattle.theory_touch.proofs.Recut.{Met, met, met-true, cut-to}
 
@@ -51,7 +52,6 @@ module _ (sp : Span) where
     pub pieces : Pieces r ps
     pub timed : All (Told r) ps
     pub holds : (n o : ℕ) → Holds ps n o ↔ (In n o r × (InSpan sp n o → ⊥))
-    pub less : total ps ≤ lengthOf r
 
   missed : (r : Range) → r .start < r .end → meets (sp .node) (sp .start) (sp .end) r ≡ false → Left r (r ∷ [])
   unfolding All InOrder Holds total
@@ -67,7 +67,6 @@ module _ (sp : Span) where
           )) (λ x. absurd x),
           λ x. inl (x .0),
         );
-        less = omega arith;
       }
 
   module _ (r : Range) (i : ℕ) where
@@ -76,13 +75,6 @@ module _ (sp : Span) where
 
     abbrev tail : Range
     tail = part r (r .node) (sp .end) (r .end) i
-
-    less-than : (h g : Bool) → sp .start < sp .end → Met (sp .node) (sp .start) (sp .end) r → total (put h head (put g tail [])) ≤ lengthOf r
-    unfolding total
-    less-than true true az m = omega arith
-    less-than true false az m = omega arith
-    less-than false true az m = omega arith
-    less-than false false az m = omega arith
 
     hit : (h g : Bool) → sp .start < sp .end → Filled r → Met (sp .node) (sp .start) (sp .end) r → ltb (r .start) (sp .start) ≡ h → ltb (sp .end) (r .end) ≡ g
         → Left r (put h head (put g tail []))
@@ -114,7 +106,6 @@ module _ (sp : Span) where
                   | no l ↦ a .1 (inl (sym p ∙ lt-ltb (r .start) (sp .start) (omega arith), record { node = x .0 .node; low = x .0 .low; high = omega arith }))
                 ],
               );
-          less = less-than h g az m;
         }
 
   pub out-cut : sp .start < sp .end → (rs : List Range) (next : ℕ) → All Filled rs
@@ -167,10 +158,45 @@ module _ (sp : Span) where
         λ x. ⊎-elim (λ y. a .1 (inl (b .1 (y, x .1)))) (λ y. a .1 (inr (c .1 (y, x .1)))) (x .0),
       )
 
-  pub out-total : {rs qs : List Range} → Parted Left rs qs → total qs ≤ total rs
-  unfolding total
-  out-total none = omega arith
-  out-total (more {ps = ps} {qs = qs} f h) = rw total-append (omega (arith, f .less, out-total h))
+-- ---- the blocks that stay and those that go
+
+-- a number where a test holds
+abbrev plusIf : Bool → ℕ → ℕ
+plusIf true k = k
+plusIf false k = 0
+
+piece-sum : (s e a z : ℕ) (h g : Bool) (x k t : ℕ) → s < e → a < z → s < z → a < e → ltb s a ≡ h → ltb z e ≡ g → x + k ≡ t
+    → plusIf h (a - s) + (plusIf g (e - z) + x) + ((min z e - max a s) + k) ≡ (e - s) + t
+piece-sum s e a z true true x k t f az p q u v ih = let l = ltb-true s a u in let m = ltb-true z e v in omega arith
+piece-sum s e a z true false x k t f az p q u v ih = let l = ltb-true s a u in let m = ltb-false z e v in omega arith
+piece-sum s e a z false true x k t f az p q u v ih = let l = ltb-false s a u in let m = ltb-true z e v in omega arith
+piece-sum s e a z false false x k t f az p q u v ih = let l = ltb-false s a u in let m = ltb-false z e v in omega arith
+
+put-total : (h : Bool) (p : Range) (rs : List Range) → total (put h p rs) ≡ plusIf h (p .end - p .start) + total rs
+unfolding total
+put-total true p rs = refl
+put-total false p rs = omega arith
+
+pub out-total : (v a z : ℕ) → a < z → (rs : List Range) → All Filled rs → (next : ℕ)
+    → total (cutOut v a z next rs) + goneBlocks a z (overlapped v a z rs) ≡ total rs
+unfolding cutOut overlapped total goneBlocks All
+out-total v a z az [] k next = refl
+out-total v a z az (r ∷ rs) k next = go (meets v a z r) refl (λ i. out-total v a z az rs (k .1) i)
+  where
+    go : (b : Bool) → meets v a z r ≡ b → ((i : ℕ) → total (cutOut v a z i rs) + goneBlocks a z (overlapped v a z rs) ≡ total rs)
+        → total (remains b v a z next r (cutOut v a z (plus (middleCut v a z r) next) rs)) + goneBlocks a z (put b r (overlapped v a z rs))
+        ≡ (r .end - r .start) + total rs
+    go false e ih = omega (arith, ih (plus (middleCut v a z r) next))
+    go true e ih =
+        let m = met v a z r e in
+        let i = plus (middleCut v a z r) next in
+        let head = part r (r .node) (r .start) a (r .id) in
+        let tail = part r (r .node) z (r .end) (tailId (middleCut v a z r) next r) in
+        let p = put-total (hasHead v a z r) head (put (hasTail v a z r) tail (cutOut v a z i rs)) in
+        let q = put-total (hasTail v a z r) tail (cutOut v a z i rs) in
+        let w = piece-sum (r .start) (r .end) a z (hasHead v a z r) (hasTail v a z r) (total (cutOut v a z i rs)) (goneBlocks a z (overlapped v a z rs))
+        (total rs) (k .0) az (m .left) (m .right) (and-right (meets v a z r) _ _ e refl) (and-right (meets v a z r) _ _ e refl) (ih i) in
+        omega (arith, p, q, w)
 
 -- a span that overlaps nothing has no block that is held
 pub no-hit : (sp : Span) (rs : List Range) → overlapped (sp .node) (sp .start) (sp .end) rs ≡ [] → (n o : ℕ) → Holds rs n o → InSpan sp n o → ⊥

@@ -1,4 +1,5 @@
--- A removal keeps the store sound; its ids are old or new ones, and of the blocks it leaves those that aren't in the span. Assumes nothing.
+-- A removal keeps the store sound; its ids are old or new ones, and of the blocks it leaves those that aren't in the span. Those that stay and the
+-- number that it answers are all that were held. Assumes nothing.
 use Prim.Native.Nat.{ℕ, _+_, _≤_}
 use mathlib.Core.Path.{_≡_, refl, sym}
 use mathlib.Core.Logic.{_↔_}
@@ -12,7 +13,7 @@ use Rattle.model.specs.State.{Tree, Range}
 use Rattle.model.specs.Sound.{StampBetween, Finite}
 use Rattle.model.specs.Store.{Store, total}
 use Rattle.model.specs.Touch.{overlapped}
-use Rattle.model.specs.Remove.{cutOut, writes, Removed, removeHits, remove}
+use Rattle.model.specs.Remove.{cutOut, writes, versionPast, Removed, removeHits, remove}
 use Rattle.model.specs.Refusals.{SpanIn}
 use Rattle.theory_sound.specs.Facts.{All, IdsFrom}
 use Rattle.theory_sound.specs.StoreSound.{RangesSound, MarksSound, StoreSound}
@@ -27,7 +28,7 @@ use Rattle.theory_touch.proofs.CutOut.{Told, out-cut, out-holds, out-to
 record Freed (t : Tree) (next : ℕ) (x : Store) (sp : Span) (w : Removed) : Type 0 where
   counted : w .store .book .records ≡ length (w .store .ranges)
   held : w .store .book .held ≡ total (w .store .ranges)
-  less : w .store .book .held ≤ x .book .held
+  blocks : w .store .book .held + w .blocks ≡ x .book .held
   ranges : RangesSound t (next + w .need) (x .book .stamp) (w .store .ranges)
   marks : MarksSound t (w .store .ranges) (w .store .marks)
   ids : IdsFrom (x .ranges) next (w .store .ranges)
@@ -52,7 +53,7 @@ module _ {t : Tree} {next : ℕ} {x : Store} {sp : Span} (h : StoreSound t next 
           record {
             counted = h .records;
             held = h .held;
-            less = le-refl (x .book .held);
+            blocks = omega arith;
             ranges = ranges-later (omega arith) (le-refl (x .book .stamp)) (h .ranges);
             marks = h .marks;
             ids = ids-same next rs;
@@ -68,7 +69,7 @@ module _ {t : Tree} {next : ℕ} {x : Store} {sp : Span} (h : StoreSound t next 
           record {
             counted = refl;
             held = refl;
-            less = omega (arith, out-total sp p, h .held);
+            blocks = omega (arith, rw e at (out-total (sp .node) (sp .start) (sp .end) (s .filled) rs filled next), h .held);
             ranges = record {
               sorted = parted-sorted (λ r ps f. f .pieces) p (h .ranges .sorted);
               inside = parted-inside (λ r ps f. f .pieces) t p (h .ranges .inside);
@@ -109,13 +110,23 @@ module _ (x : Store) (next : ℕ) (sp : Span) where
       go [] = refl
       go (r ∷ hits) = refl
 
+  -- "The version rises by 1 if a block went"
+  pub remove-version : w .store .book .version ≡ versionPast (w .blocks) (x .book .version)
+  unfolding remove
+  remove-version = go (overlapped (sp .node) (sp .start) (sp .end) (x .ranges))
+    where
+      go : (hits : List Range) → removeHits hits x next sp .store .book .version ≡ versionPast (removeHits hits x next sp .blocks) (x .book .version)
+      go [] = refl
+      go (r ∷ hits) = refl
+
   module _ {t : Tree} (h : StoreSound t next x) (s : SpanIn t sp) (l : 1 ≤ next) where
     -- a block is held afterwards exactly if it was held before and isn't in the span
     pub remove-holds : (n o : ℕ) → Holds (w .store .ranges) n o ↔ (Holds (x .ranges) n o × (InSpan sp n o → ⊥))
     remove-holds = freed h s l .holds
 
-    pub remove-held : w .store .book .held ≤ x .book .held
-    remove-held = freed h s l .less
+    -- what is held before is what is held after and the blocks that went
+    pub remove-blocks : w .store .book .held + w .blocks ≡ x .book .held
+    remove-blocks = freed h s l .blocks
 
     pub remove-ids : IdsFrom (x .ranges) next (w .store .ranges)
     remove-ids = freed h s l .ids
@@ -133,4 +144,4 @@ module _ (x : Store) (next : ℕ) (sp : Span) where
     pub remove-sound : length (x .ranges) + w .need ≤ storeRecords → StoreSound t (next + w .need) (w .store)
     remove-sound a =
         let k = freed h s l in
-        steady-sound h remove-steady (k .counted) (le-trans (k .few) a) (rw remove-stamp (h .stamp)) (rw remove-stamp (k .ranges)) (k .held) (k .less) (k .marks)
+        steady-sound h remove-steady (k .counted) (le-trans (k .few) a) (rw remove-stamp (h .stamp)) (rw remove-stamp (k .ranges)) (k .held) (omega (arith, k .blocks)) (k .marks)

@@ -17,14 +17,17 @@ use Rattle.theory_wrong.specs.Rejected.{given, Rejected, Refusal, refuse
 pub done-refused : {A : Type 0} (v : A) (n : ℕ) → done v ≡ refused n → ⊥
 done-refused v n q = let z : _≡_ {A = ℕ} 0 1 = cc in omega arith
 
--- the number of a refusal
-numberOf : {A : Type 0} → Answer A → ℕ
+-- the number of a refusal, 0 where it is none
+abbrev pub numberOf : {A : Type 0} → Answer A → ℕ
 numberOf (refused n) = n
 numberOf (done v) = 0
 
 same-number : {A : Type 0} {n m : ℕ} → _≡_ {A = Answer A} (refused n) (refused m) → n ≡ m
-unfolding numberOf
 same-number e = ap numberOf e
+
+of-number : {A : Type 0} (a : Answer A) (n : ℕ) → numberOf a ≡ n → (n ≡ 0 → ⊥) → a ≡ refused n
+of-number (refused m) n e some = ap refused e
+of-number (done v) n e some = absurd (some (sym e))
 
 -- what a done answer gives
 giving : {A : Type 0} → A → Answer A → A
@@ -59,10 +62,15 @@ rejected f o seen slip k e apart =
 
 -- ---- an input that is to be refused
 
--- a call that gives back what it is lent where it is refused, and whose outcome is a refusal
+-- the number that a call is refused with in a state
+abbrev pub numberIn : {L A : Type 0} → Refusal L A → State → ℕ
+numberIn r st = numberOf (r .call st (r .lists) .answer)
+
+-- a call that gives back what it is lent where it is refused, and is refused with its number
 pub refused-right : {L A B : Type 0} (f : B → Answer A) (r : Refusal L A) {cs : State → L → List Condition}
-    → ((st : State) (l : L) → KeptWhenRefused (cs st l) st l (r .call st l)) → refusedBy r .answer ≡ refused (r .number) → RefusedRight f r
-refused-right f r k e =
+    → ((st : State) (l : L) → KeptWhenRefused (cs st l) st l (r .call st l)) → numberIn r (r .state) ≡ r .number → (r .number ≡ 0 → ⊥) → RefusedRight f r
+refused-right f r k is some =
+    let e = of-number (refusedBy r .answer) (r .number) is some in
     record {
       accepting = λ x p v d. done-refused v (r .number) (sym d ∙ ap (λ z. z .answer) p ∙ e);
       misnumbering = λ x p n ne q. ne (same-number (sym q ∙ ap (λ z. z .answer) p ∙ e));
@@ -76,10 +84,14 @@ refused-right f r k e =
 abbrev pub lists : {L A : Type 0} → Listing L A → Outcome L A → List (List ℕ)
 lists r o = (given (r .count) (o .answer) ∷ []) ∷ row (r .columns) (o .lists) 0 ∷ row (r .columns) (o .lists) 1 ∷ []
 
+-- the same of the call in a state
+abbrev pub listsIn : {L A : Type 0} → Listing L A → State → List (List ℕ)
+listsIn r st = lists r (r .call st (r .lists))
+
 -- an outcome of the two entries a and b, which differ in column k
 pub listed-right : {L A B : Type 0} (f : B → Answer A) (r : Listing L A) (k : ℕ) {a b : List ℕ}
     → ((st : State) (l : L) → KeptPast (r .columns) (r .count) l (r .call st l))
-    → r .entries ≡ a ∷ b ∷ [] → lists r (listedBy r) ≡ (2 ∷ []) ∷ a ∷ b ∷ [] → (at a k ≡ at b k → ⊥) → ListedRight f r
+    → r .entries ≡ a ∷ b ∷ [] → listsIn r (r .state) ≡ (2 ∷ []) ∷ a ∷ b ∷ [] → (at a k ≡ at b k → ⊥) → ListedRight f r
 listed-right {L} {A} {B} f r k {a} {b} past es e apart =
     record {
       refusing = λ x p n q. let z : _≡_ {A = ℕ} 0 2 = sym (ap (given (r .count)) q) ∙ said x p in omega arith;

@@ -17,7 +17,7 @@ use Rattle.model.specs.Sizes.{outPlaces}
 use Rattle.model.specs.State.{State}
 use Rattle.model.specs.Refusals.{PathList, OutList}
 use Rattle.model.specs.Calls.{Outcome, NoList, NoValue, LookupLists, setUp, resolveCall, insert, storeInsert, storeUsed, storeRemove, storeExpire, pinSource, unpinSource, lookup, heldCall, capacityCall, pinnedCall, availableCall, versionCall, stallsCall}
-use Rattle.model.specs.Examples.{pools, paths, outs, tierSpans, table, listB, fresh, span, time, one, two, run2, run5, run7, run13}
+use Rattle.model.specs.Examples.{pools, paths, outs, tierSpans, table, listB, fresh, span, time, one, half, two, callPin, run2, run5, run7, run13}
 use Rattle.theory_wrong.specs.Rejected.{Refusal, Listing}
 
 -- ---- inputs that are to be accepted, beside those of the examples
@@ -26,28 +26,55 @@ use Rattle.theory_wrong.specs.Rejected.{Refusal, Listing}
 abbrev pub run0 : Outcome NoList NoValue
 run0 = setUp pools table (4 ∷ 0 ∷ []) (true ∷ false ∷ [])
 
--- E13's pin, and the unpin of the same span after E13
+-- capacity 2, held 0-2: bring 0-4, of which two blocks are held; remove 1-4, of which one is
+abbrev pub runMore : Outcome OutList BringAnswer
+runMore = storeInsert half outs 0 (span 0 4) (time 2) 0
+
+abbrev pub runGone : Outcome (List ℕ) RemoveAnswer
+runGone = storeRemove half (replicate outPlaces 0) 0 (span 1 4)
+
+-- E13's pin, and the unpin of the same span
 abbrev pub runPin : Outcome NoList NoValue
-runPin = pinSource (storeInsert one outs 0 (span 0 2) (time 1) 0 .state) 0 (span 0 4)
+runPin = callPin half
 
-abbrev pub runUnpin : Outcome NoList NoValue
-runUnpin = unpinSource (run13 .state) 0 (span 0 4)
+abbrev pub callUnpin : State → Outcome NoList NoValue
+callUnpin st = unpinSource st 0 (span 0 4)
 
--- the counters of store 0 after E7 and E13
+-- the counters of store 0
+abbrev pub callHeld : State → Outcome NoList ℕ
+callHeld st = heldCall st 0
+
+abbrev pub callCapacity : State → Outcome NoList ℕ
+callCapacity st = capacityCall st 0
+
+abbrev pub callVersion : State → Outcome NoList ℕ
+callVersion st = versionCall st 0
+
+abbrev pub callPinned : State → Outcome NoList ℕ
+callPinned st = pinnedCall st 0
+
+abbrev pub callAvailable : State → Outcome NoList ℕ
+callAvailable st = availableCall st 0
+
+-- after E7
 abbrev pub runHeld : Outcome NoList ℕ
-runHeld = heldCall (run7 .state) 0
+runHeld = callHeld (run7 .state)
 
 abbrev pub runCapacity : Outcome NoList ℕ
-runCapacity = capacityCall (run7 .state) 0
+runCapacity = callCapacity (run7 .state)
 
 abbrev pub runVersion : Outcome NoList ℕ
-runVersion = versionCall (run7 .state) 0
+runVersion = callVersion (run7 .state)
+
+-- after E13
+abbrev pub runUnpin : Outcome NoList NoValue
+runUnpin = callUnpin (run13 .state)
 
 abbrev pub runPinned : Outcome NoList ℕ
-runPinned = pinnedCall (run13 .state) 0
+runPinned = callPinned (run13 .state)
 
 abbrev pub runAvailable : Outcome NoList ℕ
-runAvailable = availableCall (run13 .state) 0
+runAvailable = callAvailable (run13 .state)
 
 abbrev pub runStalls : Outcome NoList ℕ
 runStalls = stallsCall (run13 .state)
@@ -178,8 +205,11 @@ storeInsertListed =
     }
 
 -- capacity 2, held 1-2 with write 5, then 0-1 with write 6
+abbrev pub second : State → State
+second st = storeInsert st outs 0 (span 0 1) (time 2) 6 .state
+
 abbrev pub holdingTwo : State
-holdingTwo = storeInsert holding outs 0 (span 0 1) (time 2) 6 .state
+holdingTwo = second holding
 
 -- both are past their seconds, and go "by stamp and id"
 abbrev pub storeExpireListed : Listing OutList ExpireAnswer

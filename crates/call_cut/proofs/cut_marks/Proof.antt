@@ -11,7 +11,7 @@ returns c ranges same =
     let z = c .before .before .before .before .before .before .before in
     let p = z .pre in
     let k = c .before .before .cut-marks in
-    marks-part (z .args .s) _ _ (z .args .n) (z .args .j) (z .args .k) (z .args .m) ranges (z .args .node .now) (z .args .marks .now) (k .last .0)
+    marks-part (z .args .s) _ _ (z .args .n) (z .args .j) (z .args .k) (z .args .m) ranges (z .args .node .now) (z .args .marks .now) (k .last .1 .0)
     (add-sub-cancel-left (128 * z .args .s) 128) (add-sub-cancel-left (256 * z .args .s) 256) (p .0) (p .1) (p .4) (k .ensures) same
 
 pub cut-marks-spec : {M : Type 1} → statement M

@@ -32,7 +32,7 @@ returns c =
     let new = rangesOf (f .last .0) (f .last .1 .0) (f .last .1 .1 .0) (f .last .1 .1 .1 .0) (f .last .1 .1 .1 .1 .0) (f .last .1 .1 .1 .1 .1 .0) (f .last .1 .1 .1 .1 .1 .1 .0) in
     half-is (a .j) (a .k) (a .m) (a .s) (a .n) (a .next)
     (rangesOf (a .node .now) (a .start .now) (a .end .now) (a .id .now) (a .stamp .now) (a .touched .now) (a .write .now)) (a .marks .now) (z .pre)
-    new (g .last .0) (f .result) (f .ensures .0) (f .ensures .1) (f .ensures .2) (g .ensures new refl)
+    new (g .last .1 .0) (f .result) (f .ensures .0) (f .ensures .1) (f .ensures .2) (g .ensures new refl)
 
 pub cut-range-half-spec : {M : Type 1} → statement M
 cut-range-half-spec =

@@ -1,11 +1,11 @@
 -- `call_cut::cut_ranges` meets its contract: the part is lent on, and what was laid into the part is laid into the pool.
-use Prim.Native.Nat.{_+_, _-_, _*_}
+use Prim.Native.Nat.{_*_}
 use Rattle.model.specs.State.{Ranges}
 use Rattle.shape_state.specs.Lent.{rangesOf}
 use Rattle.pool_part.specs.Parts.{midRanges, backRanges}
 use Rattle.pool_part.proofs.Bounds.{rec-fits, rec-end-fits, rec-fits4, rec-fits8, rec-ends}
+use Rattle.pool_part.proofs.Parts.{part-kept}
 use Rattle.call_cut.proofs.Stores.{asked, given-back, counted}
-use borrow.Rule.Slice.PartMut.{same-len-mid}
 use native.Mathlib.Nat.{le-add-right, add-sub-cancel-left}
 use Rattle.call_cut.proofs.cut_ranges.Statement.{statement}
 use Rattle.call_cut.proofs.cut_ranges.Tie as tie
@@ -24,8 +24,8 @@ part-cut-ranges-end-3 : tie.Need-part-cut-ranges-end-3
 part-cut-ranges-end-3 c = rec-ends (c .before .before .before .before .before .before .before .before .before .pre .0) (c .before .before .before .before .before .before .before .before .before .pre .3 .end)
 
 -- earlier places of the function, by name
-abbrev entry′ : tie.After-cut-ranges-arg3 → tie.Start
-entry′ c = c .before .before .before .before .before .before .before .before .before .before
+abbrev entry : tie.After-cut-ranges-arg3 → tie.Start
+entry c = c .before .before .before .before .before .before .before .before .before .before
 
 abbrev after-cut-ranges : tie.After-slice-known14 → tie.After-cut-ranges
 after-cut-ranges c = c .before .before .before .before .before .before .before .before .before .before .before .before .before .before
@@ -36,51 +36,9 @@ entry-2 c = after-cut-ranges c .before .before .before .before .before .before .
 cut-ranges-requires : tie.Need-cut-ranges-requires
 unfolding midRanges
 cut-ranges-requires c κs =
-    let z = entry′ (c .before .before .before .before) in
+    let z = entry (c .before .before .before .before) in
     let p = z .pre in
     asked (z .args .s) _ (z .args .n) (z .args .j) (z .args .k) (z .args .next) (orig z) (add-sub-cancel-left (128 * z .args .s) 128) (p .0) (p .1) (p .2) (p .3)
-
-same-length : tie.Need-same-length
-same-length c =
-    let z = entry-2 c in
-    let k = after-cut-ranges c .cut-ranges in
-    same-len-mid (128 * z .args .s) ((128 * z .args .s + 128) - 128 * z .args .s) (z .args .node .now) (k .last .0) (k .kept .0)
-
-same-length-2 : tie.Need-same-length-2
-same-length-2 c =
-    let z = entry-2 c in
-    let k = after-cut-ranges c .cut-ranges in
-    same-len-mid (128 * z .args .s) ((128 * z .args .s + 128) - 128 * z .args .s) (z .args .start .now) (k .last .1 .0) (k .kept .1 .0)
-
-same-length-3 : tie.Need-same-length-3
-same-length-3 c =
-    let z = entry-2 c in
-    let k = after-cut-ranges c .cut-ranges in
-    same-len-mid (128 * z .args .s) ((128 * z .args .s + 128) - 128 * z .args .s) (z .args .end .now) (k .last .1 .1 .0) (k .kept .1 .1 .0)
-
-same-length-4 : tie.Need-same-length-4
-same-length-4 c =
-    let z = entry-2 c in
-    let k = after-cut-ranges c .cut-ranges in
-    same-len-mid (128 * z .args .s) ((128 * z .args .s + 128) - 128 * z .args .s) (z .args .id .now) (k .last .1 .1 .1 .0) (k .kept .1 .1 .1 .0)
-
-same-length-5 : tie.Need-same-length-5
-same-length-5 c =
-    let z = entry-2 c in
-    let k = after-cut-ranges c .cut-ranges in
-    same-len-mid (128 * z .args .s) ((128 * z .args .s + 128) - 128 * z .args .s) (z .args .stamp .now) (k .last .1 .1 .1 .1 .0) (k .kept .1 .1 .1 .1 .0)
-
-same-length-6 : tie.Need-same-length-6
-same-length-6 c =
-    let z = entry-2 c in
-    let k = after-cut-ranges c .cut-ranges in
-    same-len-mid (128 * z .args .s) ((128 * z .args .s + 128) - 128 * z .args .s) (z .args .touched .now) (k .last .1 .1 .1 .1 .1 .0) (k .kept .1 .1 .1 .1 .1 .0)
-
-same-length-7 : tie.Need-same-length-7
-same-length-7 c =
-    let z = entry-2 c in
-    let k = after-cut-ranges c .cut-ranges in
-    same-len-mid (128 * z .args .s) ((128 * z .args .s + 128) - 128 * z .args .s) (z .args .write .now) (k .last .1 .1 .1 .1 .1 .1 .0) (k .kept .1 .1 .1 .1 .1 .1 .0)
 
 returns : tie.Need-returns
 unfolding midRanges backRanges
@@ -100,22 +58,19 @@ cut-ranges-spec =
     (tie.spec
     (λ c. rec-fits (c .before .before .before .before .before .before .before .pre .0))
     (λ c. rec-end-fits (c .before .before .before .before .before .before .before .pre .0))
-    (λ c. rec-fits8 (c .before .before .before .before .before .before .before .pre .0))
-    (λ c. le-add-right (128 * c .before .before .before .before .before .before .before .args .s) 128)
-    (λ c. le-add-right (128 * c .before .before .before .before .before .before .before .args .s) 128) part-cut-ranges-end
-    (λ c. rec-fits8 (c .before .before .before .before .before .before .before .before .pre .0))
-    (λ c. le-add-right (128 * c .before .before .before .before .before .before .before .before .args .s) 128)
-    (λ c. le-add-right (128 * c .before .before .before .before .before .before .before .before .args .s) 128) part-cut-ranges-end-2
-    (λ c. rec-fits8 (c .before .before .before .before .before .before .before .before .before .pre .0))
-    (λ c. le-add-right (128 * c .before .before .before .before .before .before .before .before .before .args .s) 128)
-    (λ c. le-add-right (128 * c .before .before .before .before .before .before .before .before .before .args .s) 128) part-cut-ranges-end-3
-    (λ c. rec-fits8 (entry′ c .pre .0)) (λ c. le-add-right (128 * entry′ c .args .s) 128) (λ c. le-add-right (128 * entry′ c .args .s) 128)
-    (λ c. rec-ends (entry′ c .pre .0) (entry′ c .pre .3 .id)) (λ c. rec-fits8 (entry′ (c .before) .pre .0))
-    (λ c. le-add-right (128 * entry′ (c .before) .args .s) 128) (λ c. le-add-right (128 * entry′ (c .before) .args .s) 128)
-    (λ c. rec-ends (entry′ (c .before) .pre .0) (entry′ (c .before) .pre .3 .stamp)) (λ c. rec-fits8 (entry′ (c .before .before) .pre .0))
-    (λ c. le-add-right (128 * entry′ (c .before .before) .args .s) 128) (λ c. le-add-right (128 * entry′ (c .before .before) .args .s) 128)
-    (λ c. rec-ends (entry′ (c .before .before) .pre .0) (entry′ (c .before .before) .pre .3 .touched))
-    (λ c. rec-fits4 (entry′ (c .before .before .before) .pre .0)) (λ c. le-add-right (128 * entry′ (c .before .before .before) .args .s) 128)
-    (λ c. le-add-right (128 * entry′ (c .before .before .before) .args .s) 128)
-    (λ c. rec-ends (entry′ (c .before .before .before) .pre .0) (entry′ (c .before .before .before) .pre .3 .write)) cut-ranges-requires same-length
-    same-length-2 same-length-3 same-length-4 same-length-5 same-length-6 same-length-7 returns)
+    (λ c. rec-fits8 (c .before .before .before .before .before .before .before .pre .0)) (λ c. le-add-right _ _) (λ c. le-add-right _ _)
+    part-cut-ranges-end (λ c. rec-fits8 (c .before .before .before .before .before .before .before .before .pre .0)) (λ c. le-add-right _ _)
+    (λ c. le-add-right _ _) part-cut-ranges-end-2 (λ c. rec-fits8 (c .before .before .before .before .before .before .before .before .before .pre .0))
+    (λ c. le-add-right _ _) (λ c. le-add-right _ _) part-cut-ranges-end-3 (λ c. rec-fits8 (entry c .pre .0)) (λ c. le-add-right _ _)
+    (λ c. le-add-right _ _) (λ c. rec-ends (entry c .pre .0) (entry c .pre .3 .id)) (λ c. rec-fits8 (entry (c .before) .pre .0))
+    (λ c. le-add-right _ _) (λ c. le-add-right _ _) (λ c. rec-ends (entry (c .before) .pre .0) (entry (c .before) .pre .3 .stamp))
+    (λ c. rec-fits8 (entry (c .before .before) .pre .0)) (λ c. le-add-right _ _) (λ c. le-add-right _ _)
+    (λ c. rec-ends (entry (c .before .before) .pre .0) (entry (c .before .before) .pre .3 .touched))
+    (λ c. rec-fits4 (entry (c .before .before .before) .pre .0)) (λ c. le-add-right _ _) (λ c. le-add-right _ _)
+    (λ c. rec-ends (entry (c .before .before .before) .pre .0) (entry (c .before .before .before) .pre .3 .write)) cut-ranges-requires
+    (λ c. part-kept 128 (entry-2 c .args .s) (entry-2 c .args .node .now) (after-cut-ranges c .cut-ranges .last .0) (after-cut-ranges c .cut-ranges .kept .0)) (λ c. part-kept 128 (entry-2 c .args .s) (entry-2 c .args .start .now) (after-cut-ranges c .cut-ranges .last .1 .0) (after-cut-ranges c .cut-ranges .kept .1 .0))
+    (λ c. part-kept 128 (entry-2 c .args .s) (entry-2 c .args .end .now) (after-cut-ranges c .cut-ranges .last .1 .1 .0) (after-cut-ranges c .cut-ranges .kept .1 .1 .0))
+    (λ c. part-kept 128 (entry-2 c .args .s) (entry-2 c .args .id .now) (after-cut-ranges c .cut-ranges .last .1 .1 .1 .0) (after-cut-ranges c .cut-ranges .kept .1 .1 .1 .0))
+    (λ c. part-kept 128 (entry-2 c .args .s) (entry-2 c .args .stamp .now) (after-cut-ranges c .cut-ranges .last .1 .1 .1 .1 .0) (after-cut-ranges c .cut-ranges .kept .1 .1 .1 .1 .0))
+    (λ c. part-kept 128 (entry-2 c .args .s) (entry-2 c .args .touched .now) (after-cut-ranges c .cut-ranges .last .1 .1 .1 .1 .1 .0) (after-cut-ranges c .cut-ranges .kept .1 .1 .1 .1 .1 .0))
+    (λ c. part-kept 128 (entry-2 c .args .s) (entry-2 c .args .write .now) (after-cut-ranges c .cut-ranges .last .1 .1 .1 .1 .1 .1 .0) (after-cut-ranges c .cut-ranges .kept .1 .1 .1 .1 .1 .1 .0)) returns)

@@ -23,20 +23,17 @@ add-if2 c =
 
 returns-2 : tie.Need-returns-2
 returns-2 c =
-    let z = entry (c .before) in
-    let a = z .args in
+    let a = entry (c .before) .args in
     λ st hs w. six st hs w (c .before .before .before .before .if1 .left) (ltb (a .m .len) (at (a .len .now) (a .m .node))) (c .before .node-need .result) refl (c .before .node-need .ensures) (c .if2 .taken)
 
 returns-3 : tie.Need-returns-3
 returns-3 c =
-    let z = entry (c .before .before .before .before) in
-    let a = z .args in
+    let a = entry (c .before .before .before .before) .args in
     λ st hs w. seven st hs w (c .before .before .before .before .before .before .before .if1 .left) (ltb (a .m .len) (at (a .len .now) (a .m .node))) (c .before .before .before .before .node-need .result) refl (c .before .before .before .before .node-need .ensures) (c .before .before .before .if2 .left) (c .if3 .taken)
 
 returns-4 : tie.Need-returns-4
 returns-4 c =
-    let z = entry (c .before .before .before .before .before) in
-    let a = z .args in
+    let a = entry (c .before .before .before .before .before) .args in
     λ st hs w. not-inside st hs w (c .before .before .before .before .before .before .before .before .if1 .left) (ltb (a .m .len) (at (a .len .now) (a .m .node))) (c .before .before .before .before .before .node-need .result) refl (c .before .before .before .before .before .node-need .ensures) (c .before .before .before .before .if2 .left) (c .before .if3 .left) (c .if4 .taken)
 
 cut-refusal-requires : tie.Need-cut-refusal-requires
@@ -44,8 +41,7 @@ cut-refusal-requires c κs = let p = entry (c .before .before .before .before .b
 
 returns-5 : tie.Need-returns-5
 returns-5 c =
-    let z = entry (c .before .before .before .before .before .before .before .before .before) in
-    let a = z .args in
+    let a = entry (c .before .before .before .before .before .before .before .before .before) .args in
     λ st hs w. inside st hs w (else1 c .if1 .left) (ltb (a .m .len) (at (a .len .now) (a .m .node))) (c .before .before .before .before .before .before .before .before .before .node-need .result) refl (c .before .before .before .before .before .before .before .before .before .node-need .ensures) (c .before .before .before .before .before .before .before .before .if2 .left) (c .before .before .before .before .before .if3 .left) (c .before .before .before .before .if4 .left) (c .before .records-of .result) (c .before .records-of .ensures) (c .cut-refusal .result) (c .cut-refusal .ensures)
 
 pub insert-refusal-spec : {M : Type 1} → statement M

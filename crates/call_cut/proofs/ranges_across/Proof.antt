@@ -27,8 +27,7 @@ found c ranges a b d =
 
 returns : tie.Need-returns
 returns c =
-    let z = c .before .before .before .before .before .before .before in
-    let a = z .args in (
+    let a = c .before .before .before .before .before .before .before .args in (
       across-few (a .s) (a .n) (a .j) (a .k) (c .ranges-across .result) (rangesOf (a .node .now) (a .start .now) (a .end .now) [] [] [] [])
           (found c (rangesOf (a .node .now) (a .start .now) (a .end .now) [] [] [] []) refl refl refl),
       found c,

@@ -31,8 +31,8 @@ lists z =
     (z .args .out-dead .now)
 
 -- earlier places of the function, by name
-abbrev entry′ : tie.Then1 → tie.Start
-entry′ c = c .before .before .before .before .before .before .before .before .before .before .before .before .before .before .before .before .before .before .before .before .before .before .before .before .before .before .before .before
+abbrev entry : tie.Then1 → tie.Start
+entry c = c .before .before .before .before .before .before .before .before .before .before .before .before .before .before .before .before .before .before .before .before .before .before .before .before .before .before .before .before
 
 abbrev entry-2 : tie.After-book-of-arg → tie.Start
 entry-2 c = c .before .before .before .before .before .before .before .before .before .before .before .before .before .before .before .before .before .before .before .before .before .before .before .before .before .before .before .before .before
@@ -46,10 +46,10 @@ after-refusal c = after-book-of c .before .before .before
 abbrev entry-3 : tie.After-expire-pools-arg14 → tie.Start
 entry-3 c = entry-2 (c .before .before .before .before .before .before .before .before .before .before .before .before .before .before .before)
 
-abbrev else1-2 : tie.After-put-book-arg → tie.Else1
+abbrev else1-2 : tie.After-put-ranged-arg → tie.Else1
 else1-2 c = after-book-of (c .before .before .before .before .before .before .before .before .before .before .before .before .before .before .before .before .before .before .before .before .before .before .before .before .before .before .before .before .before .before) .before .before
 
-abbrev entry-4 : tie.After-put-book-arg → tie.Start
+abbrev entry-4 : tie.After-put-ranged-arg → tie.Start
 entry-4 c = else1-2 c .before .before .before .before .before .before .before .before .before .before .before .before .before .before .before .before .before .before .before .before .before .before .before .before .before .before .before .before
 
 abbrev after-expire-pools : tie.After-slice-known31 → tie.After-expire-pools
@@ -59,7 +59,7 @@ abbrev after-book-of-2 : tie.After-slice-known31 → tie.After-book-of
 after-book-of-2 c = after-expire-pools c .before .before .before .before .before .before .before .before .before .before .before .before .before .before .before
 
 returns : tie.Need-returns
-returns c = let z = entry′ c in call-refused (state z) (lists z) (z .args .s) (z .args .time) (z .args .seconds) (c .before .refusal .result) (c .before .refusal .ensures (state z) (lists z) (z .pre .0) (z .pre .1) refl) (c .if1 .taken)
+returns c = let z = entry c in call-refused (state z) (lists z) (z .args .s) (z .args .time) (z .args .seconds) (c .before .refusal .result) (c .before .refusal .ensures (state z) (lists z) (z .pre .0) (z .pre .1) refl) (c .if1 .taken)
 
 book-of-requires : tie.Need-book-of-requires
 book-of-requires c κs = let z = entry-2 c in book-in (state z) (lists z) (z .args .s) (z .args .time) (z .args .seconds) (z .pre .0) (z .pre .1) (c .before .before .refusal .result) (c .before .before .refusal .ensures (state z) (lists z) (z .pre .0) (z .pre .1) refl) (c .before .if1 .left)
@@ -67,29 +67,29 @@ book-of-requires c κs = let z = entry-2 c in book-in (state z) (lists z) (z .ar
 expire-pools-requires : tie.Need-expire-pools-requires
 expire-pools-requires c κs = let z = entry-3 c in pool-in (state z) (lists z) (z .args .s) (z .args .time) (z .args .seconds) (z .pre .0) (z .pre .1) (after-refusal c .refusal .result) (after-refusal c .refusal .ensures (state z) (lists z) (z .pre .0) (z .pre .1) refl) (after-book-of c .before .before .if1 .left) (after-book-of c .book-of .result) (after-book-of c .book-of .ensures)
 
-put-book-requires : tie.Need-put-book-requires
-put-book-requires c κs = let z = entry-4 c in book-in (state z) (lists z) (z .args .s) (z .args .time) (z .args .seconds) (z .pre .0) (z .pre .1) (else1-2 c .before .refusal .result) (else1-2 c .before .refusal .ensures (state z) (lists z) (z .pre .0) (z .pre .1) refl) (else1-2 c .if1 .left)
+put-ranged-requires : tie.Need-put-ranged-requires
+put-ranged-requires c κs = let z = entry-4 c in book-in (state z) (lists z) (z .args .s) (z .args .time) (z .args .seconds) (z .pre .0) (z .pre .1) (else1-2 c .before .refusal .result) (else1-2 c .before .refusal .ensures (state z) (lists z) (z .pre .0) (z .pre .1) refl) (else1-2 c .if1 .left)
 
 returns-2 : tie.Need-returns-2
 returns-2 c =
     let z = entry-4 (c .before .before .before) in
     let k = after-expire-pools c .expire-pools in
     call-done (T z) (records z) (entries z) (z .args .marks .now) (z .args .bytes .now) (z .args .books .now) (lists z) (z .args .s) (z .args .time) (z .args .seconds) (z .pre .0) (z .pre .1) (else1-2 (c .before .before .before) .before .refusal .result) (else1-2 (c .before .before .before) .before .refusal .ensures (state z) (lists z) (z .pre .0) (z .pre .1) refl) (else1-2 (c .before .before .before) .if1 .left) (after-book-of-2 c .book-of .result) (after-book-of-2 c .book-of .ensures)
-    {c = rangesOf (k .last .0) (k .last .1 .0) (k .last .1 .1 .0) (k .last .1 .1 .1 .0) (k .last .1 .1 .1 .1 .0) (k .last .1 .1 .1 .1 .1 .0) (k .last .1 .1 .1 .1 .1 .1 .0)} {ks = k .last .1 .1 .1 .1 .1 .1 .1 .0} {lʹ = outList (k .last .1 .1 .1 .1 .1 .1 .1 .1 .0) (k .last .1 .1 .1 .1 .1 .1 .1 .1 .1 .0) (k .last .1 .1 .1 .1 .1 .1 .1 .1 .1 .1 .0) (k .last .1 .1 .1 .1 .1 .1 .1 .1 .1 .1 .1 .0) (k .last .1 .1 .1 .1 .1 .1 .1 .1 .1 .1 .1 .1 .0) (k .last .1 .1 .1 .1 .1 .1 .1 .1 .1 .1 .1 .1 .1 .0)} {r = k .result} (k .ensures)
-    (c .before .before .put-book .last .0) (c .before .before .put-book .ensures)
+    {c = rangesOf (k .last .1 .0) (k .last .1 .1 .0) (k .last .1 .1 .1 .0) (k .last .1 .1 .1 .1 .0) (k .last .1 .1 .1 .1 .1 .0) (k .last .1 .1 .1 .1 .1 .1 .0) (k .last .1 .1 .1 .1 .1 .1 .1 .0)} {ks = k .last .1 .1 .1 .1 .1 .1 .1 .1 .0} {lʹ = outList (k .last .1 .1 .1 .1 .1 .1 .1 .1 .1 .1 .0) (k .last .1 .1 .1 .1 .1 .1 .1 .1 .1 .1 .1 .0) (k .last .1 .1 .1 .1 .1 .1 .1 .1 .1 .1 .1 .1 .0) (k .last .1 .1 .1 .1 .1 .1 .1 .1 .1 .1 .1 .1 .1 .0) (k .last .1 .1 .1 .1 .1 .1 .1 .1 .1 .1 .1 .1 .1 .1 .0) (k .last .1 .1 .1 .1 .1 .1 .1 .1 .1 .1 .1 .1 .1 .1 .1 .0)} {r = k .result} (k .ensures)
+    (c .before .before .put-ranged .last .0) (c .before .before .put-ranged .ensures)
 
 pub store-expire-spec : {M : Type 1} → statement M
 store-expire-spec =
     tie.close
     (tie.spec
-    (λ c. search needs) (λ c κs. tt) returns book-of-requires expire-pools-requires put-book-requires
-    (λ c. after-expire-pools c .expire-pools .kept .0) (λ c. after-expire-pools c .expire-pools .kept .1 .0)
-    (λ c. after-expire-pools c .expire-pools .kept .1 .1 .0) (λ c. after-expire-pools c .expire-pools .kept .1 .1 .1 .0)
-    (λ c. after-expire-pools c .expire-pools .kept .1 .1 .1 .1 .0) (λ c. after-expire-pools c .expire-pools .kept .1 .1 .1 .1 .1 .0)
-    (λ c. after-expire-pools c .expire-pools .kept .1 .1 .1 .1 .1 .1 .0) (λ c. after-expire-pools c .expire-pools .kept .1 .1 .1 .1 .1 .1 .1 .0)
-    (λ c. c .before .before .put-book .kept .0) (λ c. after-expire-pools c .expire-pools .kept .1 .1 .1 .1 .1 .1 .1 .1 .0)
-    (λ c. after-expire-pools c .expire-pools .kept .1 .1 .1 .1 .1 .1 .1 .1 .1 .0)
-    (λ c. after-expire-pools c .expire-pools .kept .1 .1 .1 .1 .1 .1 .1 .1 .1 .1 .0)
+    (λ c. search needs) (λ c κs. tt) returns book-of-requires expire-pools-requires put-ranged-requires
+    (λ c. after-expire-pools c .expire-pools .kept .1 .0) (λ c. after-expire-pools c .expire-pools .kept .1 .1 .0)
+    (λ c. after-expire-pools c .expire-pools .kept .1 .1 .1 .0) (λ c. after-expire-pools c .expire-pools .kept .1 .1 .1 .1 .0)
+    (λ c. after-expire-pools c .expire-pools .kept .1 .1 .1 .1 .1 .0) (λ c. after-expire-pools c .expire-pools .kept .1 .1 .1 .1 .1 .1 .0)
+    (λ c. after-expire-pools c .expire-pools .kept .1 .1 .1 .1 .1 .1 .1 .0) (λ c. after-expire-pools c .expire-pools .kept .1 .1 .1 .1 .1 .1 .1 .1 .0)
+    (λ c. c .before .before .put-ranged .kept .0) (λ c. after-expire-pools c .expire-pools .kept .1 .1 .1 .1 .1 .1 .1 .1 .1 .1 .0)
     (λ c. after-expire-pools c .expire-pools .kept .1 .1 .1 .1 .1 .1 .1 .1 .1 .1 .1 .0)
     (λ c. after-expire-pools c .expire-pools .kept .1 .1 .1 .1 .1 .1 .1 .1 .1 .1 .1 .1 .0)
-    (λ c. after-expire-pools c .expire-pools .kept .1 .1 .1 .1 .1 .1 .1 .1 .1 .1 .1 .1 .1 .0) returns-2)
+    (λ c. after-expire-pools c .expire-pools .kept .1 .1 .1 .1 .1 .1 .1 .1 .1 .1 .1 .1 .1 .0)
+    (λ c. after-expire-pools c .expire-pools .kept .1 .1 .1 .1 .1 .1 .1 .1 .1 .1 .1 .1 .1 .1 .0)
+    (λ c. after-expire-pools c .expire-pools .kept .1 .1 .1 .1 .1 .1 .1 .1 .1 .1 .1 .1 .1 .1 .1 .0) returns-2)

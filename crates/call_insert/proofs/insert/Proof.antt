@@ -4,7 +4,8 @@ use mathlib.Core.Path.{refl}
 use native.Mathlib.Omega.{arith}
 use native.Mathlib.Nat.{le-refl}
 use borrow.Author.Needs.{needs}
-use Rattle.model.specs.State.{usedIn}
+use Rattle.model.specs.State.{State, usedIn}
+use Rattle.model.specs.Refusals.{PathList}
 use Rattle.shape_state.specs.Lent.{rangesOf, pinsOf}
 use Rattle.shape_answer.specs.Answers.{stateFrom}
 use Rattle.shape_answer.specs.Lists.{pathListOf}
@@ -12,6 +13,14 @@ use Rattle.rule_resolve.proofs.Sound.{sound-walkable}
 use Rattle.call_insert.proofs.Laws.{many-refused, shown, number-refused, passed}
 use Rattle.call_insert.proofs.insert.Statement.{statement}
 use Rattle.call_insert.proofs.insert.Tie as tie
+
+-- the state and the lists at entry
+abbrev state : tie.Start → State
+state z =
+    stateFrom (z .args .parent .now) (z .args .depth .now) (z .args .len .now) (z .args .run .now) (z .args .words .now) (z .args .node .now) (z .args .start .now) (z .args .end .now) (z .args .id .now) (z .args .stamp .now) (z .args .touched .now) (z .args .write .now) (z .args .pin-node .now) (z .args .pin-start .now) (z .args .pin-end .now) (z .args .pin-count .now) (z .args .marks .now) (z .args .bytes .now) (z .args .books .now)
+
+abbrev lists : tie.Start → PathList
+lists z = pathListOf (z .args .path-node .now) (z .args .path-len .now)
 
 -- earlier places of the function, by name
 abbrev entry : tie.Then1 → tie.Start
@@ -47,52 +56,36 @@ after-insert-found c = c .before .before .before .before .before .before .before
 returns : tie.Need-returns
 returns c =
     let z = entry c in
-    let a = z .args in
-    let st = stateFrom (a .parent .now) (a .depth .now) (a .len .now) (a .run .now) (a .words .now) (a .node .now) (a .start .now) (a .end .now) (a .id .now) (a .stamp .now) (a .touched .now) (a .write .now) (a .pin-node .now) (a .pin-start .now) (a .pin-end .now) (a .pin-count .now) (a .marks .now) (a .bytes .now) (a .books .now) in
-    let l = pathListOf (a .path-node .now) (a .path-len .now) in
-    let hs = a .hashes .now in
-    many-refused st l hs (z .pre .0) (z .pre .1) (c .if1 .taken)
+    many-refused (state z) (lists z) (z .args .hashes .now) (z .pre .0) (z .pre .1) (c .if1 .taken)
 
 resolve-requires : tie.Need-resolve-requires
 resolve-requires c κs =
     let z = entry-2 (c .before .before .before .before .before .before) in
     let a = z .args in
-    let st = stateFrom (a .parent .now) (a .depth .now) (a .len .now) (a .run .now) (a .words .now) (a .node .now) (a .start .now) (a .end .now) (a .id .now) (a .stamp .now) (a .touched .now) (a .write .now) (a .pin-node .now) (a .pin-start .now) (a .pin-end .now) (a .pin-count .now) (a .marks .now) (a .bytes .now) (a .books .now) in
-    let l = pathListOf (a .path-node .now) (a .path-len .now) in
-    let hs = a .hashes .now in
-    ((a .depth .now, usedIn (a .books .now), sound-walkable st (z .pre .0)), record { node = le-refl 255; len = le-refl 255 })
+    ((a .depth .now, usedIn (a .books .now), sound-walkable (state z) (z .pre .0)), record { node = le-refl 255; len = le-refl 255 })
 
 refusal-requires : tie.Need-refusal-requires
 refusal-requires c κs =
     let z = entry-3 c in
     let a = z .args in
-    let st = stateFrom (a .parent .now) (a .depth .now) (a .len .now) (a .run .now) (a .words .now) (a .node .now) (a .start .now) (a .end .now) (a .id .now) (a .stamp .now) (a .touched .now) (a .write .now) (a .pin-node .now) (a .pin-start .now) (a .pin-end .now) (a .pin-count .now) (a .marks .now) (a .bytes .now) (a .books .now) in
-    let l = pathListOf (a .path-node .now) (a .path-len .now) in
-    let hs = a .hashes .now in
     let r = after-resolve c .resolve in
-    (st, hs, shown (a .parent .now) (a .depth .now) (a .len .now) (a .run .now) (a .words .now) (rangesOf (a .node .now) (a .start .now) (a .end .now) (a .id .now) (a .stamp .now) (a .touched .now) (a .write .now)) (pinsOf (a .pin-node .now) (a .pin-start .now) (a .pin-end .now) (a .pin-count .now)) (a .marks .now) (a .bytes .now) (a .books .now) hs (r .result) (z .pre .0) (else1 c .if1 .left) (r .ensures (a .depth .now) (usedIn (a .books .now)) .answer))
+    (state z, a .hashes .now, shown (a .parent .now) (a .depth .now) (a .len .now) (a .run .now) (a .words .now) (rangesOf (a .node .now) (a .start .now) (a .end .now) (a .id .now) (a .stamp .now) (a .touched .now) (a .write .now)) (pinsOf (a .pin-node .now) (a .pin-start .now) (a .pin-end .now) (a .pin-count .now)) (a .marks .now) (a .bytes .now) (a .books .now) (a .hashes .now) (r .result) (z .pre .0) (else1 c .if1 .left) (r .ensures (a .depth .now) (usedIn (a .books .now)) .answer))
 
 returns-2 : tie.Need-returns-2
 returns-2 c =
     let z = entry-3 (c .before .before) in
     let a = z .args in
-    let st = stateFrom (a .parent .now) (a .depth .now) (a .len .now) (a .run .now) (a .words .now) (a .node .now) (a .start .now) (a .end .now) (a .id .now) (a .stamp .now) (a .touched .now) (a .write .now) (a .pin-node .now) (a .pin-start .now) (a .pin-end .now) (a .pin-count .now) (a .marks .now) (a .bytes .now) (a .books .now) in
-    let l = pathListOf (a .path-node .now) (a .path-len .now) in
-    let hs = a .hashes .now in
     let r = after-resolve (c .before .before) .resolve in
     let f = c .before .refusal in
-    number-refused st l hs (z .pre .0) (z .pre .1) (else1 (c .before .before) .if1 .left) (f .result) (f .ensures st hs (shown (a .parent .now) (a .depth .now) (a .len .now) (a .run .now) (a .words .now) (rangesOf (a .node .now) (a .start .now) (a .end .now) (a .id .now) (a .stamp .now) (a .touched .now) (a .write .now)) (pinsOf (a .pin-node .now) (a .pin-start .now) (a .pin-end .now) (a .pin-count .now)) (a .marks .now) (a .bytes .now) (a .books .now) hs (r .result) (z .pre .0) (else1 (c .before .before) .if1 .left) (r .ensures (a .depth .now) (usedIn (a .books .now)) .answer))) (c .if2 .taken)
+    number-refused (state z) (lists z) (a .hashes .now) (z .pre .0) (z .pre .1) (else1 (c .before .before) .if1 .left) (f .result) (f .ensures (state z) (a .hashes .now) (shown (a .parent .now) (a .depth .now) (a .len .now) (a .run .now) (a .words .now) (rangesOf (a .node .now) (a .start .now) (a .end .now) (a .id .now) (a .stamp .now) (a .touched .now) (a .write .now)) (pinsOf (a .pin-node .now) (a .pin-start .now) (a .pin-end .now) (a .pin-count .now)) (a .marks .now) (a .bytes .now) (a .books .now) (a .hashes .now) (r .result) (z .pre .0) (else1 (c .before .before) .if1 .left) (r .ensures (a .depth .now) (usedIn (a .books .now)) .answer))) (c .if2 .taken)
 
 insert-found-requires : tie.Need-insert-found-requires
 insert-found-requires c κs =
     let z = entry-4 c in
     let a = z .args in
-    let st = stateFrom (a .parent .now) (a .depth .now) (a .len .now) (a .run .now) (a .words .now) (a .node .now) (a .start .now) (a .end .now) (a .id .now) (a .stamp .now) (a .touched .now) (a .write .now) (a .pin-node .now) (a .pin-start .now) (a .pin-end .now) (a .pin-count .now) (a .marks .now) (a .bytes .now) (a .books .now) in
-    let l = pathListOf (a .path-node .now) (a .path-len .now) in
-    let hs = a .hashes .now in
     let r = after-resolve-2 c .resolve in
     let f = else2 c .before .refusal in
-    passed st l hs (z .pre .0) (z .pre .1) (else1-2 c .if1 .left) (f .result) (f .ensures st hs (shown (a .parent .now) (a .depth .now) (a .len .now) (a .run .now) (a .words .now) (rangesOf (a .node .now) (a .start .now) (a .end .now) (a .id .now) (a .stamp .now) (a .touched .now) (a .write .now)) (pinsOf (a .pin-node .now) (a .pin-start .now) (a .pin-end .now) (a .pin-count .now)) (a .marks .now) (a .bytes .now) (a .books .now) hs (r .result) (z .pre .0) (else1-2 c .if1 .left) (r .ensures (a .depth .now) (usedIn (a .books .now)) .answer))) (pathListOf (r .last .1 .1 .1 .1 .1 .1 .0) (r .last .1 .1 .1 .1 .1 .1 .1 .0)) (r .result) (else2 c .if2 .left)
+    passed (state z) (lists z) (a .hashes .now) (z .pre .0) (z .pre .1) (else1-2 c .if1 .left) (f .result) (f .ensures (state z) (a .hashes .now) (shown (a .parent .now) (a .depth .now) (a .len .now) (a .run .now) (a .words .now) (rangesOf (a .node .now) (a .start .now) (a .end .now) (a .id .now) (a .stamp .now) (a .touched .now) (a .write .now)) (pinsOf (a .pin-node .now) (a .pin-start .now) (a .pin-end .now) (a .pin-count .now)) (a .marks .now) (a .bytes .now) (a .books .now) (a .hashes .now) (r .result) (z .pre .0) (else1-2 c .if1 .left) (r .ensures (a .depth .now) (usedIn (a .books .now)) .answer))) (pathListOf (r .last .1 .1 .1 .1 .1 .1 .0) (r .last .1 .1 .1 .1 .1 .1 .1 .0)) (r .result) (else2 c .if2 .left)
     (r .ensures (a .depth .now) (usedIn (a .books .now)))
 
 pub insert-spec : {M : Type 1} → statement M

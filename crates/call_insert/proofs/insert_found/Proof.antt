@@ -3,14 +3,21 @@
 use mathlib.Core.Path.{_∙_}
 use native.Mathlib.Omega.{arith}
 use Rattle.model.specs.declared.Split.the-variants as S
-use Rattle.model.specs.State.{nodesIn}
-use Rattle.model.specs.Tree.{resolve}
-use Rattle.shape_state.specs.Lent.{rangesOf, pinsOf}
+use mathlib.Core.List.{List}
+use Rattle.model.specs.State.{nodesIn, usedIn}
+use Rattle.model.specs.Tree.{Seg, resolve}
+use Rattle.shape_state.specs.Lent.{treeOf, rangesOf, pinsOf}
 use Rattle.shape_answer.specs.Answers.{stateFrom}
 use Rattle.shape_answer.specs.Lists.{pathListOf}
 use Rattle.call_insert.proofs.Laws.{path-room, segs-few, segs-fit, node-small, node-in, nothing-new, leaf-asks, leaf-new, cut-asks, leaf-asks-cut, cut-new}
 use Rattle.call_insert.proofs.insert_found.Statement.{statement}
 use Rattle.call_insert.proofs.insert_found.Tie as tie
+
+-- the path that was found
+abbrev path : tie.Start → List Seg
+path z =
+    resolve (treeOf (z .args .parent .now) (z .args .depth .now) (z .args .len .now) (z .args .run .now) (z .args .words .now) (nodesIn (z .args .books .now)) (usedIn (z .args .books .now)))
+    (z .args .hashes .now)
 
 -- earlier places of the function, by name
 abbrev entry : tie.After-struct-known2 → tie.Start
@@ -73,102 +80,38 @@ else1-5 c = else2-3 c .before .before .before
 abbrev entry-7 : tie.After-slice-known57 → tie.Start
 entry-7 c = entry-6 (c .before .before .before .before .before .before .before .before .before .before .before .before .before .before .before .before .before)
 
-lay-path-requires : tie.Need-lay-path-requires
-lay-path-requires c κs =
-    let z = entry-2 c in
-    let a = z .args in
-    let st = stateFrom (a .parent .now) (a .depth .now) (a .len .now) (a .run .now) (a .words .now) (a .node .now) (a .start .now) (a .end .now) (a .id .now) (a .stamp .now) (a .touched .now) (a .write .now) (a .pin-node .now) (a .pin-start .now) (a .pin-end .now) (a .pin-count .now) (a .marks .now) (a .bytes .now) (a .books .now) in
-    let l = pathListOf (a .path-node .now) (a .path-len .now) in
-    let found = pathListOf (a .found-node .now) (a .found-len .now) in
-    let hs = a .hashes .now in
-    path-room st l hs (a .m) found (z .pre)
-
 returns : tie.Need-returns
 returns c =
-    let z = entry-2 (c .before .before .before .before .before) in
-    let a = z .args in
-    let st = stateFrom (a .parent .now) (a .depth .now) (a .len .now) (a .run .now) (a .words .now) (a .node .now) (a .start .now) (a .end .now) (a .id .now) (a .stamp .now) (a .touched .now) (a .write .now) (a .pin-node .now) (a .pin-start .now) (a .pin-end .now) (a .pin-count .now) (a .marks .now) (a .bytes .now) (a .books .now) in
-    let l = pathListOf (a .path-node .now) (a .path-len .now) in
-    let found = pathListOf (a .found-node .now) (a .found-len .now) in
-    let hs = a .hashes .now in
     let f = c .before .before .before .before .lay-path in
-    nothing-new st l hs (a .m) found (z .pre) (pathListOf (f .last .0) (f .last .1 .0)) (c .before .before .before .before .before .before .before .if1 .taken) (f .ensures)
+    nothing-new (entry-2 (c .before .before .before .before .before) .pre) (pathListOf (f .last .0) (f .last .1 .0)) (c .before .before .before .before .before .before .before .if1 .taken) (f .ensures)
 
 add-segs : tie.Need-add-segs
 add-segs c =
     let z = entry c in
-    let a = z .args in
-    let st = stateFrom (a .parent .now) (a .depth .now) (a .len .now) (a .run .now) (a .words .now) (a .node .now) (a .start .now) (a .end .now) (a .id .now) (a .stamp .now) (a .touched .now) (a .write .now) (a .pin-node .now) (a .pin-start .now) (a .pin-end .now) (a .pin-count .now) (a .marks .now) (a .bytes .now) (a .books .now) in
-    let l = pathListOf (a .path-node .now) (a .path-len .now) in
-    let found = pathListOf (a .found-node .now) (a .found-len .now) in
-    let hs = a .hashes .now in
-    record { fits = segs-fit (a .m .segs) (segs-few st l hs (a .m) found (z .pre)) }
-
-mul-if2 : tie.Need-mul-if2
-mul-if2 c =
-    let z = entry c in
-    let a = z .args in
-    let st = stateFrom (a .parent .now) (a .depth .now) (a .len .now) (a .run .now) (a .words .now) (a .node .now) (a .start .now) (a .end .now) (a .id .now) (a .stamp .now) (a .touched .now) (a .write .now) (a .pin-node .now) (a .pin-start .now) (a .pin-end .now) (a .pin-count .now) (a .marks .now) (a .bytes .now) (a .books .now) in
-    let l = pathListOf (a .path-node .now) (a .path-len .now) in
-    let found = pathListOf (a .found-node .now) (a .found-len .now) in
-    let hs = a .hashes .now in
-    omega (arith, node-small st l hs (a .m) found (z .pre) (c .before .if1 .left))
-
-slice-read-if2 : tie.Need-slice-read-if2
-slice-read-if2 c =
-    let z = entry (c .before) in
-    let a = z .args in
-    let st = stateFrom (a .parent .now) (a .depth .now) (a .len .now) (a .run .now) (a .words .now) (a .node .now) (a .start .now) (a .end .now) (a .id .now) (a .stamp .now) (a .touched .now) (a .write .now) (a .pin-node .now) (a .pin-start .now) (a .pin-end .now) (a .pin-count .now) (a .marks .now) (a .bytes .now) (a .books .now) in
-    let l = pathListOf (a .path-node .now) (a .path-len .now) in
-    let found = pathListOf (a .found-node .now) (a .found-len .now) in
-    let hs = a .hashes .now in
-    node-in st l hs (a .m) found (z .pre) (c .before .before .if1 .left)
+    record { fits = segs-fit (z .args .m .segs) (segs-few (z .pre)) }
 
 add-rest-requires : tie.Need-add-rest-requires
 add-rest-requires c κs =
     let z = entry-3 c in
-    let a = z .args in
-    let st = stateFrom (a .parent .now) (a .depth .now) (a .len .now) (a .run .now) (a .words .now) (a .node .now) (a .start .now) (a .end .now) (a .id .now) (a .stamp .now) (a .touched .now) (a .write .now) (a .pin-node .now) (a .pin-start .now) (a .pin-end .now) (a .pin-count .now) (a .marks .now) (a .bytes .now) (a .books .now) in
-    let l = pathListOf (a .path-node .now) (a .path-len .now) in
-    let found = pathListOf (a .found-node .now) (a .found-len .now) in
-    let hs = a .hashes .now in
-    (resolve (st .tree) hs, leaf-asks st l hs (a .m) found (z .pre) (else1 c .if1 .left) (c .before .before .before .before .before .before .before .before .if2 .taken))
+    (path z, leaf-asks (z .pre) (else1 c .if1 .left) (c .before .before .before .before .before .before .before .before .if2 .taken))
 
 returns-2 : tie.Need-returns-2
 returns-2 c =
     let z = entry-5 c in
     let a = z .args in
-    let st = stateFrom (a .parent .now) (a .depth .now) (a .len .now) (a .run .now) (a .words .now) (a .node .now) (a .start .now) (a .end .now) (a .id .now) (a .stamp .now) (a .touched .now) (a .write .now) (a .pin-node .now) (a .pin-start .now) (a .pin-end .now) (a .pin-count .now) (a .marks .now) (a .bytes .now) (a .books .now) in
-    let l = pathListOf (a .path-node .now) (a .path-len .now) in
-    let found = pathListOf (a .found-node .now) (a .found-len .now) in
-    let hs = a .hashes .now in
     let g = after-add-rest c .add-rest in
-    leaf-new st l hs (a .m) found (z .pre) (else1-3 c .if1 .left) (then2 c .if2 .taken)
+    leaf-new (z .pre) (else1-3 c .if1 .left) (then2 c .if2 .taken)
     (stateFrom (g .last .0) (g .last .1 .0) (g .last .1 .1 .0) (g .last .1 .1 .1 .0) (g .last .1 .1 .1 .1 .0) (a .node .now) (a .start .now) (a .end .now) (a .id .now) (a .stamp .now) (a .touched .now) (a .write .now) (a .pin-node .now) (a .pin-start .now) (a .pin-end .now) (a .pin-count .now) (a .marks .now) (a .bytes .now) (g .last .1 .1 .1 .1 .1 .0))
     (pathListOf (g .last .1 .1 .1 .1 .1 .1 .0) (g .last .1 .1 .1 .1 .1 .1 .1 .0))
-    (g .ensures (resolve (st .tree) hs) S.No (rangesOf (a .node .now) (a .start .now) (a .end .now) (a .id .now) (a .stamp .now) (a .touched .now) (a .write .now)) (pinsOf (a .pin-node .now) (a .pin-start .now) (a .pin-end .now) (a .pin-count .now)) (a .marks .now) (a .bytes .now) (z .pre .path))
-
-cut-all-requires : tie.Need-cut-all-requires
-cut-all-requires c κs =
-    let z = entry-4 c in
-    let a = z .args in
-    let st = stateFrom (a .parent .now) (a .depth .now) (a .len .now) (a .run .now) (a .words .now) (a .node .now) (a .start .now) (a .end .now) (a .id .now) (a .stamp .now) (a .touched .now) (a .write .now) (a .pin-node .now) (a .pin-start .now) (a .pin-end .now) (a .pin-count .now) (a .marks .now) (a .bytes .now) (a .books .now) in
-    let l = pathListOf (a .path-node .now) (a .path-len .now) in
-    let found = pathListOf (a .found-node .now) (a .found-len .now) in
-    let hs = a .hashes .now in
-    cut-asks st l hs (a .m) found (z .pre) (else1-2 c .if1 .left) (else2 c .if2 .left)
+    (g .ensures (path z) S.No (rangesOf (a .node .now) (a .start .now) (a .end .now) (a .id .now) (a .stamp .now) (a .touched .now) (a .write .now)) (pinsOf (a .pin-node .now) (a .pin-start .now) (a .pin-end .now) (a .pin-count .now)) (a .marks .now) (a .bytes .now) (z .pre .path))
 
 add-rest-requires-2 : tie.Need-add-rest-requires-2
 add-rest-requires-2 c κs =
     let z = entry-6 c in
     let a = z .args in
-    let st = stateFrom (a .parent .now) (a .depth .now) (a .len .now) (a .run .now) (a .words .now) (a .node .now) (a .start .now) (a .end .now) (a .id .now) (a .stamp .now) (a .touched .now) (a .write .now) (a .pin-node .now) (a .pin-start .now) (a .pin-end .now) (a .pin-count .now) (a .marks .now) (a .bytes .now) (a .books .now) in
-    let l = pathListOf (a .path-node .now) (a .path-len .now) in
-    let found = pathListOf (a .found-node .now) (a .found-len .now) in
-    let hs = a .hashes .now in
     let f = after-cut-all c .cut-all in (
-      resolve (st .tree) hs,
-      leaf-asks-cut st l hs (a .m) found (z .pre) (else1-4 c .if1 .left) (else2-2 c .if2 .left)
+      path z,
+      leaf-asks-cut (z .pre) (else1-4 c .if1 .left) (else2-2 c .if2 .left)
           (stateFrom (f .last .0) (f .last .1 .0) (f .last .1 .1 .0) (f .last .1 .1 .1 .0) (a .words .now) (f .last .1 .1 .1 .1 .1 .0) (f .last .1 .1 .1 .1 .1 .1 .0) (f .last .1 .1 .1 .1 .1 .1 .1 .0) (f .last .1 .1 .1 .1 .1 .1 .1 .1 .0) (f .last .1 .1 .1 .1 .1 .1 .1 .1 .1 .0) (f .last .1 .1 .1 .1 .1 .1 .1 .1 .1 .1 .0) (f .last .1 .1 .1 .1 .1 .1 .1 .1 .1 .1 .1 .0) (f .last .1 .1 .1 .1 .1 .1 .1 .1 .1 .1 .1 .1 .0) (f .last .1 .1 .1 .1 .1 .1 .1 .1 .1 .1 .1 .1 .1 .0) (f .last .1 .1 .1 .1 .1 .1 .1 .1 .1 .1 .1 .1 .1 .1 .0) (f .last .1 .1 .1 .1 .1 .1 .1 .1 .1 .1 .1 .1 .1 .1 .1 .0) (f .last .1 .1 .1 .1 .1 .1 .1 .1 .1 .1 .1 .1 .1 .1 .1 .1 .0) (a .bytes .now) (f .last .1 .1 .1 .1 .1 .1 .1 .1 .1 .1 .1 .1 .1 .1 .1 .1 .1 .1 .0)) (f .ensures) (f .kept .1 .1 .1 .1 .1 .1 .1 .1 .1 .1 .1 .1 .1 .1 .1 .1 .1 .1 .0),
     )
 
@@ -179,29 +122,28 @@ returns-3 : tie.Need-returns-3
 returns-3 c =
     let z = entry-7 c in
     let a = z .args in
-    let st = stateFrom (a .parent .now) (a .depth .now) (a .len .now) (a .run .now) (a .words .now) (a .node .now) (a .start .now) (a .end .now) (a .id .now) (a .stamp .now) (a .touched .now) (a .write .now) (a .pin-node .now) (a .pin-start .now) (a .pin-end .now) (a .pin-count .now) (a .marks .now) (a .bytes .now) (a .books .now) in
-    let l = pathListOf (a .path-node .now) (a .path-len .now) in
-    let found = pathListOf (a .found-node .now) (a .found-len .now) in
-    let hs = a .hashes .now in
     let f = after-cut-all-2 c .cut-all in
     let g = after-add-rest2 c .add-rest2 in
-    cut-new st l hs (a .m) found (z .pre) (else1-5 c .if1 .left) (else2-3 c .if2 .left)
+    cut-new (z .pre) (else1-5 c .if1 .left) (else2-3 c .if2 .left)
     (stateFrom (f .last .0) (f .last .1 .0) (f .last .1 .1 .0) (f .last .1 .1 .1 .0) (a .words .now) (f .last .1 .1 .1 .1 .1 .0) (f .last .1 .1 .1 .1 .1 .1 .0) (f .last .1 .1 .1 .1 .1 .1 .1 .0) (f .last .1 .1 .1 .1 .1 .1 .1 .1 .0) (f .last .1 .1 .1 .1 .1 .1 .1 .1 .1 .0) (f .last .1 .1 .1 .1 .1 .1 .1 .1 .1 .1 .0) (f .last .1 .1 .1 .1 .1 .1 .1 .1 .1 .1 .1 .0) (f .last .1 .1 .1 .1 .1 .1 .1 .1 .1 .1 .1 .1 .0) (f .last .1 .1 .1 .1 .1 .1 .1 .1 .1 .1 .1 .1 .1 .0) (f .last .1 .1 .1 .1 .1 .1 .1 .1 .1 .1 .1 .1 .1 .1 .0) (f .last .1 .1 .1 .1 .1 .1 .1 .1 .1 .1 .1 .1 .1 .1 .1 .0) (f .last .1 .1 .1 .1 .1 .1 .1 .1 .1 .1 .1 .1 .1 .1 .1 .1 .0) (a .bytes .now) (f .last .1 .1 .1 .1 .1 .1 .1 .1 .1 .1 .1 .1 .1 .1 .1 .1 .1 .1 .0)) (f .ensures)
     (stateFrom (g .last .0) (g .last .1 .0) (g .last .1 .1 .0) (g .last .1 .1 .1 .0) (g .last .1 .1 .1 .1 .0) (f .last .1 .1 .1 .1 .1 .0) (f .last .1 .1 .1 .1 .1 .1 .0) (f .last .1 .1 .1 .1 .1 .1 .1 .0) (f .last .1 .1 .1 .1 .1 .1 .1 .1 .0) (f .last .1 .1 .1 .1 .1 .1 .1 .1 .1 .0) (f .last .1 .1 .1 .1 .1 .1 .1 .1 .1 .1 .0) (f .last .1 .1 .1 .1 .1 .1 .1 .1 .1 .1 .1 .0) (f .last .1 .1 .1 .1 .1 .1 .1 .1 .1 .1 .1 .1 .0) (f .last .1 .1 .1 .1 .1 .1 .1 .1 .1 .1 .1 .1 .1 .0) (f .last .1 .1 .1 .1 .1 .1 .1 .1 .1 .1 .1 .1 .1 .1 .0) (f .last .1 .1 .1 .1 .1 .1 .1 .1 .1 .1 .1 .1 .1 .1 .1 .0) (f .last .1 .1 .1 .1 .1 .1 .1 .1 .1 .1 .1 .1 .1 .1 .1 .1 .0) (a .bytes .now) (g .last .1 .1 .1 .1 .1 .0))
     (pathListOf (g .last .1 .1 .1 .1 .1 .1 .0) (g .last .1 .1 .1 .1 .1 .1 .1 .0))
-    (g .ensures (resolve (st .tree) hs) (S.At (record { node = a .m .node; at = a .m .len; new = nodesIn (a .books .now) }))
+    (g .ensures (path z) (S.At (record { node = a .m .node; at = a .m .len; new = nodesIn (a .books .now) }))
     (rangesOf (f .last .1 .1 .1 .1 .1 .0) (f .last .1 .1 .1 .1 .1 .1 .0) (f .last .1 .1 .1 .1 .1 .1 .1 .0) (f .last .1 .1 .1 .1 .1 .1 .1 .1 .0) (f .last .1 .1 .1 .1 .1 .1 .1 .1 .1 .0) (f .last .1 .1 .1 .1 .1 .1 .1 .1 .1 .1 .0) (f .last .1 .1 .1 .1 .1 .1 .1 .1 .1 .1 .1 .0)) (pinsOf (f .last .1 .1 .1 .1 .1 .1 .1 .1 .1 .1 .1 .1 .0) (f .last .1 .1 .1 .1 .1 .1 .1 .1 .1 .1 .1 .1 .1 .0) (f .last .1 .1 .1 .1 .1 .1 .1 .1 .1 .1 .1 .1 .1 .1 .0) (f .last .1 .1 .1 .1 .1 .1 .1 .1 .1 .1 .1 .1 .1 .1 .1 .0)) (f .last .1 .1 .1 .1 .1 .1 .1 .1 .1 .1 .1 .1 .1 .1 .1 .1 .0) (a .bytes .now) (z .pre .path))
 
 pub insert-found-spec : {M : Type 1} → statement M
 insert-found-spec =
     tie.close
     (tie.spec
-    lay-path-requires (λ c. c .before .before .before .before .lay-path .kept .0) (λ c. c .before .before .before .before .lay-path .kept .1 .0)
-    returns add-segs mul-if2 slice-read-if2 add-rest-requires (λ c. after-add-rest c .add-rest .kept .0) (λ c. after-add-rest c .add-rest .kept .1 .0)
+    (λ c κs. path-room (entry-2 c .pre)) (λ c. c .before .before .before .before .lay-path .kept .0)
+    (λ c. c .before .before .before .before .lay-path .kept .1 .0) returns add-segs
+    (λ c. omega (arith, node-small (entry c .pre) (c .before .if1 .left))) (λ c. node-in (entry (c .before) .pre) (c .before .before .if1 .left))
+    add-rest-requires (λ c. after-add-rest c .add-rest .kept .0) (λ c. after-add-rest c .add-rest .kept .1 .0)
     (λ c. after-add-rest c .add-rest .kept .1 .1 .0) (λ c. after-add-rest c .add-rest .kept .1 .1 .1 .0)
     (λ c. after-add-rest c .add-rest .kept .1 .1 .1 .1 .0) (λ c. after-add-rest c .add-rest .kept .1 .1 .1 .1 .1 .0)
     (λ c. after-add-rest c .add-rest .kept .1 .1 .1 .1 .1 .1 .0) (λ c. after-add-rest c .add-rest .kept .1 .1 .1 .1 .1 .1 .1 .0) returns-2
-    (λ c. omega (arith, entry (c .before .before .before) .pre .sound .lent .books)) cut-all-requires add-rest-requires-2
+    (λ c. omega (arith, entry (c .before .before .before) .pre .sound .lent .books))
+    (λ c κs. cut-asks (entry-4 c .pre) (else1-2 c .if1 .left) (else2 c .if2 .left)) add-rest-requires-2
     (λ c. after-add-rest2 c .add-rest2 .kept .0 ∙ after-cut-all-2 c .cut-all .kept .0)
     (λ c. after-add-rest2 c .add-rest2 .kept .1 .0 ∙ after-cut-all-2 c .cut-all .kept .1 .0)
     (λ c. after-add-rest2 c .add-rest2 .kept .1 .1 .0 ∙ after-cut-all-2 c .cut-all .kept .1 .1 .0)

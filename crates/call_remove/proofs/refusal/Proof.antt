@@ -1,6 +1,8 @@
--- `call_remove::refusal` meets its contract: each test gives its number where those before it fail. Assumes nothing.
+-- `call_remove::refusal` meets its contract: the test of 4 gives its number, and where it fails, the need decides. Assumes nothing.
+use mathlib.Core.Path.{sym, _∙_}
 use native.Mathlib.Omega.{arith}
-use Rattle.call_remove.proofs.Laws.{records-fit, id-fits, none-zero, nodes-fit, placed-in, sums-fit, span-good, refused-span, refused-records, refused-late, accepted}
+use Rattle.test_arguments.proofs.Need.{number-fits}
+use Rattle.call_remove.proofs.Laws.{none-zero, nodes-fit, placed-in, need-asked, span-good, refused-span, need-refused}
 use Rattle.call_remove.proofs.refusal.Statement.{statement}
 use Rattle.call_remove.proofs.refusal.Tie as tie
 
@@ -9,34 +11,26 @@ returns c =
     let z = c .before .before .before .before .before .before in
     (λ st l v long. refused-span v (z .args .sp) l long (c .before .span-in .ensures) (c .if1 .taken), none-zero (omega arith))
 
-add-if2 : tie.Need-add-if2
-add-if2 c =
-    let z = c .before .before .before .before .before .before .before in
-    records-fit (sums-fit (z .pre .1) (z .args .sp) (span-good (z .pre .1) (z .args .sp) (c .before .before .span-in .ensures) (c .before .if1 .left)) (c .need-at .result) (c .need-at .ensures))
+span-in-requires : tie.Need-span-in-requires
+span-in-requires c κs = nodes-fit (c .before .before .before .before .pre .1)
+
+need-at-requires : tie.Need-need-at-requires
+need-at-requires c κs = placed-in (c .before .before .before .before .before .before .pre .1)
+
+need-number-requires : tie.Need-need-number-requires
+need-number-requires c κs = need-asked (c .before .before .before .before .before .before .before .pre .1)
 
 returns-2 : tie.Need-returns-2
 returns-2 c =
     let z = c .before .before .before .before .before .before .before .before in
-    (λ st l v long. refused-records v (z .args .sp) l long (span-good v (z .args .sp) (c .before .before .before .span-in .ensures) (c .before .before .if1 .left)) (c .before .need-at .result) (c .before .need-at .ensures) (c .if2 .taken), none-zero (omega arith))
-
-add-if3 : tie.Need-add-if3
-add-if3 c =
-    let z = c .before .before .before .before .before .before .before .before in
-    id-fits (sums-fit (z .pre .1) (z .args .sp) (span-good (z .pre .1) (z .args .sp) (c .before .before .before .span-in .ensures) (c .before .before .if1 .left)) (c .before .need-at .result) (c .before .need-at .ensures))
-
-returns-3 : tie.Need-returns-3
-returns-3 c =
-    let z = c .before .before .before .before .before .before .before .before .before in
-    (λ st l v long. refused-late v (z .args .sp) l long (span-good v (z .args .sp) (c .before .before .before .before .span-in .ensures) (c .before .before .before .if1 .left)) (c .before .before .need-at .result) (c .before .before .need-at .ensures) (c .before .if2 .left) (c .if3 .taken), none-zero (omega arith))
-
-returns-4 : tie.Need-returns-4
-returns-4 c =
-    let z = c .before .before .before .before .before .before .before .before .before in
-    (λ st l v long. accepted v (z .args .sp) l long (span-good v (z .args .sp) (c .before .before .before .before .span-in .ensures) (c .before .before .before .if1 .left)) (c .before .before .need-at .result) (c .before .before .need-at .ensures) (c .before .if2 .left) (c .if3 .left), λ e. record { need = c .before .before .need-at .result; are = c .before .before .need-at .ensures; records = c .before .if2 .left })
+    let f = c .before .need-at in (
+      λ st l v long. need-refused v (z .args .sp) l long (span-good v (z .args .sp) (c .before .before .before .span-in .ensures) (c .before .before .if1 .left)) (f .result) (f .ensures) (c .need-number .ensures),
+      λ e. record {
+        need = f .result;
+        are = f .ensures;
+        records = number-fits (z .args .n) (f .result) 0 0 (z .args .next) (sym e ∙ c .need-number .ensures) .0;
+      },
+    )
 
 pub refusal-spec : {M : Type 1} → statement M
-refusal-spec =
-    tie.close
-    (tie.spec
-    (λ c κs. nodes-fit (c .before .before .before .before .pre .1)) returns
-    (λ c κs. placed-in (c .before .before .before .before .before .before .pre .1)) add-if2 returns-2 add-if3 returns-3 returns-4)
+refusal-spec = tie.close (tie.spec span-in-requires returns need-at-requires need-number-requires returns-2)

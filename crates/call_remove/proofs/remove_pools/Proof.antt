@@ -1,10 +1,10 @@
 -- `call_remove::remove_pools` meets its contract: the store's part of each pool is lent on, and what was laid into the part is laid into the pool. Assumes nothing.
-use Prim.Native.Nat.{_+_, _-_, _*_}
+use Prim.Native.Nat.{_*_}
 use native.Mathlib.Nat.{le-add-right, add-sub-cancel-left}
-use borrow.Rule.Slice.PartMut.{same-len-mid}
 use Rattle.shape_state.specs.Lent.{rangesOf}
 use Rattle.pool_part.specs.Parts.{midRanges, backRanges}
 use Rattle.pool_part.proofs.Bounds.{rec-fits, rec-end-fits, rec-fits8, rec-fits4, rec-ends, mark-fits, mark-end-fits, mark-fits8, mark-ends}
+use Rattle.pool_part.proofs.Parts.{part-kept}
 use Rattle.call_remove.proofs.Laws.{pool-sized, pool-span, pool-fits, pool-freed}
 use Rattle.call_remove.proofs.remove_pools.Statement.{statement}
 use Rattle.call_remove.proofs.remove_pools.Tie as tie
@@ -35,54 +35,6 @@ store-remove-requires c κs =
     let s = z .args .s in
     (pool-sized (z .pre) _ (add-sub-cancel-left (128 * s) 128), (pool-span (z .pre) _ (add-sub-cancel-left (256 * s) 256), pool-fits (z .pre) _ (add-sub-cancel-left (128 * s) 128)))
 
-same-length : tie.Need-same-length
-same-length c =
-    let z = entry-2 c in
-    let k = after-store-remove c .store-remove in
-    same-len-mid (128 * z .args .s) ((128 * z .args .s + 128) - 128 * z .args .s) (z .args .node .now) (k .last .0) (k .kept .0)
-
-same-length-2 : tie.Need-same-length-2
-same-length-2 c =
-    let z = entry-2 c in
-    let k = after-store-remove c .store-remove in
-    same-len-mid (128 * z .args .s) ((128 * z .args .s + 128) - 128 * z .args .s) (z .args .start .now) (k .last .1 .0) (k .kept .1 .0)
-
-same-length-3 : tie.Need-same-length-3
-same-length-3 c =
-    let z = entry-2 c in
-    let k = after-store-remove c .store-remove in
-    same-len-mid (128 * z .args .s) ((128 * z .args .s + 128) - 128 * z .args .s) (z .args .end .now) (k .last .1 .1 .0) (k .kept .1 .1 .0)
-
-same-length-4 : tie.Need-same-length-4
-same-length-4 c =
-    let z = entry-2 c in
-    let k = after-store-remove c .store-remove in
-    same-len-mid (128 * z .args .s) ((128 * z .args .s + 128) - 128 * z .args .s) (z .args .id .now) (k .last .1 .1 .1 .0) (k .kept .1 .1 .1 .0)
-
-same-length-5 : tie.Need-same-length-5
-same-length-5 c =
-    let z = entry-2 c in
-    let k = after-store-remove c .store-remove in
-    same-len-mid (128 * z .args .s) ((128 * z .args .s + 128) - 128 * z .args .s) (z .args .stamp .now) (k .last .1 .1 .1 .1 .0) (k .kept .1 .1 .1 .1 .0)
-
-same-length-6 : tie.Need-same-length-6
-same-length-6 c =
-    let z = entry-2 c in
-    let k = after-store-remove c .store-remove in
-    same-len-mid (128 * z .args .s) ((128 * z .args .s + 128) - 128 * z .args .s) (z .args .touched .now) (k .last .1 .1 .1 .1 .1 .0) (k .kept .1 .1 .1 .1 .1 .0)
-
-same-length-7 : tie.Need-same-length-7
-same-length-7 c =
-    let z = entry-2 c in
-    let k = after-store-remove c .store-remove in
-    same-len-mid (128 * z .args .s) ((128 * z .args .s + 128) - 128 * z .args .s) (z .args .write .now) (k .last .1 .1 .1 .1 .1 .1 .0) (k .kept .1 .1 .1 .1 .1 .1 .0)
-
-same-length-8 : tie.Need-same-length-8
-same-length-8 c =
-    let z = entry-2 c in
-    let k = after-store-remove c .store-remove in
-    same-len-mid (256 * z .args .s) ((256 * z .args .s + 256) - 256 * z .args .s) (z .args .marks .now) (k .last .1 .1 .1 .1 .1 .1 .1 .0) (k .kept .1 .1 .1 .1 .1 .1 .1 .0)
-
 returns : tie.Need-returns
 unfolding midRanges backRanges
 returns c =
@@ -100,28 +52,24 @@ remove-pools-spec =
     (λ c. rec-end-fits (c .before .before .before .before .before .before .before .before .before .pre .placed .store))
     (λ c. mark-fits (c .before .before .before .before .before .before .before .before .before .pre .placed .store))
     (λ c. mark-end-fits (c .before .before .before .before .before .before .before .before .before .pre .placed .store))
-    (λ c. rec-fits8 (c .before .before .before .before .before .before .before .before .before .pre .placed .store))
-    (λ c. le-add-right (128 * c .before .before .before .before .before .before .before .before .before .args .s) 128)
-    (λ c. le-add-right (128 * c .before .before .before .before .before .before .before .before .before .args .s) 128) part-store-remove-end
-    (λ c. rec-fits8 (entry c .pre .placed .store)) (λ c. le-add-right (128 * entry c .args .s) 128) (λ c. le-add-right (128 * entry c .args .s) 128)
+    (λ c. rec-fits8 (c .before .before .before .before .before .before .before .before .before .pre .placed .store)) (λ c. le-add-right _ _)
+    (λ c. le-add-right _ _) part-store-remove-end (λ c. rec-fits8 (entry c .pre .placed .store)) (λ c. le-add-right _ _) (λ c. le-add-right _ _)
     (λ c. rec-ends (entry c .pre .placed .store) (entry c .pre .lent .start)) (λ c. rec-fits8 (entry (c .before) .pre .placed .store))
-    (λ c. le-add-right (128 * entry (c .before) .args .s) 128) (λ c. le-add-right (128 * entry (c .before) .args .s) 128)
-    (λ c. rec-ends (entry (c .before) .pre .placed .store) (entry (c .before) .pre .lent .end))
-    (λ c. rec-fits8 (entry (c .before .before) .pre .placed .store)) (λ c. le-add-right (128 * entry (c .before .before) .args .s) 128)
-    (λ c. le-add-right (128 * entry (c .before .before) .args .s) 128)
+    (λ c. le-add-right _ _) (λ c. le-add-right _ _) (λ c. rec-ends (entry (c .before) .pre .placed .store) (entry (c .before) .pre .lent .end))
+    (λ c. rec-fits8 (entry (c .before .before) .pre .placed .store)) (λ c. le-add-right _ _) (λ c. le-add-right _ _)
     (λ c. rec-ends (entry (c .before .before) .pre .placed .store) (entry (c .before .before) .pre .lent .id))
-    (λ c. rec-fits8 (entry (c .before .before .before) .pre .placed .store)) (λ c. le-add-right (128 * entry (c .before .before .before) .args .s) 128)
-    (λ c. le-add-right (128 * entry (c .before .before .before) .args .s) 128)
+    (λ c. rec-fits8 (entry (c .before .before .before) .pre .placed .store)) (λ c. le-add-right _ _) (λ c. le-add-right _ _)
     (λ c. rec-ends (entry (c .before .before .before) .pre .placed .store) (entry (c .before .before .before) .pre .lent .stamp))
-    (λ c. rec-fits8 (entry (c .before .before .before .before) .pre .placed .store))
-    (λ c. le-add-right (128 * entry (c .before .before .before .before) .args .s) 128)
-    (λ c. le-add-right (128 * entry (c .before .before .before .before) .args .s) 128)
+    (λ c. rec-fits8 (entry (c .before .before .before .before) .pre .placed .store)) (λ c. le-add-right _ _) (λ c. le-add-right _ _)
     (λ c. rec-ends (entry (c .before .before .before .before) .pre .placed .store) (entry (c .before .before .before .before) .pre .lent .touched))
-    (λ c. rec-fits4 (entry (c .before .before .before .before .before) .pre .placed .store))
-    (λ c. le-add-right (128 * entry (c .before .before .before .before .before) .args .s) 128)
-    (λ c. le-add-right (128 * entry (c .before .before .before .before .before) .args .s) 128) part-store-remove-end-7
-    (λ c. mark-fits8 (entry (c .before .before .before .before .before .before) .pre .placed .store))
-    (λ c. le-add-right (256 * entry (c .before .before .before .before .before .before) .args .s) 256)
-    (λ c. le-add-right (256 * entry (c .before .before .before .before .before .before) .args .s) 256) part-store-remove-end-8 store-remove-requires
-    same-length same-length-2 same-length-3 same-length-4 same-length-5 same-length-6 same-length-7 same-length-8
+    (λ c. rec-fits4 (entry (c .before .before .before .before .before) .pre .placed .store)) (λ c. le-add-right _ _) (λ c. le-add-right _ _)
+    part-store-remove-end-7 (λ c. mark-fits8 (entry (c .before .before .before .before .before .before) .pre .placed .store)) (λ c. le-add-right _ _)
+    (λ c. le-add-right _ _) part-store-remove-end-8 store-remove-requires (λ c. part-kept 128 (entry-2 c .args .s) (entry-2 c .args .node .now) (after-store-remove c .store-remove .last .0) (after-store-remove c .store-remove .kept .0))
+    (λ c. part-kept 128 (entry-2 c .args .s) (entry-2 c .args .start .now) (after-store-remove c .store-remove .last .1 .0) (after-store-remove c .store-remove .kept .1 .0))
+    (λ c. part-kept 128 (entry-2 c .args .s) (entry-2 c .args .end .now) (after-store-remove c .store-remove .last .1 .1 .0) (after-store-remove c .store-remove .kept .1 .1 .0))
+    (λ c. part-kept 128 (entry-2 c .args .s) (entry-2 c .args .id .now) (after-store-remove c .store-remove .last .1 .1 .1 .0) (after-store-remove c .store-remove .kept .1 .1 .1 .0))
+    (λ c. part-kept 128 (entry-2 c .args .s) (entry-2 c .args .stamp .now) (after-store-remove c .store-remove .last .1 .1 .1 .1 .0) (after-store-remove c .store-remove .kept .1 .1 .1 .1 .0))
+    (λ c. part-kept 128 (entry-2 c .args .s) (entry-2 c .args .touched .now) (after-store-remove c .store-remove .last .1 .1 .1 .1 .1 .0) (after-store-remove c .store-remove .kept .1 .1 .1 .1 .1 .0))
+    (λ c. part-kept 128 (entry-2 c .args .s) (entry-2 c .args .write .now) (after-store-remove c .store-remove .last .1 .1 .1 .1 .1 .1 .0) (after-store-remove c .store-remove .kept .1 .1 .1 .1 .1 .1 .0))
+    (λ c. part-kept 256 (entry-2 c .args .s) (entry-2 c .args .marks .now) (after-store-remove c .store-remove .last .1 .1 .1 .1 .1 .1 .1 .0) (after-store-remove c .store-remove .kept .1 .1 .1 .1 .1 .1 .1 .0))
     (λ c. after-store-remove c .store-remove .kept .1 .1 .1 .1 .1 .1 .1 .1 .0) returns)

@@ -24,14 +24,14 @@ abbrev state : tie.Start → State
 state z = stateOf (T z (nodesIn (z .args .books .now)) (usedIn (z .args .books .now))) (records z) (entries z) (z .args .marks .now) (z .args .bytes .now) (z .args .books .now)
 
 -- earlier places of the function, by name
-abbrev entry′ : tie.After-slice-known11 → tie.Start
-entry′ c = c .before .before .before .before .before .before .before .before .before .before .before .before .before .before .before .before .before .before .before .before .before
+abbrev entry : tie.After-slice-known11 → tie.Start
+entry c = c .before .before .before .before .before .before .before .before .before .before .before .before .before .before .before .before .before .before .before .before .before
 
 abbrev else1 : tie.Then2 → tie.Else1
 else1 c = c .before .before .before .before .before .before .before .before .before .before
 
 abbrev entry-2 : tie.Then2 → tie.Start
-entry-2 c = entry′ (c .before .before .before .before .before .before .before .before .before .before .before)
+entry-2 c = entry (c .before .before .before .before .before .before .before .before .before .before .before)
 
 abbrev after-refusal : tie.After-remove-pools-arg9 → tie.After-refusal
 after-refusal c = c .before .before .before .before .before .before .before .before .before .before
@@ -43,7 +43,7 @@ abbrev else1-2 : tie.After-remove-pools-arg9 → tie.Else1
 else1-2 c = after-book-of c .before .before .before .before .before
 
 abbrev entry-3 : tie.After-remove-pools-arg9 → tie.Start
-entry-3 c = entry′ (c .before .before .before .before .before .before .before .before .before .before .before .before .before .before .before .before .before .before .before .before)
+entry-3 c = entry (c .before .before .before .before .before .before .before .before .before .before .before .before .before .before .before .before .before .before .before .before)
 
 abbrev after-remove-pools : tie.After-struct-known2 → tie.After-remove-pools
 after-remove-pools c = c .before .before .before .before .before .before .before .before .before .before .before .before .before .before .before .before .before .before .before .before
@@ -62,14 +62,14 @@ entry-4 c = entry-3 (c .before .before .before .before .before .before .before .
 
 returns : tie.Need-returns
 returns c =
-    let z = entry′ (c .before) in
+    let z = entry (c .before) in
     call-refused (state z) (z .args .list .now) (z .args .s) (z .args .sp) 2 (refused-store (state z) (z .args .list .now) (z .args .s) (z .args .sp) (z .pre .0) (z .pre .1) (c .if1 .taken)) (λ e. omega arith)
 
 book-of-requires : tie.Need-book-of-requires
-book-of-requires c κs = let z = entry′ (c .before .before .before .before .before) in asked (state z) (z .args .s) (z .pre .0) (c .before .before .before .before .if1 .left)
+book-of-requires c κs = let z = entry (c .before .before .before .before .before) in asked (state z) (z .args .s) (z .pre .0) (c .before .before .before .before .if1 .left)
 
 refusal-requires : tie.Need-refusal-requires
-refusal-requires c κs = let z = entry′ (c .before .before .before .before .before .before .before .before .before) in (state z, seen (state z) (z .args .s) (z .pre .0) (c .before .before .before .before .before .before .before .before .if1 .left) (c .before .before .before .book-of .result) (c .before .before .before .book-of .ensures))
+refusal-requires c κs = let z = entry (c .before .before .before .before .before .before .before .before .before) in (state z, seen (state z) (z .args .s) (z .pre .0) (c .before .before .before .before .before .before .before .before .if1 .left) (c .before .before .before .book-of .result) (c .before .before .before .book-of .ensures))
 
 returns-2 : tie.Need-returns-2
 returns-2 c = let z = entry-2 c in call-refused (state z) (z .args .list .now) (z .args .s) (z .args .sp) (c .before .refusal .result) (c .before .refusal .ensures .0 (state z) (z .args .list .now) (seen (state z) (z .args .s) (z .pre .0) (else1 c .if1 .left) (c .before .before .before .before .before .book-of .result) (c .before .before .before .before .before .book-of .ensures)) (z .pre .1)) (c .if2 .taken)
@@ -104,9 +104,9 @@ pub store-remove-spec : {M : Type 1} → statement M
 store-remove-spec =
     tie.close
     (tie.spec
-    (λ c. omega (arith, entry′ c .pre .0 .lent .books)) returns (λ c. omega (arith, entry′ (c .before .before) .pre .0 .lent .books))
-    (λ c. omega (arith, entry′ (c .before .before .before) .pre .0 .lent .books))
-    (λ c. omega (arith, entry′ (c .before .before .before .before) .pre .0 .lent .books)) book-of-requires refusal-requires (λ c. refl) (λ c. refl)
+    (λ c. omega (arith, entry c .pre .0 .lent .books)) returns (λ c. omega (arith, entry (c .before .before) .pre .0 .lent .books))
+    (λ c. omega (arith, entry (c .before .before .before) .pre .0 .lent .books))
+    (λ c. omega (arith, entry (c .before .before .before .before) .pre .0 .lent .books)) book-of-requires refusal-requires (λ c. refl) (λ c. refl)
     (λ c. refl) (λ c. refl) returns-2 remove-pools-requires sub-b (λ c κs. tt)
     (λ c κs. let z = entry-4 (c .before .before) in asked (state z) (z .args .s) (z .pre .0) (else1-3 (c .before .before) .if1 .left)) add-put-next
     put-next-requires (λ c. after-remove-pools (c .before .before .before .before .before .before .before .before .before) .remove-pools .kept .0)

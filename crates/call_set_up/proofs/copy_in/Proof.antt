@@ -3,7 +3,7 @@ use Prim.Native.Nat.{_-_}
 use mathlib.Core.Path.{refl}
 use lib.ListN.{length}
 use borrow.Author.Needs.{needs}
-use Rattle.call_set_up.proofs.Copy.{Copied, copied-none, copied-more, copied-all}
+use Rattle.pool_mark.proofs.Copy.{Copied, copied-none, copied-more, copied-all}
 use Rattle.call_set_up.proofs.copy_in.Statement.{statement}
 use Rattle.call_set_up.proofs.copy_in.Tie as tie
 

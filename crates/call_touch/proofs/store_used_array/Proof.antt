@@ -108,9 +108,9 @@ returns-3 c =
     let w = k .ensures (others (z .args .parent .now) (z .args .len .now) (z .args .run .now) (z .args .words .now) (z .args .pin-node .now) (z .args .pin-start .now) (z .args .pin-end .now) (z .args .pin-count .now)) (z .args .books .now) q in
     let room = room-array (z .args .spans) (says-yes (else2 c .before .roomy .result) (else2 c .if2 .left) (else2 c .before .roomy .ensures)) in
     went-done (others (z .args .parent .now) (z .args .len .now) (z .args .run .now) (z .args .words .now) (z .args .pin-node .now) (z .args .pin-start .now) (z .args .pin-end .now) (z .args .pin-count .now)) (z .args .books .now) (take (z .args .count) (z .args .spans)) (z .args .depth .now) (z .args .bytes .now) (rangesOf (z .args .node .now) (z .args .start .now) (z .args .end .now) (z .args .id .now) (z .args .stamp .now) (z .args .touched .now) (z .args .write .now)) (z .args .marks .now) (z .args .s) _ (z .args .time) (z .args .counted) _ q
-    (rangesOf (k .last .0) (k .last .1 .0) (k .last .1 .1 .0) (k .last .1 .1 .1 .0) (k .last .1 .1 .1 .1 .0) (k .last .1 .1 .1 .1 .1 .0) (k .last .1 .1 .1 .1 .1 .1 .0)) (k .last .1 .1 .1 .1 .1 .1 .1 .0) (k .result) w (c .before .before .put-run .last .0) (c .before .before .put-run .ensures)
+    (rangesOf (k .last .1 .0) (k .last .1 .1 .0) (k .last .1 .1 .1 .0) (k .last .1 .1 .1 .1 .0) (k .last .1 .1 .1 .1 .1 .0) (k .last .1 .1 .1 .1 .1 .1 .0) (k .last .1 .1 .1 .1 .1 .1 .1 .0)) (k .last .1 .1 .1 .1 .1 .1 .1 .1 .0) (k .result) w (c .before .before .put-run .last .0) (c .before .before .put-run .ensures)
     (roomy-none (others (z .args .parent .now) (z .args .len .now) (z .args .run .now) (z .args .words .now) (z .args .pin-node .now) (z .args .pin-start .now) (z .args .pin-end .now) (z .args .pin-count .now)) (z .args .books .now) (take (z .args .count) (z .args .spans)) (z .args .depth .now) (z .args .bytes .now) (rangesOf (z .args .node .now) (z .args .start .now) (z .args .end .now) (z .args .id .now) (z .args .stamp .now) (z .args .touched .now) (z .args .write .now)) (z .args .marks .now) (z .args .s) _ (z .args .time) (z .args .counted) _ q
-    (rangesOf (k .last .0) (k .last .1 .0) (k .last .1 .1 .0) (k .last .1 .1 .1 .0) (k .last .1 .1 .1 .1 .0) (k .last .1 .1 .1 .1 .1 .0) (k .last .1 .1 .1 .1 .1 .1 .0)) (k .last .1 .1 .1 .1 .1 .1 .1 .0) (k .result) w room)
+    (rangesOf (k .last .1 .0) (k .last .1 .1 .0) (k .last .1 .1 .1 .0) (k .last .1 .1 .1 .1 .0) (k .last .1 .1 .1 .1 .1 .0) (k .last .1 .1 .1 .1 .1 .1 .0) (k .last .1 .1 .1 .1 .1 .1 .1 .0)) (k .last .1 .1 .1 .1 .1 .1 .1 .1 .0) (k .result) w room)
 
 pub store-used-array-spec : {M : Type 1} → statement M
 store-used-array-spec =
@@ -118,13 +118,13 @@ store-used-array-spec =
     (tie.spec
     (λ c. omega (arith, entry c .pre .0 .lent .books)) (λ c. omega (arith, entry (c .before) .pre .0 .lent .books)) first-refusal-requires returns
     book-of-requires (λ c. omega (arith, entry (c .before .before .before .before .before .before .before) .pre .0 .lent .books)) roomy-requires
-    touch-kept-requires (λ c. after-touch-kept c .touch-kept .kept .0) (λ c. after-touch-kept c .touch-kept .kept .1 .0)
-    (λ c. after-touch-kept c .touch-kept .kept .1 .1 .0) (λ c. after-touch-kept c .touch-kept .kept .1 .1 .1 .0)
-    (λ c. after-touch-kept c .touch-kept .kept .1 .1 .1 .1 .0) (λ c. after-touch-kept c .touch-kept .kept .1 .1 .1 .1 .1 .0)
-    (λ c. after-touch-kept c .touch-kept .kept .1 .1 .1 .1 .1 .1 .0) (λ c. after-touch-kept c .touch-kept .kept .1 .1 .1 .1 .1 .1 .1 .0)
+    touch-kept-requires (λ c. after-touch-kept c .touch-kept .kept .1 .0) (λ c. after-touch-kept c .touch-kept .kept .1 .1 .0)
+    (λ c. after-touch-kept c .touch-kept .kept .1 .1 .1 .0) (λ c. after-touch-kept c .touch-kept .kept .1 .1 .1 .1 .0)
+    (λ c. after-touch-kept c .touch-kept .kept .1 .1 .1 .1 .1 .0) (λ c. after-touch-kept c .touch-kept .kept .1 .1 .1 .1 .1 .1 .0)
+    (λ c. after-touch-kept c .touch-kept .kept .1 .1 .1 .1 .1 .1 .1 .0) (λ c. after-touch-kept c .touch-kept .kept .1 .1 .1 .1 .1 .1 .1 .1 .0)
     (λ c. after-touch-kept c .touch-kept .kept .1 .1 .1 .1 .1 .1 .1 .1 .1 .1 .0) returns-2 take-turns-requires put-run-requires
-    (λ c. after-take-turns c .take-turns .kept .0) (λ c. after-take-turns c .take-turns .kept .1 .0)
-    (λ c. after-take-turns c .take-turns .kept .1 .1 .0) (λ c. after-take-turns c .take-turns .kept .1 .1 .1 .0)
-    (λ c. after-take-turns c .take-turns .kept .1 .1 .1 .1 .0) (λ c. after-take-turns c .take-turns .kept .1 .1 .1 .1 .1 .0)
-    (λ c. after-take-turns c .take-turns .kept .1 .1 .1 .1 .1 .1 .0) (λ c. after-take-turns c .take-turns .kept .1 .1 .1 .1 .1 .1 .1 .0)
+    (λ c. after-take-turns c .take-turns .kept .1 .0) (λ c. after-take-turns c .take-turns .kept .1 .1 .0)
+    (λ c. after-take-turns c .take-turns .kept .1 .1 .1 .0) (λ c. after-take-turns c .take-turns .kept .1 .1 .1 .1 .0)
+    (λ c. after-take-turns c .take-turns .kept .1 .1 .1 .1 .1 .0) (λ c. after-take-turns c .take-turns .kept .1 .1 .1 .1 .1 .1 .0)
+    (λ c. after-take-turns c .take-turns .kept .1 .1 .1 .1 .1 .1 .1 .0) (λ c. after-take-turns c .take-turns .kept .1 .1 .1 .1 .1 .1 .1 .1 .0)
     (λ c. c .before .before .put-run .kept .0) returns-3)

@@ -14,13 +14,13 @@ use Rattle.call_touch.proofs.take_turns.Statement.{statement}
 use Rattle.call_touch.proofs.take_turns.Tie as tie
 
 abbrev Inv-loop : tie.InvT-loop
-Inv-loop node₀ start₀ end₀ id₀ stamp₀ touched₀ write₀ marks₀ depth bytes s refreshes count time counted spans y j₀ node start end id stamp touched write marks z j =
+Inv-loop depth node₀ start₀ end₀ id₀ stamp₀ touched₀ write₀ marks₀ bytes s refreshes count time counted spans y j₀ node start end id stamp touched write marks z j =
     (length spans ≡ 64) × AsLong (rangesOf node₀ start₀ end₀ id₀ stamp₀ touched₀ write₀) marks₀ (rangesOf node start end id stamp touched write) marks × (z .number ≡ 0) × (j ≤ count)
     × ((o : Others) (x : List ℕ) → Starts o x (take count spans) depth bytes (rangesOf node₀ start₀ end₀ id₀ stamp₀ touched₀ write₀) marks₀ s refreshes time counted y
     → Running o x (take count spans) depth bytes (rangesOf node₀ start₀ end₀ id₀ stamp₀ touched₀ write₀) marks₀ s refreshes time counted j (rangesOf node start end id stamp touched write) marks z)
 
 abbrev μ-loop : tie.MeasureT-loop
-μ-loop node₀ start₀ end₀ id₀ stamp₀ touched₀ write₀ marks₀ depth bytes s refreshes count time counted spans y j₀ node start end id stamp touched write marks z j = count - j
+μ-loop depth node₀ start₀ end₀ id₀ stamp₀ touched₀ write₀ marks₀ bytes s refreshes count time counted spans y j₀ node start end id stamp touched write marks z j = count - j
 
 -- earlier places of the function, by name
 abbrev entry : tie.After-shared-slice-known2 Inv-loop μ-loop → tie.Start Inv-loop μ-loop
@@ -76,7 +76,7 @@ returns c =
     let t = in-loop c .loop-test .taken in
     let k = after-one-turn-2 c .one-turn in
     λ o x q. running-stop o x (take (z .args .count) (z .args .t13)) (z .args .depth .now) (z .args .bytes .now) (rangesOf (z .args .node .now) (z .args .start .now) (z .args .end .now) (z .args .id .now) (z .args .stamp .now) (z .args .touched .now) (z .args .write .now)) (z .args .marks .now) (z .args .s) (z .args .refreshes) (z .args .time) (z .args .counted) (z .args .y) q (l .j) (rangesOf (l .node) (l .start) (l .end) (l .id) (l .stamp) (l .touched) (l .write)) (l .marks) (l .z) (l .inv .4 o x q) _ (array-in _ _ (l .inv .0) (z .pre .1) t)
-    (array-at (z .args .t13) (z .args .count) (l .inv .0) (z .pre .1) (l .j) _ t) (rangesOf (k .last .1 .0) (k .last .1 .1 .0) (k .last .1 .1 .1 .0) (k .last .1 .1 .1 .1 .0) (k .last .1 .1 .1 .1 .1 .0) (k .last .1 .1 .1 .1 .1 .1 .0) (k .last .1 .1 .1 .1 .1 .1 .1 .0)) (k .last .1 .1 .1 .1 .1 .1 .1 .1 .0) (k .result)
+    (array-at (z .args .t13) (z .args .count) (l .inv .0) (z .pre .1) (l .j) _ t) (rangesOf (k .last .1 .1 .0) (k .last .1 .1 .1 .0) (k .last .1 .1 .1 .1 .0) (k .last .1 .1 .1 .1 .1 .0) (k .last .1 .1 .1 .1 .1 .1 .0) (k .last .1 .1 .1 .1 .1 .1 .1 .0) (k .last .1 .1 .1 .1 .1 .1 .1 .1 .0)) (k .last .1 .1 .1 .1 .1 .1 .1 .1 .1 .0) (k .result)
     (k .ensures o (booksWith (z .args .s) (l .z) x) (running-at o x (take (z .args .count) (z .args .t13)) (z .args .depth .now) (z .args .bytes .now) (rangesOf (z .args .node .now) (z .args .start .now) (z .args .end .now) (z .args .id .now) (z .args .stamp .now) (z .args .touched .now) (z .args .write .now)) (z .args .marks .now) (z .args .s) (z .args .refreshes) (z .args .time) (z .args .counted) (z .args .y) q (l .j) (rangesOf (l .node) (l .start) (l .end) (l .id) (l .stamp) (l .touched) (l .write)) (l .marks) (l .z) (l .inv .4 o x q) _ (array-in _ _ (l .inv .0) (z .pre .1) t)
     (array-at (z .args .t13) (z .args .count) (l .inv .0) (z .pre .1) (l .j) _ t))) (c .if1 .taken)
 
@@ -87,11 +87,11 @@ loop-again c =
     let t = in-loop-2 c .loop-test .taken in
     let k = after-one-turn c .one-turn in (
       l .inv .0,
-      record { node = k .kept .1 .0 ∙ l .inv .1 .node; start = k .kept .1 .1 .0 ∙ l .inv .1 .start; end = k .kept .1 .1 .1 .0 ∙ l .inv .1 .end; id = k .kept .1 .1 .1 .1 .0 ∙ l .inv .1 .id; stamp = k .kept .1 .1 .1 .1 .1 .0 ∙ l .inv .1 .stamp; touched = k .kept .1 .1 .1 .1 .1 .1 .0 ∙ l .inv .1 .touched; write = k .kept .1 .1 .1 .1 .1 .1 .1 .0 ∙ l .inv .1 .write; marks = k .kept .1 .1 .1 .1 .1 .1 .1 .1 .0 ∙ l .inv .1 .marks },
+      record { node = k .kept .1 .1 .0 ∙ l .inv .1 .node; start = k .kept .1 .1 .1 .0 ∙ l .inv .1 .start; end = k .kept .1 .1 .1 .1 .0 ∙ l .inv .1 .end; id = k .kept .1 .1 .1 .1 .1 .0 ∙ l .inv .1 .id; stamp = k .kept .1 .1 .1 .1 .1 .1 .0 ∙ l .inv .1 .stamp; touched = k .kept .1 .1 .1 .1 .1 .1 .1 .0 ∙ l .inv .1 .touched; write = k .kept .1 .1 .1 .1 .1 .1 .1 .1 .0 ∙ l .inv .1 .write; marks = k .kept .1 .1 .1 .1 .1 .1 .1 .1 .1 .0 ∙ l .inv .1 .marks },
       c .if1 .left,
       omega (arith, t),
       λ o x q. running-next o x (take (z .args .count) (z .args .t13)) (z .args .depth .now) (z .args .bytes .now) (rangesOf (z .args .node .now) (z .args .start .now) (z .args .end .now) (z .args .id .now) (z .args .stamp .now) (z .args .touched .now) (z .args .write .now)) (z .args .marks .now) (z .args .s) (z .args .refreshes) (z .args .time) (z .args .counted) (z .args .y) q (l .j) (rangesOf (l .node) (l .start) (l .end) (l .id) (l .stamp) (l .touched) (l .write)) (l .marks) (l .z) (l .inv .4 o x q) _ (array-in _ _ (l .inv .0) (z .pre .1) t)
-          (array-at (z .args .t13) (z .args .count) (l .inv .0) (z .pre .1) (l .j) _ t) (rangesOf (k .last .1 .0) (k .last .1 .1 .0) (k .last .1 .1 .1 .0) (k .last .1 .1 .1 .1 .0) (k .last .1 .1 .1 .1 .1 .0) (k .last .1 .1 .1 .1 .1 .1 .0) (k .last .1 .1 .1 .1 .1 .1 .1 .0)) (k .last .1 .1 .1 .1 .1 .1 .1 .1 .0) (k .result)
+          (array-at (z .args .t13) (z .args .count) (l .inv .0) (z .pre .1) (l .j) _ t) (rangesOf (k .last .1 .1 .0) (k .last .1 .1 .1 .0) (k .last .1 .1 .1 .1 .0) (k .last .1 .1 .1 .1 .1 .0) (k .last .1 .1 .1 .1 .1 .1 .0) (k .last .1 .1 .1 .1 .1 .1 .1 .0) (k .last .1 .1 .1 .1 .1 .1 .1 .1 .0)) (k .last .1 .1 .1 .1 .1 .1 .1 .1 .1 .0) (k .result)
           (k .ensures o (booksWith (z .args .s) (l .z) x) (running-at o x (take (z .args .count) (z .args .t13)) (z .args .depth .now) (z .args .bytes .now) (rangesOf (z .args .node .now) (z .args .start .now) (z .args .end .now) (z .args .id .now) (z .args .stamp .now) (z .args .touched .now) (z .args .write .now)) (z .args .marks .now) (z .args .s) (z .args .refreshes) (z .args .time) (z .args .counted) (z .args .y) q (l .j) (rangesOf (l .node) (l .start) (l .end) (l .id) (l .stamp) (l .touched) (l .write)) (l .marks) (l .z) (l .inv .4 o x q) _ (array-in _ _ (l .inv .0) (z .pre .1) t)
           (array-at (z .args .t13) (z .args .count) (l .inv .0) (z .pre .1) (l .j) _ t))) (c .if1 .left),
     )
@@ -109,14 +109,14 @@ take-turns-spec =
     (tie.spec
     Inv-loop μ-loop loop-holds (λ c. span-fits (entry (c .before .before) .pre .1) (c .loop-test .taken))
     (λ c. omega (arith, entry (c .before .before) .pre .1, c .loop-test .taken)) one-turn-requires
-    (λ c. after-one-turn-2 c .one-turn .kept .1 .0 ∙ in-loop c .before .loop .inv .1 .node)
-    (λ c. after-one-turn-2 c .one-turn .kept .1 .1 .0 ∙ in-loop c .before .loop .inv .1 .start)
-    (λ c. after-one-turn-2 c .one-turn .kept .1 .1 .1 .0 ∙ in-loop c .before .loop .inv .1 .end)
-    (λ c. after-one-turn-2 c .one-turn .kept .1 .1 .1 .1 .0 ∙ in-loop c .before .loop .inv .1 .id)
-    (λ c. after-one-turn-2 c .one-turn .kept .1 .1 .1 .1 .1 .0 ∙ in-loop c .before .loop .inv .1 .stamp)
-    (λ c. after-one-turn-2 c .one-turn .kept .1 .1 .1 .1 .1 .1 .0 ∙ in-loop c .before .loop .inv .1 .touched)
-    (λ c. after-one-turn-2 c .one-turn .kept .1 .1 .1 .1 .1 .1 .1 .0 ∙ in-loop c .before .loop .inv .1 .write)
-    (λ c. after-one-turn-2 c .one-turn .kept .1 .1 .1 .1 .1 .1 .1 .1 .0 ∙ in-loop c .before .loop .inv .1 .marks) returns
+    (λ c. after-one-turn-2 c .one-turn .kept .1 .1 .0 ∙ in-loop c .before .loop .inv .1 .node)
+    (λ c. after-one-turn-2 c .one-turn .kept .1 .1 .1 .0 ∙ in-loop c .before .loop .inv .1 .start)
+    (λ c. after-one-turn-2 c .one-turn .kept .1 .1 .1 .1 .0 ∙ in-loop c .before .loop .inv .1 .end)
+    (λ c. after-one-turn-2 c .one-turn .kept .1 .1 .1 .1 .1 .0 ∙ in-loop c .before .loop .inv .1 .id)
+    (λ c. after-one-turn-2 c .one-turn .kept .1 .1 .1 .1 .1 .1 .0 ∙ in-loop c .before .loop .inv .1 .stamp)
+    (λ c. after-one-turn-2 c .one-turn .kept .1 .1 .1 .1 .1 .1 .1 .0 ∙ in-loop c .before .loop .inv .1 .touched)
+    (λ c. after-one-turn-2 c .one-turn .kept .1 .1 .1 .1 .1 .1 .1 .1 .0 ∙ in-loop c .before .loop .inv .1 .write)
+    (λ c. after-one-turn-2 c .one-turn .kept .1 .1 .1 .1 .1 .1 .1 .1 .1 .0 ∙ in-loop c .before .loop .inv .1 .marks) returns
     (λ c. omega (arith, entry-4 c .pre .1, in-loop-2 c .loop-test .taken)) (λ c. omega (arith, in-loop-2 c .loop-test .taken)) loop-again
     (λ c. c .before .loop .inv .1 .node) (λ c. c .before .loop .inv .1 .start) (λ c. c .before .loop .inv .1 .end) (λ c. c .before .loop .inv .1 .id)
     (λ c. c .before .loop .inv .1 .stamp) (λ c. c .before .loop .inv .1 .touched) (λ c. c .before .loop .inv .1 .write)

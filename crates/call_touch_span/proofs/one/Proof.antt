@@ -72,14 +72,14 @@ returns-2 c =
     let go = else1-2 (c .before .before) .if1 .left in
     let k = after-one-turn c .one-turn in
     λ o x h. taken-turn o x (z .args .sp) (z .args .depth .now) (z .args .bytes .now) (rangesOf (z .args .node .now) (z .args .start .now) (z .args .end .now) (z .args .id .now) (z .args .stamp .now) (z .args .touched .now) (z .args .write .now)) (z .args .marks .now) (z .args .y) go (after-keep-first c .keep-first .result) (after-keep-first c .keep-first .ensures)
-    (rangesOf (k .last .1 .0) (k .last .1 .1 .0) (k .last .1 .1 .1 .0) (k .last .1 .1 .1 .1 .0) (k .last .1 .1 .1 .1 .1 .0) (k .last .1 .1 .1 .1 .1 .1 .0) (k .last .1 .1 .1 .1 .1 .1 .1 .0)) (k .last .1 .1 .1 .1 .1 .1 .1 .1 .0) (k .result) (k .ensures o x (h go .run)) (c .if2 .taken)
+    (rangesOf (k .last .1 .1 .0) (k .last .1 .1 .1 .0) (k .last .1 .1 .1 .1 .0) (k .last .1 .1 .1 .1 .1 .0) (k .last .1 .1 .1 .1 .1 .1 .0) (k .last .1 .1 .1 .1 .1 .1 .1 .0) (k .last .1 .1 .1 .1 .1 .1 .1 .1 .0)) (k .last .1 .1 .1 .1 .1 .1 .1 .1 .1 .0) (k .result) (k .ensures o x (h go .run)) (c .if2 .taken)
 
 undo-requires : tie.Need-undo-requires
 undo-requires c κs =
     let z = entry-4 c in
     let k = after-one-turn-2 c .one-turn in
-    lent-still {c₀ = (rangesOf (z .args .node .now) (z .args .start .now) (z .args .end .now) (z .args .id .now) (z .args .stamp .now) (z .args .touched .now) (z .args .write .now))} {c = (rangesOf (k .last .1 .0) (k .last .1 .1 .0) (k .last .1 .1 .1 .0) (k .last .1 .1 .1 .1 .0) (k .last .1 .1 .1 .1 .1 .0) (k .last .1 .1 .1 .1 .1 .1 .0) (k .last .1 .1 .1 .1 .1 .1 .1 .0))} {ms₀ = z .args .marks .now} {ms = (k .last .1 .1 .1 .1 .1 .1 .1 .1 .0)}
-    (record { node = k .kept .1 .0; start = k .kept .1 .1 .0; end = k .kept .1 .1 .1 .0; id = k .kept .1 .1 .1 .1 .0; stamp = k .kept .1 .1 .1 .1 .1 .0; touched = k .kept .1 .1 .1 .1 .1 .1 .0; write = k .kept .1 .1 .1 .1 .1 .1 .1 .0; marks = k .kept .1 .1 .1 .1 .1 .1 .1 .1 .0 })
+    lent-still {c₀ = (rangesOf (z .args .node .now) (z .args .start .now) (z .args .end .now) (z .args .id .now) (z .args .stamp .now) (z .args .touched .now) (z .args .write .now))} {c = (rangesOf (k .last .1 .1 .0) (k .last .1 .1 .1 .0) (k .last .1 .1 .1 .1 .0) (k .last .1 .1 .1 .1 .1 .0) (k .last .1 .1 .1 .1 .1 .1 .0) (k .last .1 .1 .1 .1 .1 .1 .1 .0) (k .last .1 .1 .1 .1 .1 .1 .1 .1 .0))} {ms₀ = z .args .marks .now} {ms = (k .last .1 .1 .1 .1 .1 .1 .1 .1 .1 .0)}
+    (record { node = k .kept .1 .1 .0; start = k .kept .1 .1 .1 .0; end = k .kept .1 .1 .1 .1 .0; id = k .kept .1 .1 .1 .1 .1 .0; stamp = k .kept .1 .1 .1 .1 .1 .1 .0; touched = k .kept .1 .1 .1 .1 .1 .1 .1 .0; write = k .kept .1 .1 .1 .1 .1 .1 .1 .1 .0; marks = k .kept .1 .1 .1 .1 .1 .1 .1 .1 .1 .0 })
     (turn-asks (z .pre .ready (else1-3 c .if1 .left)))
 
 returns-3 : tie.Need-returns-3
@@ -89,7 +89,7 @@ returns-3 c =
     let k = after-one-turn-3 c .one-turn in
     let u = after-undo c .undo in
     λ o x h. refused-turn o x (z .args .sp) (z .args .depth .now) (z .args .bytes .now) (rangesOf (z .args .node .now) (z .args .start .now) (z .args .end .now) (z .args .id .now) (z .args .stamp .now) (z .args .touched .now) (z .args .write .now)) (z .args .marks .now) (z .args .y) go (after-keep-first-2 c .keep-first .result) (after-keep-first-2 c .keep-first .ensures)
-    (rangesOf (k .last .1 .0) (k .last .1 .1 .0) (k .last .1 .1 .1 .0) (k .last .1 .1 .1 .1 .0) (k .last .1 .1 .1 .1 .1 .0) (k .last .1 .1 .1 .1 .1 .1 .0) (k .last .1 .1 .1 .1 .1 .1 .1 .0)) (k .last .1 .1 .1 .1 .1 .1 .1 .1 .0) (k .result) (k .ensures o x (h go .run)) (else2 c .if2 .left)
+    (rangesOf (k .last .1 .1 .0) (k .last .1 .1 .1 .0) (k .last .1 .1 .1 .1 .0) (k .last .1 .1 .1 .1 .1 .0) (k .last .1 .1 .1 .1 .1 .1 .0) (k .last .1 .1 .1 .1 .1 .1 .1 .0) (k .last .1 .1 .1 .1 .1 .1 .1 .1 .0)) (k .last .1 .1 .1 .1 .1 .1 .1 .1 .1 .0) (k .result) (k .ensures o x (h go .run)) (else2 c .if2 .left)
     (rangesOf (u .last .0) (u .last .1 .0) (u .last .1 .1 .0) (u .last .1 .1 .1 .0) (u .last .1 .1 .1 .1 .0) (u .last .1 .1 .1 .1 .1 .0) (u .last .1 .1 .1 .1 .1 .1 .0)) (u .last .1 .1 .1 .1 .1 .1 .1 .0) (u .ensures .0) (u .ensures .1)
 
 pub one-spec : {M : Type 1} → statement M
@@ -97,16 +97,16 @@ one-spec =
     tie.close
     (tie.spec
     returns (λ c κs. turn-asks (entry-2 c .pre .ready (c .before .before .before .before .before .before .before .before .if1 .left)))
-    one-turn-requires (λ c. omega (arith, entry-3 c .pre .ready (else1-2 c .if1 .left) .turns)) (λ c. after-one-turn c .one-turn .kept .1 .0)
-    (λ c. after-one-turn c .one-turn .kept .1 .1 .0) (λ c. after-one-turn c .one-turn .kept .1 .1 .1 .0)
-    (λ c. after-one-turn c .one-turn .kept .1 .1 .1 .1 .0) (λ c. after-one-turn c .one-turn .kept .1 .1 .1 .1 .1 .0)
-    (λ c. after-one-turn c .one-turn .kept .1 .1 .1 .1 .1 .1 .0) (λ c. after-one-turn c .one-turn .kept .1 .1 .1 .1 .1 .1 .1 .0)
-    (λ c. after-one-turn c .one-turn .kept .1 .1 .1 .1 .1 .1 .1 .1 .0) returns-2 undo-requires
-    (λ c. after-undo c .undo .kept .0 ∙ after-one-turn-3 c .one-turn .kept .1 .0)
-    (λ c. after-undo c .undo .kept .1 .0 ∙ after-one-turn-3 c .one-turn .kept .1 .1 .0)
-    (λ c. after-undo c .undo .kept .1 .1 .0 ∙ after-one-turn-3 c .one-turn .kept .1 .1 .1 .0)
-    (λ c. after-undo c .undo .kept .1 .1 .1 .0 ∙ after-one-turn-3 c .one-turn .kept .1 .1 .1 .1 .0)
-    (λ c. after-undo c .undo .kept .1 .1 .1 .1 .0 ∙ after-one-turn-3 c .one-turn .kept .1 .1 .1 .1 .1 .0)
-    (λ c. after-undo c .undo .kept .1 .1 .1 .1 .1 .0 ∙ after-one-turn-3 c .one-turn .kept .1 .1 .1 .1 .1 .1 .0)
-    (λ c. after-undo c .undo .kept .1 .1 .1 .1 .1 .1 .0 ∙ after-one-turn-3 c .one-turn .kept .1 .1 .1 .1 .1 .1 .1 .0)
-    (λ c. after-undo c .undo .kept .1 .1 .1 .1 .1 .1 .1 .0 ∙ after-one-turn-3 c .one-turn .kept .1 .1 .1 .1 .1 .1 .1 .1 .0) returns-3)
+    one-turn-requires (λ c. omega (arith, entry-3 c .pre .ready (else1-2 c .if1 .left) .turns)) (λ c. after-one-turn c .one-turn .kept .1 .1 .0)
+    (λ c. after-one-turn c .one-turn .kept .1 .1 .1 .0) (λ c. after-one-turn c .one-turn .kept .1 .1 .1 .1 .0)
+    (λ c. after-one-turn c .one-turn .kept .1 .1 .1 .1 .1 .0) (λ c. after-one-turn c .one-turn .kept .1 .1 .1 .1 .1 .1 .0)
+    (λ c. after-one-turn c .one-turn .kept .1 .1 .1 .1 .1 .1 .1 .0) (λ c. after-one-turn c .one-turn .kept .1 .1 .1 .1 .1 .1 .1 .1 .0)
+    (λ c. after-one-turn c .one-turn .kept .1 .1 .1 .1 .1 .1 .1 .1 .1 .0) returns-2 undo-requires
+    (λ c. after-undo c .undo .kept .0 ∙ after-one-turn-3 c .one-turn .kept .1 .1 .0)
+    (λ c. after-undo c .undo .kept .1 .0 ∙ after-one-turn-3 c .one-turn .kept .1 .1 .1 .0)
+    (λ c. after-undo c .undo .kept .1 .1 .0 ∙ after-one-turn-3 c .one-turn .kept .1 .1 .1 .1 .0)
+    (λ c. after-undo c .undo .kept .1 .1 .1 .0 ∙ after-one-turn-3 c .one-turn .kept .1 .1 .1 .1 .1 .0)
+    (λ c. after-undo c .undo .kept .1 .1 .1 .1 .0 ∙ after-one-turn-3 c .one-turn .kept .1 .1 .1 .1 .1 .1 .0)
+    (λ c. after-undo c .undo .kept .1 .1 .1 .1 .1 .0 ∙ after-one-turn-3 c .one-turn .kept .1 .1 .1 .1 .1 .1 .1 .0)
+    (λ c. after-undo c .undo .kept .1 .1 .1 .1 .1 .1 .0 ∙ after-one-turn-3 c .one-turn .kept .1 .1 .1 .1 .1 .1 .1 .1 .0)
+    (λ c. after-undo c .undo .kept .1 .1 .1 .1 .1 .1 .1 .0 ∙ after-one-turn-3 c .one-turn .kept .1 .1 .1 .1 .1 .1 .1 .1 .1 .0) returns-3)

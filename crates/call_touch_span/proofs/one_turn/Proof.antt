@@ -43,21 +43,21 @@ run-on-requires c κs =
     let z = entry-3 c .args in
     let p = entry-3 c .pre in
     let k = after-touch-pools c .touch-pools in
-    run-asks-on (p .others) (p .books) (z .sp) (z .depth .now) (z .bytes .now) (rangesOf (z .node .now) (z .start .now) (z .end .now) (z .id .now) (z .stamp .now) (z .touched .now) (z .write .now)) (z .marks .now) (z .s) (z .refreshes) (z .y) (z .time) (z .counted) (p .ready) (else1 c .before .turn-number .result) (rangesOf (k .last .0) (k .last .1 .0) (k .last .1 .1 .0) (k .last .1 .1 .1 .0) (k .last .1 .1 .1 .1 .0) (k .last .1 .1 .1 .1 .1 .0) (k .last .1 .1 .1 .1 .1 .1 .0)) (k .last .1 .1 .1 .1 .1 .1 .1 .0) (k .result) (else1 c .if1 .left) (else1 c .before .turn-number .ensures) (k .ensures)
+    run-asks-on (p .others) (p .books) (z .sp) (z .depth .now) (z .bytes .now) (rangesOf (z .node .now) (z .start .now) (z .end .now) (z .id .now) (z .stamp .now) (z .touched .now) (z .write .now)) (z .marks .now) (z .s) (z .refreshes) (z .y) (z .time) (z .counted) (p .ready) (else1 c .before .turn-number .result) (rangesOf (k .last .1 .0) (k .last .1 .1 .0) (k .last .1 .1 .1 .0) (k .last .1 .1 .1 .1 .0) (k .last .1 .1 .1 .1 .1 .0) (k .last .1 .1 .1 .1 .1 .1 .0) (k .last .1 .1 .1 .1 .1 .1 .1 .0)) (k .last .1 .1 .1 .1 .1 .1 .1 .1 .0) (k .result) (else1 c .if1 .left) (else1 c .before .turn-number .ensures) (k .ensures)
 
 returns-2 : tie.Need-returns-2
 returns-2 c =
     let z = entry-3 (c .before) .args in
     let k = after-touch-pools (c .before) .touch-pools in
-    λ o x h. run-taken o x (z .sp) (z .depth .now) (z .bytes .now) (rangesOf (z .node .now) (z .start .now) (z .end .now) (z .id .now) (z .stamp .now) (z .touched .now) (z .write .now)) (z .marks .now) (z .s) (z .refreshes) (z .y) (z .time) (z .counted) h (else1 (c .before) .before .turn-number .result) (rangesOf (k .last .0) (k .last .1 .0) (k .last .1 .1 .0) (k .last .1 .1 .1 .0) (k .last .1 .1 .1 .1 .0) (k .last .1 .1 .1 .1 .1 .0) (k .last .1 .1 .1 .1 .1 .1 .0)) (k .last .1 .1 .1 .1 .1 .1 .1 .0) (k .result) (c .run-on .result) (c .run-on .ensures) (else1 (c .before) .if1 .left) (else1 (c .before) .before .turn-number .ensures) (k .ensures)
+    λ o x h. run-taken o x (z .sp) (z .depth .now) (z .bytes .now) (rangesOf (z .node .now) (z .start .now) (z .end .now) (z .id .now) (z .stamp .now) (z .touched .now) (z .write .now)) (z .marks .now) (z .s) (z .refreshes) (z .y) (z .time) (z .counted) h (else1 (c .before) .before .turn-number .result) (rangesOf (k .last .1 .0) (k .last .1 .1 .0) (k .last .1 .1 .1 .0) (k .last .1 .1 .1 .1 .0) (k .last .1 .1 .1 .1 .1 .0) (k .last .1 .1 .1 .1 .1 .1 .0) (k .last .1 .1 .1 .1 .1 .1 .1 .0)) (k .last .1 .1 .1 .1 .1 .1 .1 .1 .0) (k .result) (c .run-on .result) (c .run-on .ensures) (else1 (c .before) .if1 .left) (else1 (c .before) .before .turn-number .ensures) (k .ensures)
 
 pub one-turn-spec : {M : Type 1} → statement M
 one-turn-spec =
     tie.close
     (tie.spec
     turn-number-requires (λ c. refl) (λ c. refl) (λ c. refl) returns touch-pools-requires run-on-requires
-    (λ c. after-touch-pools (c .before) .touch-pools .kept .0) (λ c. after-touch-pools (c .before) .touch-pools .kept .1 .0)
-    (λ c. after-touch-pools (c .before) .touch-pools .kept .1 .1 .0) (λ c. after-touch-pools (c .before) .touch-pools .kept .1 .1 .1 .0)
-    (λ c. after-touch-pools (c .before) .touch-pools .kept .1 .1 .1 .1 .0) (λ c. after-touch-pools (c .before) .touch-pools .kept .1 .1 .1 .1 .1 .0)
-    (λ c. after-touch-pools (c .before) .touch-pools .kept .1 .1 .1 .1 .1 .1 .0)
-    (λ c. after-touch-pools (c .before) .touch-pools .kept .1 .1 .1 .1 .1 .1 .1 .0) returns-2)
+    (λ c. after-touch-pools (c .before) .touch-pools .kept .1 .0) (λ c. after-touch-pools (c .before) .touch-pools .kept .1 .1 .0)
+    (λ c. after-touch-pools (c .before) .touch-pools .kept .1 .1 .1 .0) (λ c. after-touch-pools (c .before) .touch-pools .kept .1 .1 .1 .1 .0)
+    (λ c. after-touch-pools (c .before) .touch-pools .kept .1 .1 .1 .1 .1 .0) (λ c. after-touch-pools (c .before) .touch-pools .kept .1 .1 .1 .1 .1 .1 .0)
+    (λ c. after-touch-pools (c .before) .touch-pools .kept .1 .1 .1 .1 .1 .1 .1 .0)
+    (λ c. after-touch-pools (c .before) .touch-pools .kept .1 .1 .1 .1 .1 .1 .1 .1 .0) returns-2)

@@ -1,10 +1,10 @@
 -- `call_touch_span::touch_pools` meets its contract: the store's part of each pool is lent on, and what was laid into the part is laid into the pool. Assumes nothing.
-use Prim.Native.Nat.{_+_, _-_, _*_}
+use Prim.Native.Nat.{_*_}
 use native.Mathlib.Nat.{le-add-right, add-sub-cancel-left}
-use borrow.Rule.Slice.PartMut.{same-len-mid}
 use Rattle.shape_state.specs.Lent.{rangesOf}
 use Rattle.pool_part.specs.Parts.{midRanges, backRanges}
 use Rattle.pool_part.proofs.Bounds.{rec-fits, rec-end-fits, rec-fits8, rec-fits4, rec-ends, mark-fits, mark-end-fits, mark-fits8, mark-ends}
+use Rattle.pool_part.proofs.Parts.{part-kept}
 use Rattle.call_touch_span.proofs.Laws.{pool-one, pool-two, pool-three, pool-touched}
 use Rattle.call_touch_span.proofs.touch_pools.Statement.{statement}
 use Rattle.call_touch_span.proofs.touch_pools.Tie as tie
@@ -35,61 +35,13 @@ store-used-requires c κs =
     let s = z .args .s in
     (pool-one (z .pre) _ (add-sub-cancel-left (128 * s) 128), (pool-two (z .pre) _ (add-sub-cancel-left (256 * s) 256), pool-three (z .pre) _ (add-sub-cancel-left (128 * s) 128)))
 
-same-length : tie.Need-same-length
-same-length c =
-    let z = entry-2 c in
-    let k = after-store-used c .store-used in
-    same-len-mid (128 * z .args .s) ((128 * z .args .s + 128) - 128 * z .args .s) (z .args .node .now) (k .last .0) (k .kept .0)
-
-same-length-2 : tie.Need-same-length-2
-same-length-2 c =
-    let z = entry-2 c in
-    let k = after-store-used c .store-used in
-    same-len-mid (128 * z .args .s) ((128 * z .args .s + 128) - 128 * z .args .s) (z .args .start .now) (k .last .1 .0) (k .kept .1 .0)
-
-same-length-3 : tie.Need-same-length-3
-same-length-3 c =
-    let z = entry-2 c in
-    let k = after-store-used c .store-used in
-    same-len-mid (128 * z .args .s) ((128 * z .args .s + 128) - 128 * z .args .s) (z .args .end .now) (k .last .1 .1 .0) (k .kept .1 .1 .0)
-
-same-length-4 : tie.Need-same-length-4
-same-length-4 c =
-    let z = entry-2 c in
-    let k = after-store-used c .store-used in
-    same-len-mid (128 * z .args .s) ((128 * z .args .s + 128) - 128 * z .args .s) (z .args .id .now) (k .last .1 .1 .1 .0) (k .kept .1 .1 .1 .0)
-
-same-length-5 : tie.Need-same-length-5
-same-length-5 c =
-    let z = entry-2 c in
-    let k = after-store-used c .store-used in
-    same-len-mid (128 * z .args .s) ((128 * z .args .s + 128) - 128 * z .args .s) (z .args .stamp .now) (k .last .1 .1 .1 .1 .0) (k .kept .1 .1 .1 .1 .0)
-
-same-length-6 : tie.Need-same-length-6
-same-length-6 c =
-    let z = entry-2 c in
-    let k = after-store-used c .store-used in
-    same-len-mid (128 * z .args .s) ((128 * z .args .s + 128) - 128 * z .args .s) (z .args .touched .now) (k .last .1 .1 .1 .1 .1 .0) (k .kept .1 .1 .1 .1 .1 .0)
-
-same-length-7 : tie.Need-same-length-7
-same-length-7 c =
-    let z = entry-2 c in
-    let k = after-store-used c .store-used in
-    same-len-mid (128 * z .args .s) ((128 * z .args .s + 128) - 128 * z .args .s) (z .args .write .now) (k .last .1 .1 .1 .1 .1 .1 .0) (k .kept .1 .1 .1 .1 .1 .1 .0)
-
-same-length-8 : tie.Need-same-length-8
-same-length-8 c =
-    let z = entry-2 c in
-    let k = after-store-used c .store-used in
-    same-len-mid (256 * z .args .s) ((256 * z .args .s + 256) - 256 * z .args .s) (z .args .marks .now) (k .last .1 .1 .1 .1 .1 .1 .1 .0) (k .kept .1 .1 .1 .1 .1 .1 .1 .0)
-
 returns : tie.Need-returns
 unfolding midRanges backRanges
 returns c =
     let z = entry-2 c in
     let s = z .args .s in
     let k = after-store-used c .store-used in
-    pool-touched (z .pre) {q = rangesOf (k .last .0) (k .last .1 .0) (k .last .1 .1 .0) (k .last .1 .1 .1 .0) (k .last .1 .1 .1 .1 .0) (k .last .1 .1 .1 .1 .1 .0) (k .last .1 .1 .1 .1 .1 .1 .0)} {ms₂ = k .last .1 .1 .1 .1 .1 .1 .1 .0} {r = k .result}
+    pool-touched (z .pre) {q = rangesOf (k .last .1 .0) (k .last .1 .1 .0) (k .last .1 .1 .1 .0) (k .last .1 .1 .1 .1 .0) (k .last .1 .1 .1 .1 .1 .0) (k .last .1 .1 .1 .1 .1 .1 .0) (k .last .1 .1 .1 .1 .1 .1 .1 .0)} {ms₂ = k .last .1 .1 .1 .1 .1 .1 .1 .1 .0} {r = k .result}
     (z .args .time) (z .args .counted) _ _ (add-sub-cancel-left (128 * s) 128) (add-sub-cancel-left (256 * s) 256) (k .ensures)
 
 pub touch-pools-spec : {M : Type 1} → statement M
@@ -97,27 +49,24 @@ touch-pools-spec =
     tie.close
     (tie.spec
     (λ c. rec-fits (entry c .pre .store)) (λ c. rec-end-fits (entry c .pre .store)) (λ c. mark-fits (entry c .pre .store))
-    (λ c. mark-end-fits (entry c .pre .store)) (λ c. rec-fits8 (entry c .pre .store)) (λ c. le-add-right (128 * entry c .args .s) 128)
-    (λ c. le-add-right (128 * entry c .args .s) 128) (λ c. rec-ends (entry c .pre .store) (entry c .pre .ranges .node))
-    (λ c. rec-fits8 (entry (c .before) .pre .store)) (λ c. le-add-right (128 * entry (c .before) .args .s) 128)
-    (λ c. le-add-right (128 * entry (c .before) .args .s) 128) (λ c. rec-ends (entry (c .before) .pre .store) (entry (c .before) .pre .ranges .start))
-    (λ c. rec-fits8 (entry (c .before .before) .pre .store)) (λ c. le-add-right (128 * entry (c .before .before) .args .s) 128)
-    (λ c. le-add-right (128 * entry (c .before .before) .args .s) 128)
+    (λ c. mark-end-fits (entry c .pre .store)) (λ c. rec-fits8 (entry c .pre .store)) (λ c. le-add-right _ _) (λ c. le-add-right _ _)
+    (λ c. rec-ends (entry c .pre .store) (entry c .pre .ranges .node)) (λ c. rec-fits8 (entry (c .before) .pre .store)) (λ c. le-add-right _ _)
+    (λ c. le-add-right _ _) (λ c. rec-ends (entry (c .before) .pre .store) (entry (c .before) .pre .ranges .start))
+    (λ c. rec-fits8 (entry (c .before .before) .pre .store)) (λ c. le-add-right _ _) (λ c. le-add-right _ _)
     (λ c. rec-ends (entry (c .before .before) .pre .store) (entry (c .before .before) .pre .ranges .end))
-    (λ c. rec-fits8 (entry (c .before .before .before) .pre .store)) (λ c. le-add-right (128 * entry (c .before .before .before) .args .s) 128)
-    (λ c. le-add-right (128 * entry (c .before .before .before) .args .s) 128)
+    (λ c. rec-fits8 (entry (c .before .before .before) .pre .store)) (λ c. le-add-right _ _) (λ c. le-add-right _ _)
     (λ c. rec-ends (entry (c .before .before .before) .pre .store) (entry (c .before .before .before) .pre .ranges .id))
-    (λ c. rec-fits8 (entry (c .before .before .before .before) .pre .store))
-    (λ c. le-add-right (128 * entry (c .before .before .before .before) .args .s) 128)
-    (λ c. le-add-right (128 * entry (c .before .before .before .before) .args .s) 128)
+    (λ c. rec-fits8 (entry (c .before .before .before .before) .pre .store)) (λ c. le-add-right _ _) (λ c. le-add-right _ _)
     (λ c. rec-ends (entry (c .before .before .before .before) .pre .store) (entry (c .before .before .before .before) .pre .ranges .stamp))
-    (λ c. rec-fits8 (entry (c .before .before .before .before .before) .pre .store))
-    (λ c. le-add-right (128 * entry (c .before .before .before .before .before) .args .s) 128)
-    (λ c. le-add-right (128 * entry (c .before .before .before .before .before) .args .s) 128) part-store-used-end-6
-    (λ c. rec-fits4 (entry (c .before .before .before .before .before .before) .pre .store))
-    (λ c. le-add-right (128 * entry (c .before .before .before .before .before .before) .args .s) 128)
-    (λ c. le-add-right (128 * entry (c .before .before .before .before .before .before) .args .s) 128) part-store-used-end-7
-    (λ c. mark-fits8 (entry (c .before .before .before .before .before .before .before) .pre .store))
-    (λ c. le-add-right (256 * entry (c .before .before .before .before .before .before .before) .args .s) 256)
-    (λ c. le-add-right (256 * entry (c .before .before .before .before .before .before .before) .args .s) 256) part-store-used-end-8
-    store-used-requires same-length same-length-2 same-length-3 same-length-4 same-length-5 same-length-6 same-length-7 same-length-8 returns)
+    (λ c. rec-fits8 (entry (c .before .before .before .before .before) .pre .store)) (λ c. le-add-right _ _) (λ c. le-add-right _ _)
+    part-store-used-end-6 (λ c. rec-fits4 (entry (c .before .before .before .before .before .before) .pre .store)) (λ c. le-add-right _ _)
+    (λ c. le-add-right _ _) part-store-used-end-7 (λ c. mark-fits8 (entry (c .before .before .before .before .before .before .before) .pre .store))
+    (λ c. le-add-right _ _) (λ c. le-add-right _ _) part-store-used-end-8 store-used-requires
+    (λ c. part-kept 128 (entry-2 c .args .s) (entry-2 c .args .node .now) (after-store-used c .store-used .last .1 .0) (after-store-used c .store-used .kept .1 .0))
+    (λ c. part-kept 128 (entry-2 c .args .s) (entry-2 c .args .start .now) (after-store-used c .store-used .last .1 .1 .0) (after-store-used c .store-used .kept .1 .1 .0))
+    (λ c. part-kept 128 (entry-2 c .args .s) (entry-2 c .args .end .now) (after-store-used c .store-used .last .1 .1 .1 .0) (after-store-used c .store-used .kept .1 .1 .1 .0))
+    (λ c. part-kept 128 (entry-2 c .args .s) (entry-2 c .args .id .now) (after-store-used c .store-used .last .1 .1 .1 .1 .0) (after-store-used c .store-used .kept .1 .1 .1 .1 .0))
+    (λ c. part-kept 128 (entry-2 c .args .s) (entry-2 c .args .stamp .now) (after-store-used c .store-used .last .1 .1 .1 .1 .1 .0) (after-store-used c .store-used .kept .1 .1 .1 .1 .1 .0))
+    (λ c. part-kept 128 (entry-2 c .args .s) (entry-2 c .args .touched .now) (after-store-used c .store-used .last .1 .1 .1 .1 .1 .1 .0) (after-store-used c .store-used .kept .1 .1 .1 .1 .1 .1 .0))
+    (λ c. part-kept 128 (entry-2 c .args .s) (entry-2 c .args .write .now) (after-store-used c .store-used .last .1 .1 .1 .1 .1 .1 .1 .0) (after-store-used c .store-used .kept .1 .1 .1 .1 .1 .1 .1 .0))
+    (λ c. part-kept 256 (entry-2 c .args .s) (entry-2 c .args .marks .now) (after-store-used c .store-used .last .1 .1 .1 .1 .1 .1 .1 .1 .0) (after-store-used c .store-used .kept .1 .1 .1 .1 .1 .1 .1 .1 .0)) returns)

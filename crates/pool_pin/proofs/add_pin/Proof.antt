@@ -28,12 +28,12 @@ put-pin-requires c κs =
     (room (z .args .place .there) (at-if1 .if1 .left) (z .pre .0), z .pre .1 .passed .high, z .pre .3)
 
 -- earlier places of the function, by name
-abbrev entry′ : tie.After-slice-known9 → tie.Start
-entry′ c = c .before .before .before .before .before .before .before .before .before .before .before .before .before .before .before .before .before .before
+abbrev entry : tie.After-slice-known9 → tie.Start
+entry c = c .before .before .before .before .before .before .before .before .before .before .before .before .before .before .before .before .before .before
 
 add-result : tie.Need-add-result
 add-result c =
-    let z = entry′ c in
+    let z = entry c in
     next-fits (few (z .args .place .there) (z .pre .0))
 
 returns-2 : tie.Need-returns-2

@@ -21,17 +21,17 @@ cut-usize-requires-2 c κs =
     part-in (z .args .a) _ (z .args .n) (z .args .at) (z .args .start .now) (width (z .args .a)) (z .pre .2 .start) (z .pre .1) (z .pre .0)
 
 -- earlier places of the function, by name
-abbrev entry′ : tie.After-cut-usize-arg3 → tie.Start
-entry′ c = c .before .before .before .before .before .before .before .before .before .before .before .before .before
+abbrev entry : tie.After-cut-usize-arg3 → tie.Start
+entry c = c .before .before .before .before .before .before .before .before .before .before .before .before .before
 
 cut-usize-requires-3 : tie.Need-cut-usize-requires-3
 cut-usize-requires-3 c κs =
-    let z = entry′ c in
+    let z = entry c in
     part-in (z .args .a) _ (z .args .n) (z .args .at) (z .args .end .now) (width (z .args .a)) (z .pre .2 .end) (z .pre .1) (z .pre .0)
 
 cut-u64-requires : tie.Need-cut-u64-requires
 cut-u64-requires c κs =
-    let z = entry′ (c .before .before .before .before) in
+    let z = entry (c .before .before .before .before) in
     part-in (z .args .a) _ (z .args .n) (z .args .at) (z .args .count .now) (width (z .args .a)) (z .pre .2 .count) (z .pre .1) (z .pre .0)
 
 returns : tie.Need-returns

@@ -23,17 +23,17 @@ put-usize-requires-2 c κs =
     part-room (z .args .a) _ (z .args .n) (z .args .at) (z .args .start .now) (width (z .args .a)) (z .pre .2 .start) (z .pre .1) (z .pre .0)
 
 -- earlier places of the function, by name
-abbrev entry′ : tie.After-put-usize-arg3 → tie.Start
-entry′ c = c .before .before .before .before .before .before .before .before .before .before .before .before .before
+abbrev entry : tie.After-put-usize-arg3 → tie.Start
+entry c = c .before .before .before .before .before .before .before .before .before .before .before .before .before
 
 put-usize-requires-3 : tie.Need-put-usize-requires-3
 put-usize-requires-3 c κs =
-    let z = entry′ c in
+    let z = entry c in
     part-room (z .args .a) _ (z .args .n) (z .args .at) (z .args .end .now) (width (z .args .a)) (z .pre .2 .end) (z .pre .1) (z .pre .0)
 
 put-u64-requires : tie.Need-put-u64-requires
 put-u64-requires c κs =
-    let z = entry′ (c .before .before .before .before) in
+    let z = entry (c .before .before .before .before) in
     part-room (z .args .a) _ (z .args .n) (z .args .at) (z .args .count .now) (width (z .args .a)) (z .pre .2 .count) (z .pre .1) (z .pre .0)
 
 returns : tie.Need-returns

@@ -17,12 +17,12 @@ returns c =
     take-off (z .args .a) (z .args .n) (orig z) (z .args .sp) 1 (z .args .place) (z .pre .2) (z .pre .1) (z .pre .0) (z .pre .3) (c .if1 .taken)
 
 -- earlier places of the function, by name
-abbrev entry′ : tie.After-cut-pin-arg4 → tie.Start
-entry′ c = c .before .before .before .before .before .before .before .before .before .before
+abbrev entry : tie.After-cut-pin-arg4 → tie.Start
+entry c = c .before .before .before .before .before .before .before .before .before .before
 
 cut-pin-requires : tie.Need-cut-pin-requires
 cut-pin-requires c κs =
-    let z = entry′ c in
+    let z = entry c in
     (z .pre .0, z .pre .2 .found (z .pre .1) .0, z .pre .3)
 
 returns-2 : tie.Need-returns-2
@@ -41,7 +41,7 @@ take-pin-spec =
     (λ c. omega (arith, c .if1 .taken)) (λ c. omega arith)
     (λ c. let z = c .before .before .before .before .before .before in at-in (z .args .a) (z .pre .2 .found (z .pre .1) .0) (z .pre .0) (z .pre .3 .count))
     (λ c. search needs) returns cut-pin-requires
-    (λ c. let z = entry′ (c .before .before .before .before .before .before .before .before .before) in omega (arith, z .pre .2 .found (z .pre .1) .0))
+    (λ c. let z = entry (c .before .before .before .before .before .before .before .before .before) in omega (arith, z .pre .2 .found (z .pre .1) .0))
     (λ c. c .before .before .before .before .before .before .before .before .cut-pin .kept .0)
     (λ c. c .before .before .before .before .before .before .before .before .cut-pin .kept .1 .0)
     (λ c. c .before .before .before .before .before .before .before .before .cut-pin .kept .1 .1 .0)

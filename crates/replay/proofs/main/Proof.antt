@@ -2,7 +2,7 @@
 use Prim.Native.Nat.{_≤_}
 use Rattle.shape_answer.specs.Answers.{stateFrom}
 use Rattle.prog_tree.specs.Between.{SoundIfSetUp}
-use Rattle.replay.specs.Input.{Within}
+use Rattle.text_input.specs.Input.{Within}
 use borrow.Author.Needs.{needs}
 use native.Mathlib.Omega.{arith}
 use Rattle.replay.proofs.main.Statement.{statement}

@@ -16,8 +16,8 @@ is-beyond-requires : tie.Need-is-beyond-requires
 is-beyond-requires c κs = let p = c .before .before .before .before .before .before .before .before .before .pre in (omega (arith, p .0, p .1, p .2, p .5 .node), omega (arith, p .0, p .1, p .2, p .5 .end))
 
 -- earlier places of the function, by name
-abbrev entry′ : tie.Else1 → tie.Start
-entry′ c = c .before .before .before .before .before .before .before .before .before .before .before
+abbrev entry : tie.Else1 → tie.Start
+entry c = c .before .before .before .before .before .before .before .before .before .before .before
 
 abbrev entry-2 : tie.Then1 → tie.Start
 entry-2 c = c .before .before .before .before .before .before .before .before .before .before .before
@@ -29,7 +29,7 @@ abbrev after-is-beyond-2 : tie.After-move-range-arg7 → tie.After-is-beyond
 after-is-beyond-2 c = c .before .before .before .before .before .before .before .before .before .before
 
 abbrev entry-3 : tie.After-slice-known15 → tie.Start
-entry-3 c = entry′ (c .before .before .before .before .before .before .before .before .before .before .before .before .before .before .before .before .before .before .before .before .before .before .before .before)
+entry-3 c = entry (c .before .before .before .before .before .before .before .before .before .before .before .before .before .before .before .before .before .before .before .before .before .before .before .before)
 
 abbrev after-split-range : tie.After-struct-known → tie.After-split-range
 after-split-range c = c .before .before .before .before .before .before .before .before .before .before .before .before .before .before .before
@@ -59,7 +59,7 @@ returns c =
 
 split-range-requires : tie.Need-split-range-requires
 split-range-requires c κs =
-    let z = entry′ (c .before .before .before .before .before .before .before .before .before) in
+    let z = entry (c .before .before .before .before .before .before .before .before .before) in
     let p = z .pre in
     let n = (at (z .args .node .now) (z .args .s .at)) in
     let s = (at (z .args .start .now) (z .args .s .at)) in
@@ -73,7 +73,7 @@ returns-2 c =
 
 move-range-requires : tie.Need-move-range-requires
 move-range-requires c κs =
-    let z = entry′ (c .before .before .before .before .before .before .before .before .before) in
+    let z = entry (c .before .before .before .before .before .before .before .before .before) in
     let p = z .pre in
     (under (p .0) (p .1), p .2, c .before .before .before .before .before .before .before .if2 .left, end-after (z .args .j) (z .args .k) (at (z .args .node .now) (z .args .s .at)) (at (z .args .start .now) (z .args .s .at)) (at (z .args .end .now) (z .args .s .at)) (after-is-beyond-2 c .is-beyond .result) (after-is-beyond-2 c .is-beyond .ensures) (c .before .before .before .before .before .before .before .before .before .if1 .left), p .5)
 
@@ -87,8 +87,8 @@ cut-next-spec =
     tie.close
     (tie.spec
     is-beyond-requires (λ c. omega (arith, entry-2 c .pre .0, entry-2 c .pre .1, entry-2 c .pre .2)) (λ c. refl) (λ c. refl) returns
-    (λ c. omega (arith, entry′ c .pre .0, entry′ c .pre .1, entry′ c .pre .2, entry′ c .pre .5 .start))
-    (λ c. omega (arith, entry′ (c .before) .pre .0, entry′ (c .before) .pre .1, entry′ (c .before) .pre .2, entry′ (c .before) .pre .5 .start))
+    (λ c. omega (arith, entry c .pre .0, entry c .pre .1, entry c .pre .2, entry c .pre .5 .start))
+    (λ c. omega (arith, entry (c .before) .pre .0, entry (c .before) .pre .1, entry (c .before) .pre .2, entry (c .before) .pre .5 .start))
     split-range-requires (λ c. omega (arith, entry-3 c .pre .0, entry-3 c .pre .1, entry-3 c .pre .2)) (λ c. omega (arith, entry-3 c .pre .2))
     (λ c. omega (arith, entry-3 (c .before) .pre .4)) (λ c. after-split-range c .split-range .kept .0)
     (λ c. after-split-range c .split-range .kept .1 .0) (λ c. after-split-range c .split-range .kept .1 .1 .0)

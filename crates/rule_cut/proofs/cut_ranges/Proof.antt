@@ -21,8 +21,8 @@ loop-holds : tie.Need-loop-holds Inv-loop μ-loop
 loop-holds c = let z = c .before .before .before .before .before .before .before in cut-start (z .args .j) (z .args .k) (z .args .m) (z .args .next) (z .args .n) (orig z) (z .pre .0) (z .pre .2)
 
 -- earlier places of the function, by name
-abbrev entry′ : tie.Else1 Inv-loop μ-loop → tie.Start Inv-loop μ-loop
-entry′ c = c .before .before .before .before .before .before .before .before .before .before
+abbrev entry : tie.Else1 Inv-loop μ-loop → tie.Start Inv-loop μ-loop
+entry c = c .before .before .before .before .before .before .before .before .before .before
 
 abbrev entry-2 : tie.After-cut-next-arg7 Inv-loop μ-loop → tie.Start Inv-loop μ-loop
 entry-2 c = c .before .before .before .before .before .before .before .before .before .before .before .before .before .before .before .before .before
@@ -52,29 +52,29 @@ loop-again c =
     cut-turn (z .args .j) (z .args .k) (z .args .m) (z .args .next) (z .args .n) (orig z) (rangesOf (then1 c .before .before .loop .node) (then1 c .before .before .loop .start) (then1 c .before .before .loop .end) (then1 c .before .before .loop .id) (then1 c .before .before .loop .stamp) (then1 c .before .before .loop .touched) (then1 c .before .before .loop .write)) (then1 c .before .before .loop .s) (z .pre .0) (z .pre .2) (then1 c .before .before .loop .inv) (then1 c .if1 .taken) _ _ (after-cut-next c .cut-next .ensures)
 
 same-length : tie.Need-same-length Inv-loop μ-loop
-same-length c = let z = entry′ c in cut-sized (z .args .j) (z .args .k) (z .args .m) (z .args .next) (z .args .n) (orig z) (rangesOf (c .before .before .loop .node) (c .before .before .loop .start) (c .before .before .loop .end) (c .before .before .loop .id) (c .before .before .loop .stamp) (c .before .before .loop .touched) (c .before .before .loop .write)) (c .before .before .loop .s) (z .pre .0) (z .pre .2) (c .before .before .loop .inv) .node ∙ sym (z .pre .2 .node)
+same-length c = let z = entry c in cut-sized (z .args .j) (z .args .k) (z .args .m) (z .args .next) (z .args .n) (orig z) (rangesOf (c .before .before .loop .node) (c .before .before .loop .start) (c .before .before .loop .end) (c .before .before .loop .id) (c .before .before .loop .stamp) (c .before .before .loop .touched) (c .before .before .loop .write)) (c .before .before .loop .s) (z .pre .0) (z .pre .2) (c .before .before .loop .inv) .node ∙ sym (z .pre .2 .node)
 
 same-length-2 : tie.Need-same-length-2 Inv-loop μ-loop
-same-length-2 c = let z = entry′ c in cut-sized (z .args .j) (z .args .k) (z .args .m) (z .args .next) (z .args .n) (orig z) (rangesOf (c .before .before .loop .node) (c .before .before .loop .start) (c .before .before .loop .end) (c .before .before .loop .id) (c .before .before .loop .stamp) (c .before .before .loop .touched) (c .before .before .loop .write)) (c .before .before .loop .s) (z .pre .0) (z .pre .2) (c .before .before .loop .inv) .start ∙ sym (z .pre .2 .start)
+same-length-2 c = let z = entry c in cut-sized (z .args .j) (z .args .k) (z .args .m) (z .args .next) (z .args .n) (orig z) (rangesOf (c .before .before .loop .node) (c .before .before .loop .start) (c .before .before .loop .end) (c .before .before .loop .id) (c .before .before .loop .stamp) (c .before .before .loop .touched) (c .before .before .loop .write)) (c .before .before .loop .s) (z .pre .0) (z .pre .2) (c .before .before .loop .inv) .start ∙ sym (z .pre .2 .start)
 
 same-length-3 : tie.Need-same-length-3 Inv-loop μ-loop
-same-length-3 c = let z = entry′ c in cut-sized (z .args .j) (z .args .k) (z .args .m) (z .args .next) (z .args .n) (orig z) (rangesOf (c .before .before .loop .node) (c .before .before .loop .start) (c .before .before .loop .end) (c .before .before .loop .id) (c .before .before .loop .stamp) (c .before .before .loop .touched) (c .before .before .loop .write)) (c .before .before .loop .s) (z .pre .0) (z .pre .2) (c .before .before .loop .inv) .end ∙ sym (z .pre .2 .end)
+same-length-3 c = let z = entry c in cut-sized (z .args .j) (z .args .k) (z .args .m) (z .args .next) (z .args .n) (orig z) (rangesOf (c .before .before .loop .node) (c .before .before .loop .start) (c .before .before .loop .end) (c .before .before .loop .id) (c .before .before .loop .stamp) (c .before .before .loop .touched) (c .before .before .loop .write)) (c .before .before .loop .s) (z .pre .0) (z .pre .2) (c .before .before .loop .inv) .end ∙ sym (z .pre .2 .end)
 
 same-length-4 : tie.Need-same-length-4 Inv-loop μ-loop
-same-length-4 c = let z = entry′ c in cut-sized (z .args .j) (z .args .k) (z .args .m) (z .args .next) (z .args .n) (orig z) (rangesOf (c .before .before .loop .node) (c .before .before .loop .start) (c .before .before .loop .end) (c .before .before .loop .id) (c .before .before .loop .stamp) (c .before .before .loop .touched) (c .before .before .loop .write)) (c .before .before .loop .s) (z .pre .0) (z .pre .2) (c .before .before .loop .inv) .id ∙ sym (z .pre .2 .id)
+same-length-4 c = let z = entry c in cut-sized (z .args .j) (z .args .k) (z .args .m) (z .args .next) (z .args .n) (orig z) (rangesOf (c .before .before .loop .node) (c .before .before .loop .start) (c .before .before .loop .end) (c .before .before .loop .id) (c .before .before .loop .stamp) (c .before .before .loop .touched) (c .before .before .loop .write)) (c .before .before .loop .s) (z .pre .0) (z .pre .2) (c .before .before .loop .inv) .id ∙ sym (z .pre .2 .id)
 
 same-length-5 : tie.Need-same-length-5 Inv-loop μ-loop
-same-length-5 c = let z = entry′ c in cut-sized (z .args .j) (z .args .k) (z .args .m) (z .args .next) (z .args .n) (orig z) (rangesOf (c .before .before .loop .node) (c .before .before .loop .start) (c .before .before .loop .end) (c .before .before .loop .id) (c .before .before .loop .stamp) (c .before .before .loop .touched) (c .before .before .loop .write)) (c .before .before .loop .s) (z .pre .0) (z .pre .2) (c .before .before .loop .inv) .stamp ∙ sym (z .pre .2 .stamp)
+same-length-5 c = let z = entry c in cut-sized (z .args .j) (z .args .k) (z .args .m) (z .args .next) (z .args .n) (orig z) (rangesOf (c .before .before .loop .node) (c .before .before .loop .start) (c .before .before .loop .end) (c .before .before .loop .id) (c .before .before .loop .stamp) (c .before .before .loop .touched) (c .before .before .loop .write)) (c .before .before .loop .s) (z .pre .0) (z .pre .2) (c .before .before .loop .inv) .stamp ∙ sym (z .pre .2 .stamp)
 
 same-length-6 : tie.Need-same-length-6 Inv-loop μ-loop
-same-length-6 c = let z = entry′ c in cut-sized (z .args .j) (z .args .k) (z .args .m) (z .args .next) (z .args .n) (orig z) (rangesOf (c .before .before .loop .node) (c .before .before .loop .start) (c .before .before .loop .end) (c .before .before .loop .id) (c .before .before .loop .stamp) (c .before .before .loop .touched) (c .before .before .loop .write)) (c .before .before .loop .s) (z .pre .0) (z .pre .2) (c .before .before .loop .inv) .touched ∙ sym (z .pre .2 .touched)
+same-length-6 c = let z = entry c in cut-sized (z .args .j) (z .args .k) (z .args .m) (z .args .next) (z .args .n) (orig z) (rangesOf (c .before .before .loop .node) (c .before .before .loop .start) (c .before .before .loop .end) (c .before .before .loop .id) (c .before .before .loop .stamp) (c .before .before .loop .touched) (c .before .before .loop .write)) (c .before .before .loop .s) (z .pre .0) (z .pre .2) (c .before .before .loop .inv) .touched ∙ sym (z .pre .2 .touched)
 
 same-length-7 : tie.Need-same-length-7 Inv-loop μ-loop
-same-length-7 c = let z = entry′ c in cut-sized (z .args .j) (z .args .k) (z .args .m) (z .args .next) (z .args .n) (orig z) (rangesOf (c .before .before .loop .node) (c .before .before .loop .start) (c .before .before .loop .end) (c .before .before .loop .id) (c .before .before .loop .stamp) (c .before .before .loop .touched) (c .before .before .loop .write)) (c .before .before .loop .s) (z .pre .0) (z .pre .2) (c .before .before .loop .inv) .write ∙ sym (z .pre .2 .write)
+same-length-7 c = let z = entry c in cut-sized (z .args .j) (z .args .k) (z .args .m) (z .args .next) (z .args .n) (orig z) (rangesOf (c .before .before .loop .node) (c .before .before .loop .start) (c .before .before .loop .end) (c .before .before .loop .id) (c .before .before .loop .stamp) (c .before .before .loop .touched) (c .before .before .loop .write)) (c .before .before .loop .s) (z .pre .0) (z .pre .2) (c .before .before .loop .inv) .write ∙ sym (z .pre .2 .write)
 
 returns : tie.Need-returns Inv-loop μ-loop
 returns c =
-    let z = entry′ c in
+    let z = entry c in
     cut-end (z .args .j) (z .args .k) (z .args .m) (z .args .next) (z .args .n) (orig z) (rangesOf (c .before .before .loop .node) (c .before .before .loop .start) (c .before .before .loop .end) (c .before .before .loop .id) (c .before .before .loop .stamp) (c .before .before .loop .touched) (c .before .before .loop .write)) (c .before .before .loop .s) (z .pre .0) (z .pre .2) (c .before .before .loop .inv) (c .if1 .left)
 
 pub cut-ranges-spec : {M : Type 1} → statement M

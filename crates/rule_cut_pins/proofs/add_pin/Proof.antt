@@ -17,12 +17,12 @@ place-of-requires : tie.Need-place-of-requires
 place-of-requires c κs = to-place (columnsOf (c .before .before .before .before .before .before .before .args .l)) (c .before .before .before .before .before .before .before .pre .0) (full (c .before .before .before .before .before .before .before))
 
 -- earlier places of the function, by name
-abbrev entry′ : tie.After-count2 → tie.Start
-entry′ c = c .before .before .before .before .before .before .before .before .before .before .before .before
+abbrev entry : tie.After-count2 → tie.Start
+entry c = c .before .before .before .before .before .before .before .before .before .before .before .before
 
 add-pin-requires : tie.Need-add-pin-requires
 add-pin-requires c κs =
-    let z = entry′ c in
+    let z = entry c in
     let l = z .args .l in
     let r = c .before .before .before .before .place-of .result in
     let place = c .before .before .before .before .place-of .ensures in (
@@ -34,7 +34,7 @@ add-pin-requires c κs =
 
 returns : tie.Need-returns
 returns c =
-    let z = entry′ (c .before .before .before .before .before) in
+    let z = entry (c .before .before .before .before .before) in
     let l = z .args .l in
     read-back (columnsOf l) (l .n) (span z) (z .args .p .count) (c .before .before .before .before .before .before .before .before .before .place-of .result) (c .before .before .before .before .before .before .before .before .before .place-of .ensures) (z .pre .1) (full z)
     (pinsOf (c .before .before .before .before .add-pin .last .0) (c .before .before .before .before .add-pin .last .1 .0) (c .before .before .before .before .add-pin .last .1 .1 .0) (c .before .before .before .before .add-pin .last .1 .1 .1 .0)) (c .before .before .before .before .add-pin .result) (c .before .before .before .before .add-pin .ensures)

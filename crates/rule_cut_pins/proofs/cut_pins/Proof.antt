@@ -36,11 +36,11 @@ returns c =
     left-alone (z .args .j) (z .args .k) (z .args .m) (z .args .n) (orig z) (z .pre .2) (z .pre .0) (sym (c .before .all-stay .ensures (z .args .count .now)) ∙ c .if1 .taken)
 
 -- earlier places of the function, by name
-abbrev entry′ : tie.After-pins-across-arg3 → tie.Start
-entry′ c = c .before .before .before .before .before .before .before .before .before .before .before .before
+abbrev entry : tie.After-pins-across-arg3 → tie.Start
+entry c = c .before .before .before .before .before .before .before .before .before .before .before .before
 
 abbrev entry-2 : tie.After-lay-pins-arg4 → tie.Start
-entry-2 c = entry′ (c .before .before .before .before .before .before .before .before .before .before)
+entry-2 c = entry (c .before .before .before .before .before .before .before .before .before .before)
 
 abbrev after-cut-list : tie.After-slice-known8 → tie.After-cut-list
 after-cut-list c = c .before .before .before .before .before .before .before .before .before .before .before .before .before
@@ -50,13 +50,13 @@ after-pins-across c = after-cut-list c .before .before .before .before .before
 
 pins-across-requires : tie.Need-pins-across-requires
 pins-across-requires c κs =
-    let z = entry′ c in
+    let z = entry c in
     let s = z .pre .2 in
     (part-of (z .args .n) (extra z) (z .pre .0) (s .node), part-of (z .args .n) (extra z) (z .pre .0) (s .start), part-of (z .args .n) (extra z) (z .pre .0) (s .end))
 
 cut-list-requires : tie.Need-cut-list-requires
 cut-list-requires c κs =
-    let z = entry′ (c .before .before .before .before .before) in
+    let z = entry (c .before .before .before .before .before) in
     let s = z .pre .2 in
     let n = z .args .n in (
       part-of n (extra z) (z .pre .0) (s .node),
@@ -68,7 +68,7 @@ cut-list-requires c κs =
 
 add-places : tie.Need-add-places
 add-places c =
-    let z = entry′ (c .before .before .before .before .before .before) in
+    let z = entry (c .before .before .before .before .before .before) in
     rw (c .before .before .before .before .before .pins-across .ensures (orig z) refl refl refl) (room-fits (z .args .n) (extra z) (z .pre .0))
 
 lay-pins-requires : tie.Need-lay-pins-requires

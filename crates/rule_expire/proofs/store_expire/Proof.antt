@@ -11,14 +11,14 @@ use Rattle.rule_expire.proofs.store_expire.Statement.{statement}
 use Rattle.rule_expire.proofs.store_expire.Tie as tie
 
 abbrev Inv-loop : tie.InvT-loop
-Inv-loop node₀ start₀ end₀ id₀ stamp₀ touched₀ write₀ marks₀ out-node₀ out-start₀ out-end₀ out-write₀ out-bytes₀ out-dead₀ depth bytes n held version time seconds left₀ h₀ v₀ k₀ node start end id stamp touched write marks out-node out-start out-end out-write out-bytes out-dead left h v k =
+Inv-loop depth node₀ start₀ end₀ id₀ stamp₀ touched₀ write₀ marks₀ bytes out-node₀ out-start₀ out-end₀ out-write₀ out-bytes₀ out-dead₀ n held version time seconds left₀ h₀ v₀ k₀ node start end id stamp touched write marks out-node out-start out-end out-write out-bytes out-dead left h v k =
     Expiring depth bytes time seconds n version (rangesOf node₀ start₀ end₀ id₀ stamp₀ touched₀ write₀) marks₀ (outList out-node₀ out-start₀ out-end₀ out-write₀ out-bytes₀ out-dead₀) left (rangesOf node start end id stamp touched write) marks (outList out-node out-start out-end out-write out-bytes out-dead) h k v
 
 abbrev μ-loop : tie.MeasureT-loop
-μ-loop node₀ start₀ end₀ id₀ stamp₀ touched₀ write₀ marks₀ out-node₀ out-start₀ out-end₀ out-write₀ out-bytes₀ out-dead₀ depth bytes n held version time seconds left₀ h₀ v₀ k₀ node start end id stamp touched write marks out-node out-start out-end out-write out-bytes out-dead left h v k = left
+μ-loop depth node₀ start₀ end₀ id₀ stamp₀ touched₀ write₀ marks₀ bytes out-node₀ out-start₀ out-end₀ out-write₀ out-bytes₀ out-dead₀ n held version time seconds left₀ h₀ v₀ k₀ node start end id stamp touched write marks out-node out-start out-end out-write out-bytes out-dead left h v k = left
 
 -- earlier places of the function, by name
-abbrev entry : tie.After-shared-slice-known2 Inv-loop μ-loop → tie.Start Inv-loop μ-loop
+abbrev entry : tie.After-slice-known14 Inv-loop μ-loop → tie.Start Inv-loop μ-loop
 entry c = c .before .before .before .before .before .before .before .before .before .before .before .before .before .before .before .before
 
 abbrev after-oldest-aged : tie.After-store-evict-entry-arg8 Inv-loop μ-loop → tie.After-oldest-aged Inv-loop μ-loop
@@ -132,7 +132,7 @@ loop-less c =
     let l = at-loop-3 c .loop in
     let v = l .inv in
     let e = after-store-evict-entry-2 c .store-evict-entry in
-    expire-less p _ _ v (after-i-2 c .before .before .oldest-aged .result) (after-i-2 c .before .before .oldest-aged .ensures (l .node) (l .start) (l .end) (l .write)) (after-i-2 c .i .given .1) {cʹ = rangesOf (e .last .0) (e .last .1 .0) (e .last .1 .1 .0) (e .last .1 .1 .1 .0) (e .last .1 .1 .1 .1 .0) (e .last .1 .1 .1 .1 .1 .0) (e .last .1 .1 .1 .1 .1 .1 .0)} {msʹ = e .last .1 .1 .1 .1 .1 .1 .1 .0} (e .ensures)
+    expire-less p _ _ v (after-i-2 c .before .before .oldest-aged .result) (after-i-2 c .before .before .oldest-aged .ensures (l .node) (l .start) (l .end) (l .write)) (after-i-2 c .i .given .1) {cʹ = rangesOf (e .last .1 .0) (e .last .1 .1 .0) (e .last .1 .1 .1 .0) (e .last .1 .1 .1 .1 .0) (e .last .1 .1 .1 .1 .1 .0) (e .last .1 .1 .1 .1 .1 .1 .0) (e .last .1 .1 .1 .1 .1 .1 .1 .0)} {msʹ = e .last .1 .1 .1 .1 .1 .1 .1 .1 .0} (e .ensures)
 
 loop-again : tie.Need-loop-again Inv-loop μ-loop
 loop-again c =
@@ -141,7 +141,7 @@ loop-again c =
     let v = l .inv in
     let e = after-store-evict-entry-2 c .store-evict-entry in
     let q = after-put-out c .put-out in
-    expire-turn p _ _ v (after-i-2 c .before .before .oldest-aged .result) (after-i-2 c .before .before .oldest-aged .ensures (l .node) (l .start) (l .end) (l .write)) (after-i-2 c .i .given .1) {cʹ = rangesOf (e .last .0) (e .last .1 .0) (e .last .1 .1 .0) (e .last .1 .1 .1 .0) (e .last .1 .1 .1 .1 .0) (e .last .1 .1 .1 .1 .1 .0) (e .last .1 .1 .1 .1 .1 .1 .0)} {msʹ = e .last .1 .1 .1 .1 .1 .1 .1 .0} (e .ensures) {lʹ = outList (q .last .0) (q .last .1 .0) (q .last .1 .1 .0) (q .last .1 .1 .1 .0) (q .last .1 .1 .1 .1 .0) (q .last .1 .1 .1 .1 .1 .0)} (q .ensures)
+    expire-turn p _ _ v (after-i-2 c .before .before .oldest-aged .result) (after-i-2 c .before .before .oldest-aged .ensures (l .node) (l .start) (l .end) (l .write)) (after-i-2 c .i .given .1) {cʹ = rangesOf (e .last .1 .0) (e .last .1 .1 .0) (e .last .1 .1 .1 .0) (e .last .1 .1 .1 .1 .0) (e .last .1 .1 .1 .1 .1 .0) (e .last .1 .1 .1 .1 .1 .1 .0) (e .last .1 .1 .1 .1 .1 .1 .1 .0)} {msʹ = e .last .1 .1 .1 .1 .1 .1 .1 .1 .0} (e .ensures) {lʹ = outList (q .last .0) (q .last .1 .0) (q .last .1 .1 .0) (q .last .1 .1 .1 .0) (q .last .1 .1 .1 .1 .0) (q .last .1 .1 .1 .1 .1 .0)} (q .ensures)
 
 pub store-expire-spec : {M : Type 1} → statement M
 store-expire-spec =

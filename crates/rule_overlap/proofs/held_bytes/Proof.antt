@@ -11,10 +11,10 @@ use Rattle.rule_overlap.proofs.held_bytes.Statement.{statement}
 use Rattle.rule_overlap.proofs.held_bytes.Tie as tie
 
 abbrev Inv-loop : tie.InvT-loop
-Inv-loop start end depth bytes sp lo hi sum₀ i₀ sum i = Summing start end depth bytes sp lo hi sum i
+Inv-loop depth start end bytes sp lo hi sum₀ i₀ sum i = Summing start end depth bytes sp lo hi sum i
 
 abbrev μ-loop : tie.MeasureT-loop
-μ-loop start end depth bytes sp lo hi sum₀ i₀ sum i = hi - i
+μ-loop depth start end bytes sp lo hi sum₀ i₀ sum i = hi - i
 
 -- earlier places of the function, by name
 abbrev entry : tie.After-smaller Inv-loop μ-loop → tie.Start Inv-loop μ-loop

@@ -1,4 +1,4 @@
--- `rule_remove::removed_blocks` meets its contract: the blocks so far and those to come are the whole, from 1 to 1,024 of each record.
+-- `rule_remove::removed_blocks` meets its contract: the blocks so far and those to come are the whole, at most 1,024 of each record.
 use Prim.Native.Nat.{_-_, _≤_, _<_}
 use native.Mathlib.Omega.{arith}
 use lib.ListN.{getD}
@@ -25,7 +25,7 @@ add-sum : tie.Need-add-sum Inv-loop μ-loop
 add-sum c = omega (arith, more c, most c, c .before .before .before .before .before .loop .inv .small, c .before .before .before .before .before .loop .inv .high)
 
 loop-again : tie.Need-loop-again Inv-loop μ-loop
-loop-again c = count-turn _ _ _ _ _ _ _ _ (c .before .before .before .before .before .loop .inv) (c .before .before .before .before .loop-test .taken) (rw (c .before .before .larger .ensures, c .smaller .ensures)) (omega (arith, more c)) (omega (arith, most c))
+loop-again c = count-turn _ _ _ _ _ _ _ _ (c .before .before .before .before .before .loop .inv) (c .before .before .before .before .loop-test .taken) (rw (c .before .before .larger .ensures, c .smaller .ensures)) (omega (arith, most c))
 
 pub removed-blocks-spec : {M : Type 1} → statement M
 removed-blocks-spec =

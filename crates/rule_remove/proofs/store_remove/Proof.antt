@@ -74,7 +74,7 @@ returns-2 : tie.Need-returns-2
 returns-2 c =
     let p = entry-4 (c .before .before .before) .pre .0 in
     λ x same marks.
-    freed-some (rangesOf (entry-4 (c .before .before .before) .args .node .now) (entry-4 (c .before .before .before) .args .start .now) (entry-4 (c .before .before .before) .args .end .now) (entry-4 (c .before .before .before) .args .id .now) (entry-4 (c .before .before .before) .args .stamp .now) (entry-4 (c .before .before .before) .args .touched .now) (entry-4 (c .before .before .before) .args .write .now)) _ _ _ _ _ (record { few = p .0; sized = p .1; over = else1-2 (c .before .before .before) .before .end-overlap .ensures }) x same (else1-2 (c .before .before .before) .if1 .left) (entry-4 (c .before .before .before) .pre .1 .0 .0) (p .2) (rangesOf (after-cut-out (c .before .before .before) .cut-out .last .0) (after-cut-out (c .before .before .before) .cut-out .last .1 .0) (after-cut-out (c .before .before .before) .cut-out .last .1 .1 .0) (after-cut-out (c .before .before .before) .cut-out .last .1 .1 .1 .0) (after-cut-out (c .before .before .before) .cut-out .last .1 .1 .1 .1 .0) (after-cut-out (c .before .before .before) .cut-out .last .1 .1 .1 .1 .1 .0) (after-cut-out (c .before .before .before) .cut-out .last .1 .1 .1 .1 .1 .1 .0)) _ _ _ _ _ _ _ _ marks (after-removed-blocks c .removed-blocks .ensures)
+    freed-some (rangesOf (entry-4 (c .before .before .before) .args .node .now) (entry-4 (c .before .before .before) .args .start .now) (entry-4 (c .before .before .before) .args .end .now) (entry-4 (c .before .before .before) .args .id .now) (entry-4 (c .before .before .before) .args .stamp .now) (entry-4 (c .before .before .before) .args .touched .now) (entry-4 (c .before .before .before) .args .write .now)) _ _ _ _ _ (record { few = p .0; sized = p .1; over = else1-2 (c .before .before .before) .before .end-overlap .ensures }) x same (else1-2 (c .before .before .before) .if1 .left) (rangesOf (after-cut-out (c .before .before .before) .cut-out .last .0) (after-cut-out (c .before .before .before) .cut-out .last .1 .0) (after-cut-out (c .before .before .before) .cut-out .last .1 .1 .0) (after-cut-out (c .before .before .before) .cut-out .last .1 .1 .1 .0) (after-cut-out (c .before .before .before) .cut-out .last .1 .1 .1 .1 .0) (after-cut-out (c .before .before .before) .cut-out .last .1 .1 .1 .1 .1 .0) (after-cut-out (c .before .before .before) .cut-out .last .1 .1 .1 .1 .1 .1 .0)) _ _ _ _ _ _ _ _ marks (after-removed-blocks c .removed-blocks .ensures)
     (after-list-writes c .list-writes .ensures) (remove-fits (rangesOf (entry-4 (c .before .before .before) .args .node .now) (entry-4 (c .before .before .before) .args .start .now) (entry-4 (c .before .before .before) .args .end .now) (entry-4 (c .before .before .before) .args .id .now) (entry-4 (c .before .before .before) .args .stamp .now) (entry-4 (c .before .before .before) .args .touched .now) (entry-4 (c .before .before .before) .args .write .now)) (entry-4 (c .before .before .before) .args .n) (after-first-overlap-2 (c .before .before .before) .first-overlap .result) (else1-2 (c .before .before .before) .before .end-overlap .result) (entry-4 (c .before .before .before) .args .sp) (else1-2 (c .before .before .before) .before .end-overlap .ensures) (else1-2 (c .before .before .before) .if1 .left) (entry-4 (c .before .before .before) .pre .1 .1)) (after-cut-out (c .before .before .before) .cut-out .ensures) (c .before .before .unmark .ensures _ refl)
 
 pub store-remove-spec : {M : Type 1} → statement M

@@ -2,7 +2,7 @@
 use Prim.Native.Nat.{ℕ, _+_}
 use native.Mathlib.Omega.{arith}
 use Rattle.model.specs.State.{at}
-use Rattle.rule_resolve.proofs.Laws.{rises}
+use Rattle.model.proofs.Rising.{rises}
 use borrow.Author.Needs.{needs}
 use Rattle.rule_resolve.proofs.span_bytes.Statement.{statement}
 use Rattle.rule_resolve.proofs.span_bytes.Tie as tie

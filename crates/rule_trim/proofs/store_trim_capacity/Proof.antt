@@ -13,15 +13,15 @@ use Rattle.rule_trim.proofs.store_trim_capacity.Statement.{statement}
 use Rattle.rule_trim.proofs.store_trim_capacity.Tie as tie
 
 abbrev Inv-loop : tie.InvT-loop
-Inv-loop node₀ start₀ end₀ id₀ stamp₀ touched₀ write₀ marks₀ out-node₀ out-start₀ out-end₀ out-write₀ out-bytes₀ out-dead₀ depth pin-node pin-start pin-end bytes n m held capacity version left₀ h₀ v₀ k₀ node start end id stamp touched write marks out-node out-start out-end out-write out-bytes out-dead left h v k =
+Inv-loop depth node₀ start₀ end₀ id₀ stamp₀ touched₀ write₀ pin-node pin-start pin-end marks₀ bytes out-node₀ out-start₀ out-end₀ out-write₀ out-bytes₀ out-dead₀ n m held capacity version left₀ h₀ v₀ k₀ node start end id stamp touched write marks out-node out-start out-end out-write out-bytes out-dead left h v k =
     (count : List ℕ)
     → Trimming depth bytes (pins (pinsOf pin-node pin-start pin-end count) 0 m) capacity n version (rangesOf node₀ start₀ end₀ id₀ stamp₀ touched₀ write₀) marks₀ (outList out-node₀ out-start₀ out-end₀ out-write₀ out-bytes₀ out-dead₀) left (rangesOf node start end id stamp touched write) marks (outList out-node out-start out-end out-write out-bytes out-dead) h k v
 
 abbrev μ-loop : tie.MeasureT-loop
-μ-loop node₀ start₀ end₀ id₀ stamp₀ touched₀ write₀ marks₀ out-node₀ out-start₀ out-end₀ out-write₀ out-bytes₀ out-dead₀ depth pin-node pin-start pin-end bytes n m held capacity version left₀ h₀ v₀ k₀ node start end id stamp touched write marks out-node out-start out-end out-write out-bytes out-dead left h v k = h
+μ-loop depth node₀ start₀ end₀ id₀ stamp₀ touched₀ write₀ pin-node pin-start pin-end marks₀ bytes out-node₀ out-start₀ out-end₀ out-write₀ out-bytes₀ out-dead₀ n m held capacity version left₀ h₀ v₀ k₀ node start end id stamp touched write marks out-node out-start out-end out-write out-bytes out-dead left h v k = h
 
 -- earlier places of the function, by name
-abbrev entry : tie.After-shared-slice-known5 Inv-loop μ-loop → tie.Start Inv-loop μ-loop
+abbrev entry : tie.After-slice-known14 Inv-loop μ-loop → tie.Start Inv-loop μ-loop
 entry c = c .before .before .before .before .before .before .before .before .before .before .before .before .before .before .before .before .before .before .before
 
 abbrev entry-2 : tie.After-enum-told Inv-loop μ-loop → tie.Start Inv-loop μ-loop
@@ -141,7 +141,7 @@ loop-again c =
     let e = after-store-evict-entry-2 c .store-evict-entry in
     let q = after-put-out c .put-out in
     λ count.
-    trim-turn p _ _ (l .inv count) (in-loop-3 c .loop-test .taken) (after-i-2 c .before .before .first-free .ensures count (l .write) (l .touched)) (after-i-2 c .i .given .1) {cʹ = rangesOf (e .last .0) (e .last .1 .0) (e .last .1 .1 .0) (e .last .1 .1 .1 .0) (e .last .1 .1 .1 .1 .0) (e .last .1 .1 .1 .1 .1 .0) (e .last .1 .1 .1 .1 .1 .1 .0)} {msʹ = e .last .1 .1 .1 .1 .1 .1 .1 .0} (e .ensures) {lʹ = outList (q .last .0) (q .last .1 .0) (q .last .1 .1 .0) (q .last .1 .1 .1 .0) (q .last .1 .1 .1 .1 .0) (q .last .1 .1 .1 .1 .1 .0)} (q .ensures)
+    trim-turn p _ _ (l .inv count) (in-loop-3 c .loop-test .taken) (after-i-2 c .before .before .first-free .ensures count (l .write) (l .touched)) (after-i-2 c .i .given .1) {cʹ = rangesOf (e .last .1 .0) (e .last .1 .1 .0) (e .last .1 .1 .1 .0) (e .last .1 .1 .1 .1 .0) (e .last .1 .1 .1 .1 .1 .0) (e .last .1 .1 .1 .1 .1 .1 .0) (e .last .1 .1 .1 .1 .1 .1 .1 .0)} {msʹ = e .last .1 .1 .1 .1 .1 .1 .1 .1 .0} (e .ensures) {lʹ = outList (q .last .0) (q .last .1 .0) (q .last .1 .1 .0) (q .last .1 .1 .1 .0) (q .last .1 .1 .1 .1 .0) (q .last .1 .1 .1 .1 .1 .0)} (q .ensures)
 
 returns-2 : tie.Need-returns-2 Inv-loop μ-loop
 returns-2 c =

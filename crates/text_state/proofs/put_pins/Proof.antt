@@ -8,10 +8,10 @@ use Rattle.text_state.proofs.put_pins.Statement.{statement}
 use Rattle.text_state.proofs.put_pins.Tie as tie
 
 abbrev Inv-loop : tie.InvT-loop
-Inv-loop out₀ at node start end count depth run words s n next₀ k₀ out next k = (at ≤ next) × (next ≤ at + 208 * k) × (k ≤ n) × (length out ≡ length out₀) × Spots 32 s n node start end depth run words
+Inv-loop out₀ at depth run words node start end count s n next₀ k₀ out next k = (at ≤ next) × (next ≤ at + 208 * k) × (k ≤ n) × (length out ≡ length out₀) × Spots 32 s n depth run words node start end
 
 abbrev μ-loop : tie.MeasureT-loop
-μ-loop out₀ at node start end count depth run words s n next₀ k₀ out next k = n - k
+μ-loop out₀ at depth run words node start end count s n next₀ k₀ out next k = n - k
 
 pub put-pins-spec : {M : Type 1} → statement M
 put-pins-spec =

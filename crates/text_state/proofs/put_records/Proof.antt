@@ -8,10 +8,10 @@ use Rattle.text_state.proofs.put_records.Statement.{statement}
 use Rattle.text_state.proofs.put_records.Tie as tie
 
 abbrev Inv-loop : tie.InvT-loop
-Inv-loop out₀ at node start end id stamp touched write depth run words s n next₀ k₀ out next k = (at ≤ next) × (next ≤ at + 278 * k) × (k ≤ n) × (length out ≡ length out₀) × Spots 128 s n node start end depth run words
+Inv-loop out₀ at depth run words node start end id stamp touched write s n next₀ k₀ out next k = (at ≤ next) × (next ≤ at + 278 * k) × (k ≤ n) × (length out ≡ length out₀) × Spots 128 s n depth run words node start end
 
 abbrev μ-loop : tie.MeasureT-loop
-μ-loop out₀ at node start end id stamp touched write depth run words s n next₀ k₀ out next k = n - k
+μ-loop out₀ at depth run words node start end id stamp touched write s n next₀ k₀ out next k = n - k
 
 put-record-requires : tie.Need-put-record-requires Inv-loop μ-loop
 put-record-requires c κs = (c .before .before .loop .inv .4 (c .before .before .loop .k) (search needs) (search needs), search needs, search needs, search needs, search needs, search needs)

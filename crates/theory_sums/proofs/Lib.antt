@@ -1,0 +1,13 @@
+pub mod Places
+pub mod Tallied
+pub mod Books
+pub mod Answers
+pub mod Made
+pub mod Amounts
+pub mod Stepped
+pub mod Sums
+pub mod Outs
+pub mod Looked
+pub mod Bounds
+pub mod Far
+pub mod Lent

@@ -1,0 +1,5 @@
+pub mod Tallied
+pub mod Steps
+pub mod Balance
+pub mod Figures
+pub mod Bounds

@@ -1,0 +1,1 @@
+// What the running sums keep: theorems of the definitions only.
