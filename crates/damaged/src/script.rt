@@ -1,7 +1,7 @@
 // One line of the script: it changes the state that is tried, or tries calls on it.
 //
-// `put NAME PLACE NUMBER` changes one number, `make LINE` makes a call of the replay form; `clear` gives blank pools, `save` keeps the state and `back` takes it
-// up again; `short POOL LIST` lends that pool and that answer list one short, 0 for none; `flags N` gives set-up so many flags, 10 as many as stores;
+// `put NAME PLACE NUMBER` changes one number, `make LINE` makes a call of the replay form; `clear` gives blank pools, `save` keeps the state and `back` takes
+// it up again; `short POOL LIST` lends that pool and that answer list one short, 0 for none; `flags N` gives set-up so many flags, 10 as many as stores;
 // `try NAME LINE` tries a call, `count NAME STORE` a store's counters, `each NAME` every call but set-up.
 use crate::tries;
 use trial_world::edit;
