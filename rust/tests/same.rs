@@ -161,7 +161,10 @@ fn blocks_of_a_bring_in_and_a_removal() {
     assert_eq!(came(1, span(0, 5)), 0);
     assert_eq!(came(0, span(0, 5)), 5);
     assert_eq!(came(0, span(2, 5)), 1);
-    assert_eq!(radix.store_remove_blocks(0, span(2, 5)), Ok((vec![7, 7], 2)));
+    assert_eq!(
+        radix.store_remove_blocks(0, span(2, 5)),
+        Ok((vec![7, 7], 2))
+    );
     assert_eq!(radix.store_remove_blocks(0, span(2, 5)), Ok((vec![], 0)));
     assert_eq!(radix.store_held_blocks(0), Ok(2));
 }
