@@ -1,18 +1,16 @@
 -- The small numbers with those of a run: those that stand already, read back, and laid over others. Assumes nothing.
-use Prim.Native.Nat.{ℕ, _+_, _*_, _≤_, _<_}
+use Prim.Native.Nat.{ℕ, _≤_, _<_}
 use mathlib.Core.Path.{_≡_, refl, sym, ap, _∙_}
 use mathlib.Core.Bool.{Bool}
 use mathlib.Core.List.{List}
-use native.Mathlib.Nat.{le-refl}
-use native.Mathlib.Omega.{arith}
-use lib.ListN.{length, length-drop}
+use lib.ListN.{length}
 use lib.Dec.{eqb}
 use Rattle.model.specs.declared.Book.{Book}
-use Rattle.model.specs.Sizes.{maxStores, maxNumbers, storeNumbers}
-use Rattle.model.specs.State.{nodesIn, usedIn, storesIn, nextIdIn, stallsIn, partsIn, numbers, bookIn, whole as fiveAnd}
+use Rattle.model.specs.Sizes.{maxStores, maxNumbers}
+use Rattle.model.specs.State.{nextIdIn, stallsIn, bookIn}
 use Rattle.model.specs.Store.{layBook, layNext}
-use Rattle.theory_lay.proofs.Lay.{lay-lay}
 use Rattle.theory_lay.proofs.Books.{book-read, book-back, next-book, next-same}
+use Rattle.pool_undo.proofs.Undone.{book-over}
 use Rattle.call_touch_span.specs.declared.Run.{Run}
 use Rattle.call_touch_span.specs.Turn.{renumbered, booksWith, Stands}
 
@@ -23,16 +21,6 @@ next-is next stalls l = refl
 module _ (s : ℕ) (x : List ℕ) (less : s < maxStores) (long : maxNumbers ≤ length x) where
   abbrev own : Book
   own = bookIn x s
-
-  part-in : storeNumbers * s + storeNumbers ≤ length (partsIn x)
-  part-in = rw length-drop (omega arith)
-
-  book-over : (next stalls next₀ stalls₀ : ℕ) (b d : Book)
-      → layNext next stalls (layBook s b (layNext next₀ stalls₀ (layBook s d x))) ≡ layNext next stalls (layBook s b x)
-  unfolding layNext layBook
-  book-over next stalls next₀ stalls₀ b d =
-      ap (λ (xs : List ℕ). fiveAnd (nodesIn x) (usedIn x) (storesIn x) next stalls xs)
-      (lay-lay 0 (storeNumbers * s) storeNumbers storeNumbers (numbers d) (numbers b) (partsIn x) (le-refl storeNumbers) (le-refl storeNumbers) part-in)
 
   stalls-is : (next stalls : ℕ) (b : Book) → stallsIn (layNext next stalls (layBook s b x)) ≡ stalls
   unfolding layNext
@@ -54,7 +42,7 @@ module _ (s : ℕ) (x : List ℕ) (less : s < maxStores) (long : maxNumbers ≤ 
   books-over z r =
       let d = renumbered own (z .n) (z .top) in
       (λ j. layNext (r .next) ((stalls-is (z .next) (stallsIn x) d) j) (layBook s (renumbered ((book-run z) j) (r .n) (r .top)) (booksWith s z x)))
-      ∙ book-over (r .next) (stallsIn x) (z .next) (stallsIn x) (renumbered own (r .n) (r .top)) d
+      ∙ book-over s x less long (r .next) (stallsIn x) (z .next) (stallsIn x) (renumbered own (r .n) (r .top)) d
 
   -- the policy is as it was, so the numbers of a later run stand too
   pub stands-on : (refreshes : Bool) (z r : Run) → Stands s refreshes (booksWith s z x) z → Stands s refreshes (booksWith s r x) r

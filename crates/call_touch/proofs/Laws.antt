@@ -1,13 +1,13 @@
 -- The list of spans: a pass that only looks at them, and a pass of turns. What is left to do gives the same as all of it, and what was kept of the store's part still
 -- gives the state that the touch began with; so a refused turn leaves no trace. Assumes nothing.
-use Prim.Native.Nat.{ℕ, zero, suc, _+_, _-_, _*_, _≤_, _<_}
+use Prim.Native.Nat.{ℕ, zero, suc, _+_, _*_, _≤_, _<_}
 use mathlib.Core.Path.{_≡_, refl, sym, ap, subst, _∙_}
 use mathlib.Core.Bool.{Bool, true, false, not, _||_}
-use mathlib.Core.List.{List, [], _∷_, _++_, map}
+use mathlib.Core.List.{List, [], _∷_}
 use native.Mathlib.Numerals.{add-one}
 use native.Mathlib.Omega.{arith}
-use lib.ListN.{length, take, drop, getD, replicate, length-take, length-replicate, length-map, take-append-drop}
-use lib.Seq.{drop-drop, drop-cons, drop-length, take-at, getD-take}
+use lib.ListN.{length, take, drop, getD, length-take}
+use lib.Seq.{drop-cons, drop-length, getD-take}
 use lib.Dec.{ltb, leb, eqb}
 use lib.Ieee.{Float}
 use mir.Val.{Fits}
@@ -17,10 +17,10 @@ use Rattle.model.specs.declared.Span.{Span}
 use Rattle.model.specs.declared.TouchAnswer.{TouchAnswer}
 use Rattle.model.specs.Sizes.{maxStamp, maxBytes, maxSpans}
 use Rattle.model.specs.Words.{any, pick}
-use Rattle.model.specs.State.{Tree, Ranges, State, Range, storesOf, nextIdOf, recordsOf, stampOf}
-use Rattle.model.specs.Sound.{Sound, RangesLent, Finite}
+use Rattle.model.specs.State.{Tree, Ranges, State, storesOf, nextIdOf, recordsOf, stampOf}
+use Rattle.model.specs.Sound.{Sound, Finite}
 use Rattle.model.specs.SoundTest
-use Rattle.model.specs.Store.{storeOf, lay, layRanges, noTime}
+use Rattle.model.specs.Store.{storeOf, lay, layRanges}
 use Rattle.model.specs.Touch.{Touched}
 use Rattle.model.specs.Refusals.{firstOf, SpanIn, spanIn, noSpan, touchedBy, touchSpan, turnRefusals}
 use Rattle.model.specs.Calls.{Outcome, refused, done, unless, touchSpans, bytesTouched, storeUsed}
@@ -35,12 +35,12 @@ use Rattle.theory_lay.proofs.Store.{records-length}
 use Rattle.shape_state.specs.Lent.{treeOf}
 use Rattle.pool_part.specs.Parts.{mid, back, backRanges}
 use Rattle.pool_part.proofs.Parts.{mid-long}
-use Rattle.pool_range.proofs.Records.{ranges-eq}
 use Rattle.rule_resolve.proofs.Sound.{sound-priced}
 use Rattle.shape_answer.specs.declared.StoreUsed.{StoreUsed}
 use Rattle.shape_answer.specs.Answers.{outcome, storeUsedOf}
 use Rattle.pool_undo.specs.declared.Old.{Old}
-use Rattle.pool_undo.specs.Old.{oldRanges, oldFrom}
+use Rattle.pool_undo.specs.Old.{oldRanges}
+use Rattle.pool_undo.proofs.Undone.{back-mid, back-over, ranges-over, ranges-mid}
 use Rattle.call_touch_span.specs.declared.Turn.{Turn}
 use Rattle.call_touch_span.specs.declared.Run.{Run}
 use Rattle.call_touch_span.specs.Turn.{Others, whole, booksWith, Stands, firstNumber, Begun, four, refusing, looked, RunAt, keptOld, TurnAt, Ready, Gone, Turned, Writes, read, Finished}
@@ -50,69 +50,6 @@ use Rattle.test_arguments.specs.Need.{needNumber}
 use Rattle.test_arguments.proofs.Need.{number-fits}
 use Rattle.call_touch_span.proofs.Laws.{touch-marks-long, touch-bytes-most}
 use Rattle.call_touch.proofs.Books.{books-same, books-over, stands-on}
-
--- ---- a part put back over what was laid there
-
-module _ {A : Type 0} where
-  drop-past : (n : ℕ) (xs ys : List A) → length xs ≤ n → drop n (xs ++ ys) ≡ drop (n - length xs) ys
-  drop-past n [] ys h = let e : n - 0 ≡ n = omega arith in ap (λ (k : ℕ). drop k ys) (sym e)
-  drop-past zero (x ∷ xs) ys h = absurd (omega arith)
-  drop-past (suc n) (x ∷ xs) ys h =
-      let e : n - length xs ≡ suc n - suc (length xs) = omega arith in
-      drop-past n xs ys (omega arith) ∙ ap (λ (k : ℕ). drop k ys) e
-
-  back-mid : (a w : ℕ) (l : List A) → back a w (mid a w l) l ≡ l
-  back-mid a w l = ap (λ (t : List A). take a l ++ t) (take-append-drop w (drop a l)) ∙ take-append-drop a l
-
-  module _ (blank : A) (a w k : ℕ) (xs q l : List A) (long : a + w ≤ length l) (few : length xs ≤ k) (room : k ≤ w) where
-    head-long : length (take a l) ≡ a
-    head-long = length-take a l ∙ omega arith
-
-    laid-head : take a (lay blank a k xs l) ≡ take a l
-    unfolding lay
-    laid-head = take-at (take a l) _ a head-long
-
-    laid-tail : drop w (drop a (lay blank a k xs l)) ≡ drop w (drop a l)
-    unfolding lay
-    laid-tail =
-        let r = length-replicate (k - length xs) blank in
-        let e : (a + w) - length (take a l) ≡ w = omega (arith, head-long) in
-        let f : (w - length xs) - length (replicate (k - length xs) blank) ≡ w - k = omega (arith, r) in
-        let g : (a + k) + (w - k) ≡ a + w = omega arith in
-        drop-drop w a (lay blank a k xs l)
-        ∙ drop-past (a + w) (take a l) (xs ++ (replicate (k - length xs) blank ++ drop (a + k) l)) (omega (arith, head-long))
-        ∙ ap (λ (n : ℕ). drop n (xs ++ (replicate (k - length xs) blank ++ drop (a + k) l))) e
-        ∙ drop-past w xs (replicate (k - length xs) blank ++ drop (a + k) l) (omega arith)
-        ∙ drop-past (w - length xs) (replicate (k - length xs) blank) (drop (a + k) l) (omega (arith, r))
-        ∙ ap (λ (n : ℕ). drop n (drop (a + k) l)) f
-        ∙ drop-drop (w - k) (a + k) l
-        ∙ ap (λ (n : ℕ). drop n l) g
-        ∙ sym (drop-drop w a l)
-
-    back-over : back a w q (lay blank a k xs l) ≡ back a w q l
-    back-over = (λ i. laid-head i ++ (q ++ laid-tail i))
-
-module _ (a k : ℕ) (rs : List Range) (q c : Ranges) (long : RangesLent c) (low : a + 128 ≤ 1024) (few : length rs ≤ k) (room : k ≤ 128) where
-  col-few : {A : Type 0} (f : Range → A) → length (map f rs) ≤ k
-  col-few f = omega (arith, length-map rs f)
-
-  ranges-over : backRanges a 128 q (layRanges a k rs c) ≡ backRanges a 128 q c
-  unfolding backRanges layRanges
-  ranges-over =
-      ranges-eq
-      (back-over 0 a 128 k (map (λ r. r .node) rs) (q .node) (c .node) (omega (arith, long .node)) (col-few (λ r. r .node)) room)
-      (back-over 0 a 128 k (map (λ r. r .start) rs) (q .start) (c .start) (omega (arith, long .start)) (col-few (λ r. r .start)) room)
-      (back-over 0 a 128 k (map (λ r. r .end) rs) (q .end) (c .end) (omega (arith, long .end)) (col-few (λ r. r .end)) room)
-      (back-over 0 a 128 k (map (λ r. r .id) rs) (q .id) (c .id) (omega (arith, long .id)) (col-few (λ r. r .id)) room)
-      (back-over 0 a 128 k (map (λ r. r .stamp) rs) (q .stamp) (c .stamp) (omega (arith, long .stamp)) (col-few (λ r. r .stamp)) room)
-      (back-over noTime a 128 k (map (λ r. r .touched) rs) (q .touched) (c .touched) (omega (arith, long .touched)) (col-few (λ r. r .touched)) room)
-      (back-over 0 a 128 k (map (λ r. r .write) rs) (q .write) (c .write) (omega (arith, long .write)) (col-few (λ r. r .write)) room)
-
-ranges-mid : (s : ℕ) (c : Ranges) (ms : List ℕ) → backRanges (128 * s) 128 (oldRanges (oldFrom s c ms)) c ≡ c
-unfolding backRanges
-ranges-mid s c ms =
-    ranges-eq (back-mid (128 * s) 128 (c .node)) (back-mid (128 * s) 128 (c .start)) (back-mid (128 * s) 128 (c .end)) (back-mid (128 * s) 128 (c .id))
-    (back-mid (128 * s) 128 (c .stamp)) (back-mid (128 * s) 128 (c .touched)) (back-mid (128 * s) 128 (c .write))
 
 -- ---- the pass that looks at the spans
 

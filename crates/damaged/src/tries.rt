@@ -45,39 +45,13 @@ fn say_end(old: World, t: Tried) {
     say(b" changed\n");
 }
 
-// The state that the operation of a line leaves.
-pub fn made(w: World, line: &[u8]) -> World {
-    let mut list = [0u64; 1026];
-    let mut spans = [0usize; 192];
-    let mut tiers = [0usize; 9];
-    let mut capacity = [0u64; 9];
-    let mut refreshes = [false; 9];
-    let op = text_lines::read(
-        line,
-        &mut list,
-        &mut spans,
-        &mut tiers,
-        &mut capacity,
-        &mut refreshes,
-    );
-    let short = Short { pool: 0, list: 0 };
-    let t = call::call(
-        w,
-        short,
-        10,
-        op,
-        &list,
-        &spans,
-        &tiers,
-        &capacity,
-        &refreshes,
-    );
-    let after = t.world;
-    after
+// What a line asks for, and what came of it.
+struct Trial {
+    op: Op,
+    tried: Tried,
 }
 
-// The operation of a line, tried.
-pub fn tried(name: &[u8], w: World, short: Short, flags: usize, line: &[u8]) {
+fn called(w: World, short: Short, flags: usize, line: &[u8]) -> Trial {
     let mut list = [0u64; 1026];
     let mut spans = [0usize; 192];
     let mut tiers = [0usize; 9];
@@ -91,9 +65,7 @@ pub fn tried(name: &[u8], w: World, short: Short, flags: usize, line: &[u8]) {
         &mut capacity,
         &mut refreshes,
     );
-    say(name);
-    say_call(op);
-    let t = call::call(
+    let tried = call::call(
         w,
         short,
         flags,
@@ -104,6 +76,25 @@ pub fn tried(name: &[u8], w: World, short: Short, flags: usize, line: &[u8]) {
         &capacity,
         &refreshes,
     );
+    Trial { op, tried }
+}
+
+// The state that the operation of a line leaves.
+pub fn made(w: World, line: &[u8]) -> World {
+    let short = Short { pool: 0, list: 0 };
+    let c = called(w, short, 10, line);
+    let t = c.tried;
+    let after = t.world;
+    after
+}
+
+// The operation of a line, tried.
+pub fn tried(name: &[u8], w: World, short: Short, flags: usize, line: &[u8]) {
+    let c = called(w, short, flags, line);
+    let op = c.op;
+    let t = c.tried;
+    say(name);
+    say_call(op);
     say_end(w, t);
 }
 
