@@ -1,3 +1,4 @@
+#![tactic(auto)]
 // A span brought into a store, on a sound state: every test, then the store is lent its part, and the small numbers follow.
 ghost use Rattle.std.specs.Prelude.{◌≡◌, [], ◌∷◌, ◌+◌, ◌≤◌, ◌<◌, length};
 ghost use Rattle.model.specs.Sizes.{max_stores, max_numbers};

@@ -1,3 +1,4 @@
+#![tactic(auto)]
 // A cut of the whole state: what refuses an insertion, then each store in turn, on its part of the pools.
 ghost use Rattle.std.specs.Prelude.{◌≡◌, ◌++◌, List, ℕ, ◌+◌, ◌*◌, ◌≤◌, ◌<◌, length, take, drop};
 ghost use Rattle.model.specs.Sizes.{max_stamp, max_pinned, max_stores, max_numbers};

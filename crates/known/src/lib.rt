@@ -1,3 +1,4 @@
+#![tactic(auto)]
 // The calls of a caller whose state is known to be sound, under the source's names: each makes every test that document 01 has for it but those for 1 and
 // 14. A state that was set up here and changed by these calls alone is sound. `sound_state` is the test for 1.
 pub use call_bring::store_insert;

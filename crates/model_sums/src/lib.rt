@@ -1,1 +1,2 @@
+#![tactic(auto)]
 // The running sums of a report and the calls that keep them: definitions only, see specs/.

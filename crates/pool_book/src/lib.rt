@@ -1,3 +1,4 @@
+#![tactic(auto)]
 // A store's own numbers, read from its part of the small numbers and written back; the tree's counts, the next id and the stalls. All but the
 // test take a list that is long enough.
 ghost use Rattle.std.specs.Prelude.{◌≡◌, ◌+◌, ◌*◌, ◌<◌, ◌≤◌, [], ◌∷◌, length, take, drop};

@@ -1,3 +1,4 @@
+#![tactic(auto)]
 // A node's mark, which is 0 where the store holds no range of the node: at set-up, where ranges go, in a cut. Of the ranges only the node column is lent:
 // the other columns do not matter.
 ghost use Rattle.std.specs.Prelude.{◌≡◌, ◌-◌, ◌≤◌, ◌<◌, min, length, replicate};

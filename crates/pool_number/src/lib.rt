@@ -1,3 +1,4 @@
+#![tactic(auto)]
 // What many searches need of plain numbers.
 ghost use Rattle.std.specs.Prelude.{◌≡◌, min, max};
 

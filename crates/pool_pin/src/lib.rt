@@ -1,3 +1,4 @@
+#![tactic(auto)]
 // A store's pin entries in lent columns, n of them from place a on: a span's place among them, an entry added, one pin taken off.
 ghost use Rattle.std.specs.Prelude.{◌≡◌, true, not, ◌+◌, ◌^◌, ◌≤◌, ◌<◌, length};
 ghost use Rattle.model.specs.State.{at};

@@ -1,3 +1,4 @@
+#![tactic(auto)]
 // An element put into a lent column or cut out of it, and a record of seven columns.
 ghost use Rattle.std.specs.Prelude.{◌≡◌, ◌+◌, ◌-◌, ◌≤◌, ◌<◌, length};
 ghost use Rattle.pool_range.specs.Cols.{put_at, cut_at};

@@ -1,3 +1,4 @@
+#![tactic(auto)]
 // The running sums of request P1, on plain numbers: what a call's answer adds, whether that passes 2^63 - 1, and the adding.
 ghost use Rattle.std.specs.Prelude.{◌≡◌, false, [], ◌∷◌, ◌+◌, ◌-◌, ◌≤◌, ◌<◌, length, ltb};
 ghost use Rattle.model.specs.Sizes.{max_stores};

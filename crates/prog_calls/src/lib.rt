@@ -1,3 +1,4 @@
+#![tactic(auto)]
 // One line's operation: its call is made on the pools, and its answer written into a buffer that the caller lends.
 //
 // The state is 19 arrays. Once a set-up was accepted it is sound, and each operation keeps it so.

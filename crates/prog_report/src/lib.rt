@@ -1,3 +1,4 @@
+#![tactic(auto)]
 // The Monday report, a line at a time: each operation's call is made on the pools with the sums kept, and what was refused or unreadable is counted.
 //
 // The state is 19 arrays; the sums stand beside them. counts[n] is how many lines were refused with n, counts[0] how many were unreadable.

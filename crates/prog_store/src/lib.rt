@@ -1,3 +1,4 @@
+#![tactic(auto)]
 // The calls of a store: each is made on the pools, and its answer written into a buffer that the caller lends. A sound state stays sound.
 ghost use Rattle.std.specs.Prelude.{◌≤◌};
 ghost use Rattle.model.specs.Sound.{Sound};

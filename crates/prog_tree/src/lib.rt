@@ -1,3 +1,4 @@
+#![tactic(auto)]
 // Set-up, the calls of the tree, lookup and the state's line: each is made on the pools, and its answer written into a buffer that the caller lends.
 //
 // The state is 19 arrays. Once a set-up was accepted it is sound, and stays so.

@@ -1,3 +1,4 @@
+#![tactic(auto)]
 // The demands of the public calls by their contracts: see proofs/Demands.antt and proofs/Prefix.antt. The one of a single call stands as a contract here.
 ghost use Rattle.std.specs.Prelude.{◌≡◌};
 ghost use Rattle.model.specs.State.{nodes_in, used_in};

@@ -1,3 +1,4 @@
+#![tactic(auto)]
 // The public call that inserts a list: the tests for 1 and 14, then the call that a caller with a sound state uses.
 ghost use Rattle.std.specs.Prelude.{◌≡◌};
 ghost use Rattle.model.specs.Calls.{insert as insert_call};

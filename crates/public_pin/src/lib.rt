@@ -1,3 +1,4 @@
+#![tactic(auto)]
 // The public calls of the pins: the test for 1, then the call that a caller with a sound state uses.
 ghost use Rattle.std.specs.Prelude.{◌≡◌};
 ghost use Rattle.model.specs.Calls.{pin_source, unpin_source};

@@ -1,3 +1,4 @@
+#![tactic(auto)]
 // The public calls that only read: resolve, lookup and the counters. The tests for 1 and 14, then the call that a caller with a sound state uses.
 ghost use Rattle.std.specs.Prelude.{◌≡◌};
 ghost use Rattle.model.specs.Calls.{resolve_call, lookup, held_call, capacity_call, pinned_call, available_call, version_call, stalls_call};

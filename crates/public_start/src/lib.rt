@@ -1,3 +1,4 @@
+#![tactic(auto)]
 // Before the spans of a touch are looked at: the test for 1, then the tests that need no span.
 ghost use Rattle.std.specs.Prelude.{◌≡◌};
 ghost use Rattle.shape_answer.specs.Answers.{state_from};

@@ -1,3 +1,4 @@
+#![tactic(auto)]
 // The public calls that keep the running sums: the tests for 1 and 14, a list of sums that is too short among them, then the call that a caller with a
 // sound state uses.
 ghost use Rattle.std.specs.Prelude.{◌≡◌};

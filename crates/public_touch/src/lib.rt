@@ -1,3 +1,4 @@
+#![tactic(auto)]
 // The public touch, of a lent list of spans, or of the first ones of an array: the test for 1 and the tests that need no span, a pass that looks at the
 // spans, a pass of turns, and the answer.
 ghost use Rattle.std.specs.Prelude.{◌≡◌, ◌≤◌, min, take};

@@ -1,3 +1,4 @@
+#![tactic(auto)]
 // The block tree, its stores and their rules: the public calls, under the source's names. Each makes all the tests that document 01 has for it, in 01's
 // order, and asks nothing of its caller.
 pub use call_set_up::set_up;

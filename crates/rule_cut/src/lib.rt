@@ -1,3 +1,4 @@
+#![tactic(auto)]
 // The ranges of a store where a node is cut.
 ghost use Rattle.std.specs.Prelude.{◌≡◌, true, ◌-◌, ◌^◌, ◌≤◌, ◌<◌, ◌+◌, length, ltb};
 ghost use Rattle.model.specs.State.{at, Ranges};

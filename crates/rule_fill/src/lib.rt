@@ -1,3 +1,4 @@
+#![tactic(auto)]
 // The gaps of a span in a store, and a record for each.
 ghost use Rattle.std.specs.Prelude.{◌≡◌, List, [], ℕ, ◌+◌, ◌≤◌, ◌<◌, length, Float, ltb, leb, eqb, ◌&&◌, ◌||◌};
 ghost use Rattle.model.specs.Store.{ranges, insert, lay_ranges};

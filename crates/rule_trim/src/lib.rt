@@ -1,3 +1,4 @@
+#![tactic(auto)]
 ghost use Rattle.std.specs.Prelude.{List, ℕ, ◌≤◌, length};
 ghost use Rattle.model.specs.Store.{ranges, pins};
 ghost use Rattle.model.specs.Trim.{trim};

@@ -1,3 +1,4 @@
+#![tactic(auto)]
 // The calls that Rust makes on the stores, in the shape of those of `rust_tree`.
 ghost use Rattle.std.specs.Prelude.{◌≡◌, true, ◌≤◌, length};
 ghost use Rattle.model.specs.Words.{Says};

@@ -1,3 +1,4 @@
+#![tactic(auto)]
 // The counted calls that Rust makes, in the shape of those of `rust_store`, for a state that is known to be sound: who keeps a report keeps its state too.
 ghost use Rattle.std.specs.Prelude.{◌≡◌, ◌≤◌, length};
 ghost use Rattle.model.specs.Sizes.{out_places};

@@ -1,3 +1,4 @@
+#![tactic(auto)]
 // The calls that Rust makes on the tree: the columns in their order, the answer lists, a list for the answer's values, whether the state is known to be
 // sound, then the arguments. The result is 0, or the refusal's number. What is asked where it is known, one owner guarantees who sets up once and changes
 // the state by these calls only; else every test is made, and nothing is asked of the state.

@@ -1,3 +1,4 @@
+#![tactic(auto)]
 // What each call answers: a refusal's number, or that it was done, with what `model` says of it.
 use model::{
     BringAnswer, ExpireAnswer, InsertAnswer, LookupAnswer, RemoveAnswer, ResolveAnswer, TouchAnswer,

@@ -1,1 +1,2 @@
+#![tactic(auto)]
 // The state that lent pools make: see specs/Lent.

@@ -1,3 +1,4 @@
+#![tactic(auto)]
 // The tests of arguments: those for 4 and 5, for 3 and 9 that read no pool, whether a touch has room for all its spans, and for 14, whether the answer
 // lists of a call are as long as 01 says. And the tests of what a call needs, for 8 and 11.
 ghost use Rattle.std.specs.Prelude.{◌≡◌, not, ◌||◌, ◌+◌, ◌≤◌, ◌<◌, ltb, length};

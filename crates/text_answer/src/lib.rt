@@ -1,3 +1,4 @@
+#![tactic(auto)]
 // The answers in the replay form, written into a buffer that the caller lends. Each function answers the place past what it wrote.
 ghost use Rattle.std.specs.Prelude.{◌+◌, ◌≤◌, ◌<◌, length};
 ghost use Rattle.text_answer.specs.Text.{Wrote, PathIn, InsertIn, BringIn, ExpireIn, RemoveIn, LookupIn};

@@ -1,3 +1,4 @@
+#![tactic(auto)]
 // One line of the replay form, read into an operation by value. Its lists go into arrays that the caller lends.
 ghost use Rattle.std.specs.Prelude.{◌≤◌, ◌<◌, length};
 ghost use Rattle.text_lines.specs.Lines.{WordAt, Taking, Filled};

@@ -1,3 +1,4 @@
+#![tactic(auto)]
 // Bytes and numbers written into a buffer that the caller lends. Each function answers the place past what it wrote.
 ghost use Rattle.std.specs.Prelude.{◌+◌, ◌≤◌, ◌<◌, [], ◌∷◌, length};
 ghost use Rattle.text_print.specs.Print.{Put, PutNumber, PutHex};

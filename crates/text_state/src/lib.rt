@@ -1,3 +1,4 @@
+#![tactic(auto)]
 // The whole state in the replay form, one line, written into a buffer that the caller lends. Each function answers the place past what it wrote.
 ghost use Rattle.std.specs.Prelude.{◌+◌, ◌≤◌, ◌<◌, length};
 ghost use Rattle.model.specs.Sizes.{max_numbers};

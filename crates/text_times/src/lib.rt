@@ -1,3 +1,4 @@
+#![tactic(auto)]
 // A time as a line writes it, and as the state prints it.
 ghost use Rattle.std.specs.Prelude.{◌≡◌, ◌+◌, ◌-◌, ◌^◌, ◌<◌, ◌≤◌, true, not, T, ◌++◌, length, pos, from_bits, is_nan};
 ghost use Rattle.std.specs.Float.{fin, binary64};

@@ -1,3 +1,4 @@
+#![tactic(auto)]
 // Words and numbers in a line: a slice of bytes, with the places in it as numbers.
 ghost use Rattle.std.specs.Prelude.{◌≡◌, ℕ, ◌≤◌, ◌<◌, length};
 ghost use Rattle.std.proofs.Math.Option.{Option};

@@ -1,1 +1,2 @@
+#![tactic(auto)]
 // A bring-in and an expiry keep a store sound. See proofs/.

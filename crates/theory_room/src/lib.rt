@@ -1,1 +1,2 @@
+#![tactic(auto)]
 // More room never shortens a reading: theorems of the definitions only.

@@ -1,1 +1,2 @@
+#![tactic(auto)]
 // What the running sums keep: theorems of the definitions only.

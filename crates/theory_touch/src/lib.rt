@@ -1,1 +1,2 @@
+#![tactic(auto)]
 // A touch of one span and a removal keep a store sound. See proofs/.

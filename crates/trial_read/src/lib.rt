@@ -1,3 +1,4 @@
+#![tactic(auto)]
 // The calls that are lent every pool as `&`: the path, the lookup and the counters. The pools are lent in one place for all of them.
 use radix::Count;
 use trial_world::tried::{Tried, count_number, looked_number, resolved_number};

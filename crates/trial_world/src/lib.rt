@@ -1,3 +1,4 @@
+#![tactic(auto)]
 // The state of a trial as a value: changed at one place, compared with another, and how much of it is lent.
 pub mod edit;
 pub mod same;
