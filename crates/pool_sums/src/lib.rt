@@ -11,7 +11,7 @@ ghost use Rattle.pool_sums.specs.Amounts.{Listed, only_sums, out_sums, out_more,
 use model::EachTier;
 
 // The blocks, bytes and dead bytes of the spans that a call gave out.
-#[derive(Drop)]
+#[derive(Clone, Copy)]
 pub struct OutSums {
     pub blocks: u64,
     pub bytes: u64,

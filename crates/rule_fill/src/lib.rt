@@ -13,7 +13,7 @@ ghost use Rattle.rule_fill.specs.Fill.{Filled, Room};
 use pool_range::Record;
 
 // The gaps of a span, lowest first; one more than the records of a store at most.
-#[derive(Drop)]
+#[derive(Clone, Copy)]
 pub struct Gaps {
     pub from: [usize; 129],
     pub upto: [usize; 129],
