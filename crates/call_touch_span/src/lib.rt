@@ -18,7 +18,7 @@ use shape_answer::StoreUsed;
 
 // What a touch changes of the small numbers, between two of its spans: the store's records and stamp and the next id; the bytes read;
 // and the refusal's number, 0 for none.
-#[derive(Drop)]
+#[derive(Clone, Copy)]
 pub struct Run {
     pub n: usize,
     pub top: u64,
@@ -29,7 +29,7 @@ pub struct Run {
 
 // A touch between two of its spans: how many nodes there are, whether the store refreshes, what the turns so far left, the store's part before the first
 // of them, the store, the time, whether reads are counted, and how many turns there were.
-#[derive(Drop)]
+#[derive(Clone, Copy)]
 pub struct Turn {
     pub nodes: usize,
     pub refreshes: bool,

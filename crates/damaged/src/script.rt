@@ -9,7 +9,7 @@ use crate::tries;
 use trial_world::edit;
 use trial_world::world::{Short, World, blank};
 
-#[derive(Drop)]
+#[derive(Clone, Copy)]
 pub struct Scene {
     pub world: World,
     pub short: Short,
@@ -18,7 +18,7 @@ pub struct Scene {
 }
 
 // What a line asks of the kept state, which stands with the caller.
-#[derive(Drop)]
+#[derive(Clone, Copy)]
 pub enum Turn {
     Go,
     Save,

@@ -44,7 +44,7 @@ fn say_end(old: World, t: Tried) {
 }
 
 // What a line asks for, and what came of it.
-#[derive(Drop)]
+#[derive(Clone, Copy)]
 struct Trial {
     op: Op,
     tried: Tried,

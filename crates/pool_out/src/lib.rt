@@ -7,14 +7,14 @@ ghost use Rattle.shape_answer.specs.Lists.{out_list};
 use model::Span;
 
 // The write that a range carries: none, or a number from 1.
-#[derive(Drop)]
+#[derive(Clone, Copy)]
 pub enum WriteId {
     NoWrite,
     Write(u32),
 }
 
 // A given-out span.
-#[derive(Drop)]
+#[derive(Clone, Copy)]
 pub struct Evicted {
     pub span: Span,
     pub write: WriteId,

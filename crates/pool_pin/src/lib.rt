@@ -11,7 +11,7 @@ ghost use Rattle.pool_pin.specs.EntryPlace.{same, before, PinsFrom, Placed};
 use model::Span;
 
 // Whether a span has an entry, and how many of the store's entries stand before it.
-#[derive(Drop)]
+#[derive(Clone, Copy)]
 pub struct EntryPlace {
     pub there: bool,
     pub at: usize,

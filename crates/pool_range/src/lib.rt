@@ -111,7 +111,7 @@ pub fn cut_f64(c: &mut [f64], n: usize, at: usize, blank: f64)
 }
 
 // One record of a store: a range that it holds. A write of 0 is none.
-#[derive(Drop)]
+#[derive(Clone, Copy)]
 pub struct Record {
     pub node: usize,
     pub start: usize,

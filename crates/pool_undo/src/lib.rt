@@ -12,7 +12,7 @@ ghost use Rattle.pool_undo.specs.Old.{old_ranges, old_from, old_outs, outs_back}
 use model::Book;
 
 // A store's part of the ranges and of the marks, as it was.
-#[derive(Drop)]
+#[derive(Clone, Copy)]
 pub struct Old {
     pub node: [usize; 128],
     pub start: [usize; 128],
@@ -25,7 +25,7 @@ pub struct Old {
 }
 
 // The first 128 places of the given-out lists, as they were.
-#[derive(Drop)]
+#[derive(Clone, Copy)]
 pub struct OldOuts {
     pub node: [usize; 128],
     pub start: [usize; 128],

@@ -145,7 +145,7 @@ fn is_beyond(node: &[usize], end: &[usize], i: usize, j: usize, k: usize) -> boo
 }
 
 // How far a cut is: the place of the range at hand, the end of those still to come, how many ranges there are, and the next id.
-#[derive(Drop)]
+#[derive(Clone, Copy)]
 pub struct Progress {
     pub at: usize,
     pub top: usize,
@@ -225,7 +225,7 @@ pub fn ranges_across(
 }
 
 // How many ranges there are after a cut, and the next id.
-#[derive(Drop)]
+#[derive(Clone, Copy)]
 pub struct After {
     pub n: usize,
     pub next: u64,

@@ -11,7 +11,7 @@ ghost use Rattle.rule_cut_pins.specs.Entries.{pin_from, pins_in, counts, Small, 
 use model::Span;
 
 // A pin entry; and up to 32 of them, in the first `n` places.
-#[derive(Drop)]
+#[derive(Clone, Copy)]
 pub struct Entry {
     pub node: usize,
     pub start: usize,
@@ -19,7 +19,7 @@ pub struct Entry {
     pub count: u64,
 }
 
-#[derive(Drop)]
+#[derive(Clone, Copy)]
 pub struct Entries {
     pub node: [usize; 32],
     pub start: [usize; 32],

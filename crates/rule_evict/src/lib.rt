@@ -82,7 +82,7 @@ fn tail(node: usize, start: usize, end: usize, k: usize) -> Span
 }
 
 // How many records are left, how many blocks went, the version after, and what is told of them.
-#[derive(Drop)]
+#[derive(Clone, Copy)]
 pub struct Gone {
     pub n: usize,
     pub taken: usize,

@@ -41,7 +41,7 @@ fn oldest_aged(
 }
 
 // How many records are left, how many blocks they hold, how many spans were given out, and the version.
-#[derive(Drop)]
+#[derive(Clone, Copy)]
 pub struct Expiring {
     pub n: usize,
     pub held: u64,

@@ -68,7 +68,7 @@ fn store_end(
 }
 
 // How many tier spans were found, and for each tier the sum of their blocks and of their bytes.
-#[derive(Drop)]
+#[derive(Clone, Copy)]
 pub struct LookupParts {
     pub spans: usize,
     pub blocks: [u64; 8],

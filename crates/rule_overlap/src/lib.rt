@@ -100,7 +100,7 @@ pub fn held_bytes(
 }
 
 // How many records and stamps a touch of one span needs.
-#[derive(Drop)]
+#[derive(Clone, Copy)]
 pub struct Needs {
     pub records: usize,
     pub stamps: u64,

@@ -13,7 +13,7 @@ ghost use Rattle.rule_remove.specs.Remove.{left_of, both_ends, only_write, CutTo
 use model::Span;
 
 // How many records there are then and how many were needed, the blocks that went, and how many writes are listed.
-#[derive(Drop)]
+#[derive(Clone, Copy)]
 pub struct Removing {
     pub n: usize,
     pub need: usize,
@@ -181,7 +181,7 @@ fn cut_ends(
 }
 
 // How many records there are after a cut, and how many it needed.
-#[derive(Drop)]
+#[derive(Clone, Copy)]
 struct Left {
     n: usize,
     need: usize,

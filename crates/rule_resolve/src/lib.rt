@@ -150,7 +150,7 @@ pub fn matched(
 }
 
 // A path whose segments stand in lists: how many they are, how many blocks they cover, and the last one (of the root and 0 blocks where there is none).
-#[derive(Drop)]
+#[derive(Clone, Copy)]
 pub struct Match {
     pub segs: usize,
     pub blocks: usize,

@@ -13,7 +13,7 @@ ghost use Rattle.rule_touch.specs.Touch.{halves_if, merged, only_joins, Refreshe
 use model::Span;
 
 // How many records there are then and how many were needed, the stamps needed, and the bytes read.
-#[derive(Drop)]
+#[derive(Clone, Copy)]
 pub struct Used {
     pub n: usize,
     pub need: usize,
@@ -313,7 +313,7 @@ fn join_ranges(
 }
 
 // How many records there are after a refreshing, and how many it needed.
-#[derive(Drop)]
+#[derive(Clone, Copy)]
 struct Renewed {
     n: usize,
     need: usize,

@@ -10,7 +10,7 @@ ghost use Rattle.rule_evict.specs.Given.{Ready, GivenOut};
 use pool_number::Found;
 
 // How many records are left, how many blocks they hold, how many spans were given out, the version, and whether it ended in a stall.
-#[derive(Drop)]
+#[derive(Clone, Copy)]
 pub struct Trimming {
     pub n: usize,
     pub held: u64,

@@ -5,56 +5,56 @@ use model::{
 };
 
 // Set-up, pin and unpin.
-#[derive(Drop)]
+#[derive(Clone, Copy)]
 pub enum Plain {
     Refused(u8),
     Done,
 }
 
 // A counter.
-#[derive(Drop)]
+#[derive(Clone, Copy)]
 pub enum Count {
     Refused(u8),
     Done(u64),
 }
 
-#[derive(Drop)]
+#[derive(Clone, Copy)]
 pub enum Resolved {
     Refused(u8),
     Done(ResolveAnswer),
 }
 
-#[derive(Drop)]
+#[derive(Clone, Copy)]
 pub enum Inserted {
     Refused(u8),
     Done(InsertAnswer),
 }
 
-#[derive(Drop)]
+#[derive(Clone, Copy)]
 pub enum StoreInserted {
     Refused(u8),
     Done(BringAnswer),
 }
 
-#[derive(Drop)]
+#[derive(Clone, Copy)]
 pub enum StoreUsed {
     Refused(u8),
     Done(TouchAnswer),
 }
 
-#[derive(Drop)]
+#[derive(Clone, Copy)]
 pub enum StoreRemoved {
     Refused(u8),
     Done(RemoveAnswer),
 }
 
-#[derive(Drop)]
+#[derive(Clone, Copy)]
 pub enum StoreExpired {
     Refused(u8),
     Done(ExpireAnswer),
 }
 
-#[derive(Drop)]
+#[derive(Clone, Copy)]
 pub enum Looked {
     Refused(u8),
     Done(LookupAnswer),

@@ -8,7 +8,7 @@ use text_times::Time;
 use text_words::Number;
 
 // What a line asks for. The counts say how many places of a lent list are filled; a list that is too long fills one place more than its call allows.
-#[derive(Drop)]
+#[derive(Clone, Copy)]
 pub enum Op {
     // an empty line or a remark, which gets no answer
     Blank,
@@ -30,7 +30,7 @@ pub enum Op {
 }
 
 // How many of a list there are, where no word of it is of another shape.
-#[derive(Drop)]
+#[derive(Clone, Copy)]
 struct Listed {
     plain: bool,
     count: usize,
@@ -38,7 +38,7 @@ struct Listed {
 
 // ---- words
 
-#[derive(Drop)]
+#[derive(Clone, Copy)]
 pub struct Word {
     pub from: usize,
     pub to: usize,
@@ -61,7 +61,7 @@ fn ended(s: &[u8], i: usize) -> bool
 }
 
 // A number, and the place past it.
-#[derive(Drop)]
+#[derive(Clone, Copy)]
 pub struct Taken {
     pub found: bool,
     pub value: u64,
@@ -100,7 +100,7 @@ pub fn take_number(s: &[u8], i: usize) -> Taken
 }
 
 // A time, and the place past it.
-#[derive(Drop)]
+#[derive(Clone, Copy)]
 pub struct Moment {
     pub found: bool,
     pub value: f64,
@@ -134,7 +134,7 @@ pub fn take_time(s: &[u8], i: usize) -> Moment
 }
 
 // NODE START END, and the place past them.
-#[derive(Drop)]
+#[derive(Clone, Copy)]
 struct TakenSpan {
     found: bool,
     span: Span,
@@ -184,7 +184,7 @@ fn take_span(s: &[u8], i: usize) -> TakenSpan
 }
 
 // S NODE START END, and nothing after them.
-#[derive(Drop)]
+#[derive(Clone, Copy)]
 struct Held {
     found: bool,
     store: usize,

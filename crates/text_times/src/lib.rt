@@ -9,14 +9,14 @@ ghost use Rattle.text_times.specs.Times.{of_digits, of_decimal, of_pattern, of_w
 
 use text_words::Number;
 
-#[derive(Drop)]
+#[derive(Clone, Copy)]
 pub enum Time {
     Value(f64),
     NotATime,
 }
 
 // A whole number below 2^53 in size, or any other value.
-#[derive(Drop)]
+#[derive(Clone, Copy)]
 pub enum Size {
     Whole(u64),
     Other,

@@ -7,7 +7,7 @@ ghost use Rattle.model.specs.Words.{Says};
 ghost use Rattle.text_words.specs.Words.{is, other, First, Trimmed, passed_over, digit_of, step, reading, decimal, number_of};
 
 // A number of a line.
-#[derive(Drop)]
+#[derive(Clone, Copy)]
 pub enum Number {
     Value(u64),
     TooLarge,

@@ -4,7 +4,7 @@ use radix::Count;
 use trial_world::tried::{Tried, count_number, looked_number, resolved_number};
 use trial_world::world::{Lists, Short, World, blank_lists, list_places, pool_lens};
 
-#[derive(Drop)]
+#[derive(Clone, Copy)]
 pub enum Counter {
     Held,
     Capacity,
@@ -14,7 +14,7 @@ pub enum Counter {
     Stalls,
 }
 
-#[derive(Drop)]
+#[derive(Clone, Copy)]
 enum Ask {
     Path,
     Tiers,
@@ -22,7 +22,7 @@ enum Ask {
 }
 
 // A refusal's number, and the answer lists afterwards.
-#[derive(Drop)]
+#[derive(Clone, Copy)]
 struct Answer {
     number: u64,
     lists: Lists,

@@ -5,7 +5,7 @@ use shape_answer::{
 };
 
 // The refusal's number, 0 where there was none; state and lists afterwards.
-#[derive(Drop)]
+#[derive(Clone, Copy)]
 pub struct Tried {
     pub number: u64,
     pub world: World,

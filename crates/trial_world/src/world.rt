@@ -3,7 +3,7 @@ ghost use Rattle.std.specs.Prelude.{◌≤◌};
 ghost use Rattle.trial_world.specs.Within.{LensWithin, PlacesWithin};
 
 // The pools at the sizes of 01; the small numbers have room for more, as any pool may.
-#[derive(Drop)]
+#[derive(Clone, Copy)]
 pub struct World {
     pub parent: [usize; 256],
     pub depth: [usize; 256],
@@ -27,7 +27,7 @@ pub struct World {
 }
 
 // The answer lists at the sizes of 01.
-#[derive(Drop)]
+#[derive(Clone, Copy)]
 pub struct Lists {
     pub path_node: [usize; 255],
     pub path_len: [usize; 255],
@@ -45,14 +45,14 @@ pub struct Lists {
 }
 
 // Which pool and which answer list is lent one short, counted from 1 in the order above; 0 for none.
-#[derive(Drop)]
+#[derive(Clone, Copy)]
 pub struct Short {
     pub pool: usize,
     pub list: usize,
 }
 
 // How much of each pool is lent.
-#[derive(Drop)]
+#[derive(Clone, Copy)]
 pub struct Lens {
     pub parent: usize,
     pub depth: usize,
@@ -76,7 +76,7 @@ pub struct Lens {
 }
 
 // How much of each answer list is lent.
-#[derive(Drop)]
+#[derive(Clone, Copy)]
 pub struct Places {
     pub path_node: usize,
     pub path_len: usize,
