@@ -1,0 +1,10 @@
+use Rattle.std.proofs.Common.{◌-◌, refl, rules}
+use Rattle.model.specs.Sizes.{store_numbers}
+use Rattle.pool_book.proofs.Laws.{Copied, copied_none, copied_more, copied_all}
+use Rattle.pool_book.proofs.put_row.Given as goal
+
+abbrev pub invariant-loop-i : goal.invariant-loop-i
+invariant-loop-i l = Copied l.initial.books l.a l.row store_numbers l.books l.i
+
+abbrev pub decreases-loop-i : goal.decreases-loop-i
+decreases-loop-i l = store_numbers - l.i

@@ -1,0 +1,10 @@
+use Rattle.std.proofs.Common.{◌-◌, drop, replicate, rules}
+use Rattle.model.specs.Sizes.{store_numbers}
+use Rattle.pool_book.proofs.Laws.{Copied, copied_none, row_more, row-all}
+use Rattle.pool_book.proofs.row_at.Given as goal
+
+abbrev pub invariant-loop-i : goal.invariant-loop-i
+invariant-loop-i l = Copied (replicate store_numbers 0) 0 (drop l.a l.books) store_numbers l.row l.i
+
+abbrev pub decreases-loop-i : goal.decreases-loop-i
+decreases-loop-i l = store_numbers - l.i
