@@ -22,7 +22,7 @@ module _ (v : ℕ) (node : List ℕ) (n : ℕ) where
   unfolding on_node ranges
   here_or i h c e =
       let s : n - i ≡ suc (n - suc i) = omega arith in
-      rw (s, e)
+      rw (s, ← e)
 
   pub look_start : Looking v node n 0
   look_start c e = rw sub-zero

@@ -1,0 +1,12 @@
+use Prim.Native.Nat.{◌-◌}
+use mathlib.Core.Path.{sym}
+use lib.ListN.{replicate, length-replicate, get_or-replicate}
+use borrow.Author.Rules.{rules}
+use Rattle.pool_mark.proofs.Copy.{Copied, copied_none, copied_more, copied_all}
+use Rattle.pool_mark.proofs.clear_marks.Given as goal
+
+abbrev pub invariant-loop-i : goal.invariant-loop-i
+invariant-loop-i l = Copied (replicate 2048 0) l.initial.marks l.i l.marks
+
+abbrev pub decreases-loop-i : goal.decreases-loop-i
+decreases-loop-i l = 2048 - l.i
