@@ -1,4 +1,5 @@
 #![tactic(auto)]
+
 ghost use Rattle.std.specs.Prelude.{◌≡◌, ◌≤◌, ◌<◌, length};
 ghost use Rattle.pool_number.specs.Found.{found_of};
 ghost use Rattle.rule_choose.specs.Choose.{within, overlapping, earlier, better_of, PinnedIs, FreeIs, OldestIs};
