@@ -117,9 +117,10 @@ module _ {A : Type 0} where
 
     pub thin_trans : {xs ys zs : List A} → ((x y z : A) → S x y → S y z → S x z) → Thinned S xs ys → Thinned S ys zs → Thinned S xs zs
     thin_trans f t done = t
-    thin_trans f (kept {x = x} {y = y} s t) (kept {y = z} r u) = kept (f x y z s r) (thin_trans f t u)
-    thin_trans f (gone t) (kept r u) = gone (thin_trans f t u)
-    thin_trans f t (gone u) = gone (thin_trans f t u)
+    thin_trans f (kept {x = x} {xs = xs} s t) (kept {x = y} {y = z} {xs = ys} {ys = zs} r u) =
+        kept (f x y z s r) (thin_trans {xs = xs} {ys = ys} {zs = zs} f t u)
+    thin_trans {xs = xs} f (gone t) (kept {xs = ys} {ys = zs} r u) = gone (thin_trans {xs = xs} {ys = ys} {zs = zs} f t u)
+    thin_trans {xs = xs} {ys = ys} f t (gone {ys = zs} u) = gone (thin_trans {xs = xs} {ys = ys} {zs = zs} f t u)
 
     pub thin_all : {P Q : A → Type 0} {xs ys : List A} → ((x y : A) → S x y → P y → Q x) → Thinned S xs ys → All P ys → All Q xs
     unfolding All
