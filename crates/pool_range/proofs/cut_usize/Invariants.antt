@@ -1,0 +1,11 @@
+use native.Mathlib.Omega.{arith}
+use Rattle.pool_range.proofs.Columns.{Closing, close_start, close_turn, close_end}
+use Prim.Native.Nat.{◌-◌}
+use lib.ListN.{length-set}
+use Rattle.pool_range.proofs.cut_usize.Given as goal
+
+abbrev pub invariant-loop-i : goal.invariant-loop-i
+invariant-loop-i l = Closing l.at l.n l.initial.c l.c l.i
+
+abbrev pub decreases-loop-i : goal.decreases-loop-i
+decreases-loop-i l = l.n - l.i

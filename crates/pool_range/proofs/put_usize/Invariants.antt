@@ -1,0 +1,10 @@
+use native.Mathlib.Omega.{arith}
+use lib.ListN.{length-set}
+use Rattle.pool_range.proofs.Columns.{Opening, open_start, open_turn, open_end}
+use Rattle.pool_range.proofs.put_usize.Given as goal
+
+abbrev pub invariant-loop-i : goal.invariant-loop-i
+invariant-loop-i l = Opening l.at l.n l.initial.c l.c l.i
+
+abbrev pub decreases-loop-i : goal.decreases-loop-i
+decreases-loop-i l = l.i
