@@ -13,7 +13,7 @@ use Rattle.model.specs.State.{Tree, Range}
 use Rattle.model.specs.Sound.{StampBetween, Finite}
 use Rattle.model.specs.Store.{Store, total}
 use Rattle.model.specs.Touch.{overlapped}
-use Rattle.model.specs.Remove.{cut_out, writes, version_past, Removed, remove_hits, remove}
+use Rattle.model.specs.Remove.{cut_out, version_past, Removed, remove_hits, remove}
 use Rattle.model.specs.Refusals.{SpanIn}
 use Rattle.theory_sound.specs.Facts.{All, IdsFrom}
 use Rattle.theory_sound.specs.StoreSound.{RangesSound, MarksSound, StoreSound}
