@@ -4,7 +4,7 @@ use mathlib.Core.Path.{◌≡◌, sym, ◌∙◌}
 use native.Mathlib.Omega.{arith}
 use native.Mathlib.Decide.{ℕ_discrete, dec_lt}
 use Rattle.model.specs.Words.{Pairs}
-use Rattle.model.specs.State.{State, at, record_of, entry_of, stores_of, next_id_of, book_of, records_of, stamp_of, entries_of}
+use Rattle.model.specs.State.{State, record_of, entry_of, stores_of, next_id_of, book_of, records_of, stamp_of, entries_of}
 use Rattle.model.specs.Sound
 use Rattle.model.specs.Sound.{Sound, Inside, Before, Finite, IdBetween, StampBetween, PinBefore, PinInside, OneRecord}
 use Rattle.model.specs.Store.{store_of}

@@ -11,7 +11,7 @@ use lib.Ieee.{Float}
 use Rattle.model.specs.declared.Span.{Span}
 use Rattle.model.specs.declared.Book.{Book}
 use Rattle.model.specs.Sizes.{store_records, store_pins, max_pinned, max_stamp, max_stalls}
-use Rattle.model.specs.State.{State, at, stores_of, next_id_of, stalls_of, capacity_of, records_of, held_of, stamp_of, entries_of, pinned_of}
+use Rattle.model.specs.State.{State, stores_of, next_id_of, stalls_of, capacity_of, records_of, held_of, stamp_of, entries_of, pinned_of}
 use Rattle.model.specs.Sound.{Sound, Finite}
 use Rattle.model.specs.Store.{Store, store_of, with_ranges, with_pins, with_next}
 use Rattle.model.specs.Trim.{stalls_after}
