@@ -9,7 +9,7 @@ use native.Mathlib.Omega.{arith}
 use lib.ListN.{length, get_or, set, take, drop, take-append-drop, length-append, length-map, length-drop}
 use lib.Seq.{drop-cons}
 use lib.Ieee.{nan}
-use Rattle.model.specs.State.{Ranges, Range, at, range_at}
+use Rattle.model.specs.State.{Ranges, Range, range_at}
 use Rattle.model.specs.Store.{ranges, lay, lay_ranges, no_time}
 use Rattle.model.specs.Insert.{head, tail}
 use Rattle.shape_state.specs.Lent.{ranges_of}
