@@ -1,6 +1,6 @@
 -- Laws of a float's size and sign: a value below 2 ^ 53 is whole exactly where it equals its own whole part, and the sign is the pattern's
 -- highest bit. Assumes nothing.
-use Rattle.std.proofs.Common.{◌≡◌, ℕ, zero, suc, ◌+◌, ◌-◌, ◌*◌, ◌/◌, ◌%◌, ◌^◌, ◌<◌, ◌≤◌, Bool, true, false, cond, not, ◌&&◌, ◌||◌, T, eqb, ltb, leb, ℤ, pos, sym, refl, ap, ◌∙◌, subst, div-lt_iff_lt-mul, one-mul, div-add-mod', le-div_iff_mul-le, zero-mul, mul-one, mul_right_comm, arith, ltb→lt, lt→ltb, nltb→le, le-ltb, lt-ltb, eq-eqb, ne_eqb, eqb-true}
+use Rattle.std.proofs.Common.{◌≡◌, ℕ, zero, suc, ◌+◌, ◌*◌, ◌/◌, ◌%◌, ◌^◌, ◌<◌, ◌≤◌, Bool, true, false, cond, not, ◌&&◌, ◌||◌, T, eqb, ltb, leb, ℤ, pos, sym, refl, ap, ◌∙◌, subst, div-lt_iff_lt-mul, one-mul, div-add-mod', le-div_iff_mul-le, zero-mul, mul-one, mul_right_comm, arith, ltb→lt, lt→ltb, nltb→le, le-ltb, lt-ltb, eq-eqb, ne_eqb, eqb-true}
 use mathlib.Core.Bool.{beq}
 use native.Mathlib.Nat.{mul-mod_left, div-eq_of_lt, min-eq_left, eq_of_mul-eq-mul_right}
 use lib.Ieee.{Float, nan, inf, fin, Format, binary64, up, down, lt, eq, neg, of_int, to_unsigned, to_bits, of_bits, of_fields, odd, fits, is_nan, prec, low, hid, ones, top}

@@ -98,11 +98,11 @@ module _ (s : Bool) (m k p : ℕ) (M : m < 10 ^ 15) (K : k ≤ 15) (e : p ≡ 10
   ratio_pos i = ratio-above m p (omega arith) power_small.0 power_small.1 ∙ rw (e, i)
 
 -- ---- patterns
-is_nan : (x : Float) → is_nan x ≡ true → x ≡ nan
+nan_only : (x : Float) → is_nan x ≡ true → x ≡ nan
 unfolding is_nan
-is_nan nan e = refl
-is_nan (inf s) e = absurd (subst T (sym e) tt)
-is_nan (fin s m e') e = absurd (subst T (sym e) tt)
+nan_only nan e = refl
+nan_only (inf s) e = absurd (subst T (sym e) tt)
+nan_only (fin s m e') e = absurd (subst T (sym e) tt)
 
 pub nan_made : div binary64 (of_bits binary64 0) (of_bits binary64 0) ≡ nan
 unfolding div of_bits of_fields odd
@@ -119,7 +119,7 @@ minus_inf_made = refl
 module _ (b : ℕ) where
   pub nan_pattern : 9218868437227405312 < b % 9223372036854775808 → nan ≡ of_bits binary64 b
   nan_pattern h =
-      sym (is_nan (of_bits binary64 b)
+      sym (nan_only (of_bits binary64 b)
       (sym (nan_bits_is binary64 b) ∙ nan_bits_above binary64 b ∙ lt-ltb 9218868437227405312 (b % 9223372036854775808) h))
 
   pub no_nan_pattern : b % 9223372036854775808 ≤ 9218868437227405312 → T (not (nan_bits binary64 b))
