@@ -17,7 +17,6 @@ use Rattle.model.specs.Insert.{last_seg, match_end}
 use Rattle.model.specs.Refusals.{PathList, PathFits}
 use Rattle.model.specs.Calls.{front, lay_path}
 use Rattle.rule_resolve.specs.declared.Match.{Match}
-use Rattle.pool_number.specs.declared.Found.{Found}
 use Rattle.pool_number.specs.declared.Found.TheVariants.{At, Nothing}
 use Rattle.pool_number.specs.Found.{found_of}
 use Rattle.rule_resolve.specs.Walk.{Stored, Walkable, Resolved}
@@ -157,11 +156,11 @@ module _ {t : Tree} {hs node₀ len₀ node len : List ℕ} {k segs pos cur last
 
 -- ---- what the child that was looked for tells
 
-pub next-some : (t : Tree) (hs : List ℕ) (pos p k : ℕ) (r : Found) → pos < length hs → found_of r ≡ child t p (at hs pos) → r ≡ At k → next_child t hs pos p ≡ some k
-next-some t hs pos p k r h e q = sym (next-is t hs pos p h) ∙ sym e ∙ ap found_of q
+pub next-some : (t : Tree) (hs : List ℕ) (pos p : ℕ) {k : ℕ} → pos < length hs → found_of (At k) ≡ child t p (at hs pos) → next_child t hs pos p ≡ some k
+next-some t hs pos p h e = sym (next-is t hs pos p h) ∙ sym e
 
-pub next-nothing : (t : Tree) (hs : List ℕ) (pos p : ℕ) (r : Found) → pos < length hs → found_of r ≡ child t p (at hs pos) → r ≡ Nothing → next_child t hs pos p ≡ none
-next-nothing t hs pos p r h e q = sym (next-is t hs pos p h) ∙ sym e ∙ ap found_of q
+pub next-nothing : (t : Tree) (hs : List ℕ) (pos p : ℕ) → pos < length hs → found_of Nothing ≡ child t p (at hs pos) → next_child t hs pos p ≡ none
+next-nothing t hs pos p h e = sym (next-is t hs pos p h) ∙ sym e
 
 -- its hashes can be read, and there is a place for its segment
 pub entered : {t : Tree} {hs : List ℕ} {l₀ l : PathList} {k segs pos cur last : ℕ} → Walkable t → PathFits l₀ → pos < length hs → next_child t hs pos cur ≡ some k
