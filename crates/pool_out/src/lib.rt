@@ -1,4 +1,5 @@
 #![tactic(auto)]
+
 ghost use Rattle.std.specs.Prelude.{◌≡◌, ◌<◌};
 ghost use Rattle.model.specs.Refusals.{OutFits};
 ghost use Rattle.pool_out.specs.Evicted.{write_number, write_of, out_of, set_out};
