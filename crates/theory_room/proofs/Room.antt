@@ -1,6 +1,6 @@
 -- Demand 3 of the definitions. A bring-in tests nothing that the capacity changes, so two capacities refuse alike; the trim to the larger one keeps what
 -- the trim to the smaller keeps; and where every tier holds at least as much, a lookup reads at least as far. Assumes nothing.
-use Prim.Native.Nat.{ℕ, zero, suc, ◌-◌, ◌*◌, ◌≤◌, ◌<◌, zero-le}
+use Prim.Native.Nat.{ℕ, zero, suc, ◌*◌, ◌≤◌, ◌<◌, zero-le}
 use mathlib.Core.Path.{◌≡◌, refl, sym, ap, subst, ◌∙◌}
 use mathlib.Core.Bool.{true}
 use mathlib.Core.List.{List, [], ◌∷◌}
