@@ -16,7 +16,7 @@ use Rattle.model.specs.declared.TouchAnswer.{TouchAnswer}
 use Rattle.model.specs.declared.RemoveAnswer.{RemoveAnswer}
 use Rattle.model.specs.declared.ExpireAnswer.{ExpireAnswer}
 use Rattle.model.specs.Sizes.{store_records, max_stamp}
-use Rattle.model.specs.State.{State, Range, Pin, at, stores_of, next_id_of, stalls_of, records_of, stamp_of}
+use Rattle.model.specs.State.{State, Range, Pin, stores_of, next_id_of, stalls_of, records_of, stamp_of}
 use Rattle.model.specs.Sound.{Sound, Finite}
 use Rattle.model.specs.Store.{Store, ranges, store_of, lay_book, lay_next, with_ranges, with_pins, with_next}
 use Rattle.model.specs.Bring.{bring_blocks}
