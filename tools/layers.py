@@ -11,9 +11,9 @@ import os
 import re
 import sys
 
-# From left to right. What the kit has (io, libc) may be named by anyone.
+# From left to right. What the kit has (std, io) may be named by anyone.
 LAYERS = ['model', 'shape', 'theory', 'pool', 'test', 'rule', 'call', 'known', 'public', 'radix', 'promise', 'text', 'prog', 'replay', 'report', 'trial', 'damaged', 'rust']
-PATH = re.compile(r'Rattle·([a-z0-9_]+)(?:·(?:specs|proofs))?\.(specs|proofs)\b')
+PATH = re.compile(r'Rattle\.([a-z0-9_]+)\.(specs|proofs)\b')
 CALL = re.compile(r'(?<![\w:`])([a-z0-9_]+)::')
 
 
@@ -69,10 +69,10 @@ def main():
             if path.endswith('.rt'):
                 found |= {m for m in CALL.findall(line) if m in own}
             for name in sorted(found - {crate} - set(names)):
-                if name in own or 'Rattle·' + name in line:
+                if name in own or name != 'std' and 'Rattle.' + name in line:
                     bad.append(f'{path}:{at}: {name} is used, and crates.txt does not have it for {crate}')
             used |= found
-            if not path.startswith(f'crates/{crate}/proofs/') and any(m[2] == 'proofs' for m in PATH.finditer(line)):
+            if not path.startswith(f'crates/{crate}/proofs/') and any(m[2] == 'proofs' and m[1] in own for m in PATH.finditer(line)):
                 bad.append(f'{path}:{at}: a proof is imported outside of proofs/')
         for name in names:
             if name in own and name not in used and layer(name) not in ('model', 'shape'):
