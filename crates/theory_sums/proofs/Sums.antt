@@ -26,7 +26,6 @@ use Rattle.theory_sums.specs.Tallied.{TallyOf}
 use Rattle.theory_sums.specs.Steps.{Step, brings, expires, removes, looks, plain, Run, started, after, run_steps, unless_late, call_of, calls_of}
 use Rattle.theory_sums.specs.Balance.{Balanced, InBalance}
 use Rattle.theory_sums.specs.Figures.{Figures, together, figures, Grew}
-use Rattle.theory_sums.specs.Figures as Figures
 use Rattle.theory_sums.proofs.Tallied.{tallied_insert, tallied_expire, tallied_remove, tallied_lookup}
 use Rattle.theory_sums.proofs.Stepped.{grew_none, step}
 
