@@ -1,4 +1,5 @@
 #![tactic(auto)]
+
 ghost use Rattle.std.specs.Prelude.{◌≡◌, ◌-◌, ◌<◌, ◌≤◌, min};
 ghost use Rattle.model.specs.State.{at, range_at};
 ghost use Rattle.shape_state.specs.Lent.{ranges_of};
