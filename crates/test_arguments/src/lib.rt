@@ -98,7 +98,7 @@ pub fn writes_fit(list: &[u32]) -> bool
 }
 
 pub fn tiers_fit(tier: &[usize], node: &[usize], start: &[usize], end: &[usize]) -> bool
-    ensures { Says result (TierFits (record { tier = tier.entry.now; node = node.now; start = start.now; end = end.now })) }
+    ensures { Says result (TierFits (record { tier = tier.now; node = node.now; start = start.now; end = end.now })) }
 {
     if tier.len() < 1024 {
         return false;
