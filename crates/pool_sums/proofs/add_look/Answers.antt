@@ -1,0 +1,36 @@
+-- `pool_sums::add_look` meets its contract: three places, one after another; they differ, so that there is room at each. Assumes nothing.
+use native.Mathlib.Omega.{arith}
+use Rattle.pool_sums.proofs.Adding.{room-first, second-room, third_room, three_added}
+use Rattle.pool_sums.proofs.add_look.Goals as goal
+
+pub add_at-requires : goal.add_at-requires
+add_at-requires c = (omega (arith, c.requires.0), room-first 56 1 _ c.args.sums.now c.requires.1)
+
+pub add_at-requires-2 : goal.add_at-requires-2
+add_at-requires-2 c = (
+  omega (arith, c.requires.0, c.add_at.auto.sums),
+  second-room
+      56 57 58 1 c.args.blocks c.args.bytes
+      c.args.sums.now c.add_at.new.sums
+      c.requires.1 c.add_at.ensures (λ e. omega arith) (λ e. omega arith),
+)
+
+pub add_at-requires-3 : goal.add_at-requires-3
+add_at-requires-3 c = (
+  omega (
+    arith,
+    c.requires.0,
+    c.add_at.auto.sums,
+    c.add_at-2.auto.sums,
+  ),
+  third_room 56 57 58 1 c.args.blocks c.args.bytes c.args.sums.now
+      c.add_at.new.sums c.add_at-2.new.sums c.requires.1
+      c.add_at.ensures c.add_at-2.ensures (λ e. omega arith)
+      (λ e. omega arith) (λ e. omega arith),
+)
+
+pub returns : goal.returns
+returns c = three_added 56 57 58 1 c.args.blocks c.args.bytes
+    c.args.sums.now c.add_at.new.sums
+    c.add_at-2.new.sums c.add_at-3.new.sums c.add_at.ensures
+    c.add_at-2.ensures c.add_at-3.ensures

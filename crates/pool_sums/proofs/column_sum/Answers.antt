@@ -1,0 +1,16 @@
+-- `pool_sums::column_sum` meets its contract: the first i numbers are summed, and the whole fits. Assumes nothing.
+use native.Mathlib.Omega.{arith}
+use Rattle.pool_sums.proofs.Listed.{sum-start, sum_room, sum-turn, sum-end}
+use Rattle.pool_sums.proofs.column_sum.Goals as goal
+
+pub loop-i-init : goal.loop-i-init
+loop-i-init c = sum-start _ _
+
+pub overflow_add-sum : goal.overflow_add-sum
+overflow_add-sum c = omega (arith, sum_room c.loop-i.invariant c.loop-i-test.true c.requires.1)
+
+pub loop-i-preserved : goal.loop-i-preserved
+loop-i-preserved c = sum-turn c.loop-i.invariant c.loop-i-test.true
+
+pub returns : goal.returns
+returns c = sum-end c.loop-i.invariant c.loop-i-test.false
