@@ -1,4 +1,5 @@
 #![tactic(auto)]
+
 ghost use Rattle.std.specs.Prelude.{◌≡◌, List, ℕ, ◌+◌, ◌-◌, ◌≤◌, ◌<◌, min, max, length, Float};
 ghost use Rattle.model.specs.Words.{Each};
 ghost use Rattle.model.specs.State.{at};
