@@ -9,7 +9,7 @@ use native.Mathlib.Nat.{sub-zero, add-zero}
 use native.Mathlib.Omega.{arith}
 use lib.Dec.{ltb, eqb}
 use lib.ListN.{length}
-use borrow.Author.Tests.{not-true, not-false, ne_eqb, lt-ltb, ltb-true, ltb-false}
+use borrow.Author.Tests.{not-true, ne_eqb, lt-ltb, ltb-true, ltb-false}
 use Rattle.model.specs.State.{Pins, Pin, at, pin_at}
 use Rattle.model.specs.Store.{pins}
 use Rattle.model.specs.Pins.{same_span, pin_ahead, add_pin}
@@ -112,16 +112,16 @@ module _ {j : ℕ} {node start end : List ℕ} {n : ℕ} where
   pub stay_start : Staying j node start end n 0
   stay_start = record { high = omega arith; left = λ count. rw sub-zero }
 
-  pub stay_turn : {i : ℕ} {r : Bool} → Staying j node start end n i → i < n → r ≡ stays_at j node start end n i → not r ≡ false → Staying j node start end n (i + 1)
+  pub stay_turn : {i : ℕ} {r : Bool} → Staying j node start end n i → i < n → r ≡ stays_at j node start end n i → r ≡ true → Staying j node start end n (i + 1)
   stay_turn {i} {r} o h e t =
       record {
         high = omega arith;
-        left = λ count. rw add-one (sym (here j node start end n count i h ∙ rw (← e, not-false r t)) ∙ o.left count);
+        left = λ count. rw add-one (sym (here j node start end n count i h ∙ rw (← e, t)) ∙ o.left count);
       }
 
-  pub stay_not : {i : ℕ} {r : Bool} → Staying j node start end n i → i < n → r ≡ stays_at j node start end n i → not r ≡ true
+  pub stay_not : {i : ℕ} {r : Bool} → Staying j node start end n i → i < n → r ≡ stays_at j node start end n i → r ≡ false
       → (count : List ℕ) → false ≡ unmoved j (pins (pins_of node start end count) 0 n)
-  stay_not {i} {r} o h e t count = sym (here j node start end n count i h ∙ rw (← e, not-true r t)) ∙ o.left count
+  stay_not {i} {r} o h e t count = sym (here j node start end n count i h ∙ rw (← e, t)) ∙ o.left count
 
   pub stay_end : {i : ℕ} → Staying j node start end n i → n ≤ i → (count : List ℕ) → true ≡ unmoved j (pins (pins_of node start end count) 0 n)
   unfolding unmoved pins

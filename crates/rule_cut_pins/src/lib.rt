@@ -1,4 +1,5 @@
 #![tactic(auto)]
+
 ghost use Rattle.std.specs.Prelude.{◌≡◌, List, ℕ, ◌+◌, ◌-◌, ◌≤◌, ◌<◌, length, take, eqb};
 ghost use Rattle.model.specs.State.{Pins};
 ghost use Rattle.model.specs.Store.{pins, lay, lay_pins};
