@@ -30,22 +30,22 @@ use Rattle.rule_touch.specs.Touch.{halves_if, merged, touched_ranges, Refreshed,
 
 -- ---- marks, bytes, one range inside
 
-pub mark_off : (counted : Bool) (sp : Span) (ms : List ℕ) → not counted ≡ true → ms ≡ mark_read counted sp ms
-mark_off true sp ms e = absurd (false≢true e)
+pub mark_off : (counted : Bool) (sp : Span) (ms : List ℕ) → counted ≡ false → ms ≡ mark_read counted sp ms
+mark_off true sp ms e = absurd (true≢false e)
 mark_off false sp ms e = refl
 
-pub mark_on : (counted : Bool) (sp : Span) (ms : List ℕ) (k : ℕ) → not counted ≡ false → k ≡ max (at ms sp.node) sp.end → set ms sp.node k ≡ mark_read counted sp ms
+pub mark_on : (counted : Bool) (sp : Span) (ms : List ℕ) (k : ℕ) → counted ≡ true → k ≡ max (at ms sp.node) sp.end → set ms sp.node k ≡ mark_read counted sp ms
 mark_on true sp ms k e q = ap (set ms sp.node) q
-mark_on false sp ms k e q = absurd (true≢false e)
+mark_on false sp ms k e q = absurd (false≢true e)
 
-pub read_off : (counted : Bool) (t : Tree) (table : List ℕ) (sp : Span) (hits : List Range) → not counted ≡ true → 0 ≡ bytes_read counted t table sp hits
-read_off true t table sp hits e = absurd (false≢true e)
+pub read_off : (counted : Bool) (t : Tree) (table : List ℕ) (sp : Span) (hits : List Range) → counted ≡ false → 0 ≡ bytes_read counted t table sp hits
+read_off true t table sp hits e = absurd (true≢false e)
 read_off false t table sp hits e = refl
 
-pub read-on : (counted : Bool) (t : Tree) (table : List ℕ) (sp : Span) (hits : List Range) (k : ℕ) → not counted ≡ false
+pub read-on : (counted : Bool) (t : Tree) (table : List ℕ) (sp : Span) (hits : List Range) (k : ℕ) → counted ≡ true
     → k ≡ held_bytes t table sp.node sp.start sp.end hits → k ≡ bytes_read counted t table sp hits
 read-on true t table sp hits k e q = q
-read-on false t table sp hits k e q = absurd (true≢false e)
+read-on false t table sp hits k e q = absurd (false≢true e)
 
 module _ (start end : List ℕ) (sp : Span) (lo hi : ℕ) (h : lo < hi) where
   abbrev d : Ranges

@@ -1,4 +1,5 @@
 #![tactic(auto)]
+
 ghost use Rattle.std.specs.Prelude.{◌≡◌, true, false, ℕ, suc, ◌+◌, ◌-◌, ◌≤◌, ◌<◌, min, max, length, ltb, eqb};
 ghost use Rattle.model.specs.Words.{Each};
 ghost use Rattle.model.specs.State.{Tree, at, range_at};
