@@ -1,4 +1,5 @@
 #![tactic(auto)]
+
 ghost use Rattle.std.specs.Prelude.{◌≡◌, false, ◌*◌};
 ghost use Rattle.model.specs.State.{State, stores_of};
 ghost use Rattle.model.specs.Sound.{Sound};
