@@ -1,5 +1,5 @@
 -- An answer as a number and a lent list: 0 and the values, or the refusal's number and the list as it was. Assumes nothing.
-use Rattle.std.specs.Prelude.{ℕ, zero, suc, ◌+◌, ◌≡◌, List, [], ◌∷◌, ◌++◌, drop}
+use Rattle.std.specs.Prelude.{ℕ, zero, suc, ◌≡◌, List, [], ◌∷◌, ◌++◌, drop}
 use Rattle.std.proofs.lemmas.List.Edits.{sets}
 use Rattle.model.specs.declared.Path.{Path}
 use Rattle.model.specs.declared.Split.{Split}
