@@ -1,6 +1,6 @@
 -- What a public call's contract promises, as a claim of its parameters at entry, of its parameters at exit and of its answer. Every call names the columns
 -- first and in one order, so they are read here once for all calls. Assumes nothing.
-use Rattle.std.specs.Prelude.{ℕ, ◌≡◌, List, Float}
+use Rattle.std.specs.Prelude.{ℕ, ◌≡◌, List, Float, Bool, true, false}
 use seplogic.Ra.Ura.{Ura}
 use base.Logic.{SProp, emp}
 use prog.Memory.{Memory}
@@ -8,7 +8,7 @@ use prog.Routine.{Routine}
 use types.Logic.{Logic}
 use contract.Lifetimes.{Lfts}
 use contract.Monad.{Fun, fact}
-use Rattle.std.specs.Borrow.{Bor}
+use Rattle.std.specs.Borrow.{Bor, MutBor}
 use denote.Signature.{Signature}
 use denote.Triple.Entry.{Args, Res}
 use denote.Triple.Clauses.{Ended, AtExit}
@@ -18,63 +18,105 @@ use Rattle.theory_outcome.specs.Settled.{Pools, Left}
 
 -- ---- the columns among the parameters
 
--- a slice of integers, lent by & or by &mut
+-- a slice, lent by &mut where w is true, and else by &
+abbrev pub Slice : Bool → Type 0 → Type 0
+Slice true A = MutBor (List A)
+Slice false A = Bor (List A)
+
+abbrev pub items : (w : Bool) {A : Type 0} → Slice w A → List A
+items true x = x.now
+items false x = x.now
+
+-- a list that a call answers with
 abbrev pub Ints : Type 0
-Ints = Bor (List ℕ)
+Ints = Slice true ℕ
+
+-- which columns a call is lent by &mut: the tree's but its words, the words, those of the ranges, those of the pins, the marks, the byte table, the books
+pub record Written : Type 0 where
+  pub tree : Bool
+  pub words : Bool
+  pub ranges : Bool
+  pub pins : Bool
+  pub marks : Bool
+  pub bytes : Bool
+  pub books : Bool
 
 -- the columns of the tree, of the ranges and of the pins, each with the parameters R after them
-abbrev pub TreeLent : Type 0 → Type 0
-TreeLent R = Ints × (Ints × (Ints × (Ints × (Ints × R))))
+abbrev pub TreeLent : Written → Type 0 → Type 0
+TreeLent w R = Slice w.tree ℕ × (Slice w.tree ℕ × (Slice w.tree ℕ × (Slice w.tree ℕ × (Slice w.words ℕ × R))))
 
-abbrev pub RangesLent : Type 0 → Type 0
-RangesLent R = Ints × (Ints × (Ints × (Ints × (Ints × (Bor (List Float) × (Ints × R))))))
+abbrev pub RangesLent : Written → Type 0 → Type 0
+RangesLent w R =
+    Slice w.ranges ℕ × (Slice w.ranges ℕ × (Slice w.ranges ℕ × (Slice w.ranges ℕ × (Slice w.ranges ℕ × (Slice w.ranges Float × (Slice w.ranges ℕ × R))))))
 
-abbrev pub PinsLent : Type 0 → Type 0
-PinsLent R = Ints × (Ints × (Ints × (Ints × R)))
+abbrev pub PinsLent : Written → Type 0 → Type 0
+PinsLent w R = Slice w.pins ℕ × (Slice w.pins ℕ × (Slice w.pins ℕ × (Slice w.pins ℕ × R)))
 
 -- every column, with the parameters R after them
-abbrev pub Lent : Type 0 → Type 0
-Lent R = TreeLent (RangesLent (PinsLent (Ints × (Ints × (Ints × R)))))
+abbrev pub Lent : Written → Type 0 → Type 0
+Lent w R = TreeLent w (RangesLent w (PinsLent w (Slice w.marks ℕ × (Slice w.bytes ℕ × (Slice w.books ℕ × R)))))
 
 -- what the columns hold
-abbrev pub columns : {R : Type 0} → Lent R → Pools
-columns tree =
+abbrev pub columns : (w : Written) {R : Type 0} → Lent w R → Pools
+columns w tree =
     let ranges = tree.1.1.1.1.1 in
     let pins = ranges.1.1.1.1.1.1.1 in
     let rest = pins.1.1.1.1 in
     record {
-      parent = tree.0.now;
-      depth = tree.1.0.now;
-      len = tree.1.1.0.now;
-      run = tree.1.1.1.0.now;
-      words = tree.1.1.1.1.0.now;
-      node = ranges.0.now;
-      start = ranges.1.0.now;
-      end = ranges.1.1.0.now;
-      id = ranges.1.1.1.0.now;
-      stamp = ranges.1.1.1.1.0.now;
-      touched = ranges.1.1.1.1.1.0.now;
-      write = ranges.1.1.1.1.1.1.0.now;
-      pin_node = pins.0.now;
-      pin_start = pins.1.0.now;
-      pin_end = pins.1.1.0.now;
-      pin_count = pins.1.1.1.0.now;
-      marks = rest.0.now;
-      bytes = rest.1.0.now;
-      books = rest.1.1.0.now;
+      parent = items w.tree tree.0;
+      depth = items w.tree tree.1.0;
+      len = items w.tree tree.1.1.0;
+      run = items w.tree tree.1.1.1.0;
+      words = items w.words tree.1.1.1.1.0;
+      node = items w.ranges ranges.0;
+      start = items w.ranges ranges.1.0;
+      end = items w.ranges ranges.1.1.0;
+      id = items w.ranges ranges.1.1.1.0;
+      stamp = items w.ranges ranges.1.1.1.1.0;
+      touched = items w.ranges ranges.1.1.1.1.1.0;
+      write = items w.ranges ranges.1.1.1.1.1.1.0;
+      pin_node = items w.pins pins.0;
+      pin_start = items w.pins pins.1.0;
+      pin_end = items w.pins pins.1.1.0;
+      pin_count = items w.pins pins.1.1.1.0;
+      marks = items w.marks rest.0;
+      bytes = items w.bytes rest.1.0;
+      books = items w.books rest.1.1.0;
     }
 
 -- the parameters after the columns
-abbrev pub after : {R : Type 0} → Lent R → R
-after (_, (_, (_, (_, (_, (_, (_, (_, (_, (_, (_, (_, (_, (_, (_, (_, (_, (_, (_, rest))))))))))))))))))) = rest
+abbrev pub after : (w : Written) {R : Type 0} → Lent w R → R
+after w (_, (_, (_, (_, (_, (_, (_, (_, (_, (_, (_, (_, (_, (_, (_, (_, (_, (_, (_, rest))))))))))))))))))) = rest
 
 -- the path lists of a call that answers with a path, first among the parameters after the columns
 abbrev pub path_in : {R : Type 0} → Ints × (Ints × R) → PathList
 path_in (node, (len, rest)) = record { node = node.now; len = len.now }
 
 -- what a call leaves: the columns, the answer lists and its answer
-abbrev pub leaves : {L B R : Type 0} → Lent R → L → B → Left L B
-leaves s l b = record { world = record { pools = columns s; lists = l }; answer = b }
+abbrev pub leaves : (w : Written) {L B R : Type 0} → Lent w R → L → B → Left L B
+leaves w s l b = record { world = record { pools = columns w s; lists = l }; answer = b }
+
+-- ---- the columns that the calls write
+
+-- none: a call that only reads
+abbrev pub reads : Written
+reads = record { tree = false; words = false; ranges = false; pins = false; marks = false; bytes = false; books = false }
+
+-- those of a turn on a store
+abbrev pub stores : Written
+stores = record { tree = false; words = false; ranges = true; pins = false; marks = true; bytes = false; books = true }
+
+-- those of a turn on a store's pins
+abbrev pub pinned : Written
+pinned = record { tree = false; words = false; ranges = false; pins = true; marks = false; bytes = false; books = true }
+
+-- all but the byte table
+abbrev pub grows : Written
+grows = record { tree = true; words = true; ranges = true; pins = true; marks = true; bytes = false; books = true }
+
+-- what a new tree has: a root, no marks, the byte table and the books
+abbrev pub sets_up : Written
+sets_up = record { tree = true; words = false; ranges = false; pins = false; marks = true; bytes = true; books = true }
 
 -- ---- a contract
 
