@@ -1,11 +1,11 @@
 -- A path copied element by element; and the number of the first condition of an insert that holds, from the tests that the code makes.
 use mathlib.Core.Path.{◌≡◌, refl, sym, ap, ap₂, subst, ◌∙◌}
-use mathlib.Core.Bool.{Bool, true, false, not, ◌&&◌, ◌||◌}
+use mathlib.Core.Bool.{Bool, true, false, ◌&&◌, ◌||◌}
 use mathlib.Core.List.{List}
 use Prim.Native.Nat.{ℕ, zero, suc, ◌+◌, ◌-◌, ◌*◌, ◌≤◌, ◌<◌, zero-le}
 use native.Mathlib.Numerals.{add-one}
 use native.Mathlib.Omega.{arith}
-use borrow.Author.Tests.{lt-ltb, le-ltb, not-true, not-false}
+use borrow.Author.Tests.{lt-ltb, le-ltb}
 use lib.Dec.{ltb}
 use lib.ListN.{length, get_or, take, set, length-set}
 use lib.Seq.{take-suc, length-take-le}
@@ -288,15 +288,15 @@ module _ {ls ns ss es bs : List ℕ} {o : Bool} {m : Match} {n : ℕ} (st : Stat
         words_fit : st.tree.used + new_blocks st hs ≤ max_words
         words_fit = omega (arith, new_is st hs, blocks_is, w.count, w.used)
 
-        pub not_inside : not b ≡ true → 0 ≡ insert_refusal st hs
-        not_inside q = no_cut (rw (added, inside_is b e, not-true b q)) nodes_fit words_fit
+        pub not_inside : at ls m.node ≤ m.len → 0 ≡ insert_refusal st hs
+        not_inside q = no_cut (rw (added, inside_is b e, e ∙ le-ltb m.len (at ls m.node) q)) nodes_fit words_fit
 
-        pub inside : not b ≡ false → (rs : List ℕ) → rs ≡ records_in bs → (v : ℕ)
+        pub inside : m.len < at ls m.node → (rs : List ℕ) → rs ≡ records_in bs → (v : ℕ)
             → ((c : Ranges) → c.node ≡ ns → c.start ≡ ss → c.end ≡ es → v ≡ cut_refusal m.node m.len o c rs (stores_in bs) (next_id_in bs))
             → v ≡ insert_refusal st hs
         unfolding cut_refusal
         inside q rs are v h =
-            let does : cuts st hs ≡ true = rw (added, inside_is b e, not-false b q) in
+            let does : cuts st hs ≡ true = rw (added, inside_is b e, e ∙ lt-ltb m.len (at ls m.node) q) in
             let is : insert_refusal st hs
             ≡ cut_number (any (stores_of st) (overfull m.node m.len st.ranges (records_in st.books))) o (ltb max_stamp (next_id_of st + ids_below m.node m.len st.ranges (records_in st.books) (stores_of st))) =
             first-is st hs

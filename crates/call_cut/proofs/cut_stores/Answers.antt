@@ -1,0 +1,111 @@
+-- `call_cut::cut_stores` meets its contract. The loop's invariant is `Turning`: what is left to cut gives what was to be cut.
+-- Assumes nothing.
+use native.Mathlib.Omega.{arith}
+use Rattle.shape_state.specs.Lent.{ranges_of, pins_of}
+use Rattle.call_cut.proofs.Laws.{stores-long, turning_start, turning_asks, turning_turn, turning_end, turn-fits}
+use Rattle.call_cut.proofs.cut_stores.Goals as goal
+
+pub bounds-books-2 : goal.bounds-books-2
+bounds-books-2 c = let a = c.args in
+    omega (
+      arith,
+      stores-long a.j a.k a.m (ranges_of a.node.now a.start.now a.end.now a.id.now a.stamp.now a.touched.now a.write.now)
+          (pins_of a.pin_node.now a.pin_start.now a.pin_end.now a.pin_count.now) a.marks.now a.books.now c.requires,
+    )
+
+pub loop-s-init : goal.loop-s-init
+loop-s-init c = let a = c.args in
+    turning_start a.j a.k a.m (ranges_of a.node.now a.start.now a.end.now a.id.now a.stamp.now a.touched.now a.write.now)
+    (pins_of a.pin_node.now a.pin_start.now a.pin_end.now a.pin_count.now) a.marks.now a.books.now
+
+pub cut_store-requires : goal.cut_store-requires
+cut_store-requires c = let a = c.args in
+    let l = c.loop-s in
+    turning_asks a.j a.k a.m (ranges_of a.node.now a.start.now a.end.now a.id.now a.stamp.now a.touched.now a.write.now)
+    (pins_of a.pin_node.now a.pin_start.now a.pin_end.now a.pin_count.now) a.marks.now a.books.now l.s
+    (ranges_of l.node l.start l.end l.id l.stamp l.touched l.write) (pins_of l.pin_node l.pin_start l.pin_end l.pin_count) l.marks l.books
+    l.invariant c.requires c.loop-s-test.true
+
+pub overflow_add-s : goal.overflow_add-s
+overflow_add-s c = let a = c.args in
+    record {
+      fits = turn-fits a.j a.k a.m (ranges_of a.node.now a.start.now a.end.now a.id.now a.stamp.now a.touched.now a.write.now)
+          (pins_of a.pin_node.now a.pin_start.now a.pin_end.now a.pin_count.now) a.marks.now a.books.now c.requires c.loop-s.s c.loop-s-test.true;
+    }
+
+pub loop-s-smaller : goal.loop-s-smaller
+loop-s-smaller c = omega (arith, c.loop-s-test.true)
+
+pub loop-s-preserved : goal.loop-s-preserved
+loop-s-preserved c = let a = c.args in
+    let l = c.loop-s in
+    let f = c.cut_store in
+    turning_turn a.j a.k a.m (ranges_of a.node.now a.start.now a.end.now a.id.now a.stamp.now a.touched.now a.write.now)
+    (pins_of a.pin_node.now a.pin_start.now a.pin_end.now a.pin_count.now) a.marks.now a.books.now l.s
+    (ranges_of l.node l.start l.end l.id l.stamp l.touched l.write) (pins_of l.pin_node l.pin_start l.pin_end l.pin_count) l.marks l.books
+    l.invariant
+    (ranges_of f.new.node f.new.start f.new.end f.new.id f.new.stamp f.new.touched f.new.write)
+    (pins_of f.new.pin_node f.new.pin_start f.new.pin_end f.new.pin_count) f.new.marks f.new.books
+    c.loop-s-test.true f.ensures
+    (record {
+      node = f.auto.node;
+      start = f.auto.start;
+      end = f.auto.end;
+      id = f.auto.id;
+      stamp = f.auto.stamp;
+      touched = f.auto.touched;
+      write = f.auto.write;
+      pin_node = f.auto.pin_node;
+      pin_start = f.auto.pin_start;
+      pin_end = f.auto.pin_end;
+      pin_count = f.auto.pin_count;
+      marks = f.auto.marks;
+      books = f.auto.books;
+    })
+
+pub shape_of-node : goal.shape_of-node
+shape_of-node c = c.loop-s.invariant.long.node
+
+pub shape_of-start : goal.shape_of-start
+shape_of-start c = c.loop-s.invariant.long.start
+
+pub shape_of-end : goal.shape_of-end
+shape_of-end c = c.loop-s.invariant.long.end
+
+pub shape_of-id : goal.shape_of-id
+shape_of-id c = c.loop-s.invariant.long.id
+
+pub shape_of-stamp : goal.shape_of-stamp
+shape_of-stamp c = c.loop-s.invariant.long.stamp
+
+pub shape_of-touched : goal.shape_of-touched
+shape_of-touched c = c.loop-s.invariant.long.touched
+
+pub shape_of-write : goal.shape_of-write
+shape_of-write c = c.loop-s.invariant.long.write
+
+pub shape_of-pin_node : goal.shape_of-pin_node
+shape_of-pin_node c = c.loop-s.invariant.long.pin_node
+
+pub shape_of-pin_start : goal.shape_of-pin_start
+shape_of-pin_start c = c.loop-s.invariant.long.pin_start
+
+pub shape_of-pin_end : goal.shape_of-pin_end
+shape_of-pin_end c = c.loop-s.invariant.long.pin_end
+
+pub shape_of-pin_count : goal.shape_of-pin_count
+shape_of-pin_count c = c.loop-s.invariant.long.pin_count
+
+pub shape_of-marks : goal.shape_of-marks
+shape_of-marks c = c.loop-s.invariant.long.marks
+
+pub shape_of-books : goal.shape_of-books
+shape_of-books c = c.loop-s.invariant.long.books
+
+pub returns : goal.returns
+returns c = let a = c.args in
+    let l = c.loop-s in
+    turning_end a.j a.k a.m (ranges_of a.node.now a.start.now a.end.now a.id.now a.stamp.now a.touched.now a.write.now)
+    (pins_of a.pin_node.now a.pin_start.now a.pin_end.now a.pin_count.now) a.marks.now a.books.now l.s
+    (ranges_of l.node l.start l.end l.id l.stamp l.touched l.write) (pins_of l.pin_node l.pin_start l.pin_end l.pin_count) l.marks l.books
+    l.invariant c.loop-s-test.false
