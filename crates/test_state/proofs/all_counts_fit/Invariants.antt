@@ -1,0 +1,10 @@
+use Prim.Native.Nat.{◌-◌, ◌≤◌}
+use Rattle.model.specs.Words.{Each}
+use Rattle.test_state.specs.Stores.{CountsFit}
+use Rattle.test_state.proofs.all_counts_fit.Given as goal
+
+abbrev pub invariant-loop-s : goal.invariant-loop-s
+invariant-loop-s l = (0 ≤ l.s) × Each 0 l.s (CountsFit l.books)
+
+abbrev pub decreases-loop-s : goal.decreases-loop-s
+decreases-loop-s l = l.stores - l.s
