@@ -3,7 +3,7 @@
 
     coverage.py
 
-FILE.antt is of crates/model/specs, CRATE/FILE.antt of crates/CRATE/proofs, CRATE/lib.rt of crates/CRATE/src. A name `..-kept` stands for those that end so.
+FILE.antt is of crates/model/specs, CRATE/FILE.antt of crates/CRATE/proofs, CRATE/lib.rt of crates/CRATE/src. A name `..-kept` or `.._kept` stands for those that end so.
 """
 import os
 import re
@@ -64,7 +64,7 @@ def broken(cell):
                 text = f.read()
             for name in names_in(rest[2:]):
                 name = re.sub(r' and$', '', name)
-                suffix = re.match(r'(?:a|every) \.\.(-\w+)', name)
+                suffix = re.match(r'(?:a|every) \.\.([-_]\w+)', name)
                 if suffix:
                     if not re.search(rf'(?m)^\s*(?:pub )?[\w-]+{suffix[1]} :', text):
                         yield f'{path} has no name that ends in {suffix[1]}'
