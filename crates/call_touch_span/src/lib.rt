@@ -1,4 +1,5 @@
 #![tactic(auto)]
+
 ghost use Rattle.std.specs.Prelude.{◌≡◌, List, ℕ, ◌+◌, ◌*◌, ◌≤◌, ◌<◌, eqb, length};
 ghost use Rattle.model.specs.Sizes.{max_stores, max_numbers, max_stamp};
 ghost use Rattle.model.specs.State.{Tree, stores_in};
