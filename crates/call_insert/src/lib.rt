@@ -1,4 +1,5 @@
 #![tactic(auto)]
+
 ghost use Rattle.std.specs.Prelude.{◌≡◌, List, [], ◌∷◌, ◌++◌, ℕ, ◌≤◌, ◌<◌, length, take};
 ghost use Rattle.model.specs.declared.Split.{Split};
 ghost use Rattle.model.specs.State.{Ranges, Pins, nodes_in, used_in};

@@ -1,0 +1,26 @@
+-- `call_insert::add_rest` meets its contract: the tree with its leaf, and the lists with its segment.
+-- Assumes nothing.
+use Rattle.model.specs.State.{nodes_in, used_in}
+use Rattle.shape_state.specs.Lent.{tree_of}
+use Rattle.shape_answer.specs.Lists.{path_list_of}
+use Rattle.call_insert.proofs.Laws.{node-within, len-within, leafed}
+use Rattle.call_insert.proofs.add_rest.Goals as goal
+
+pub add_leaf-requires : goal.add_leaf-requires
+add_leaf-requires c = let r = c.requires.1 in (r.parent, r.depth, r.len, r.run, r.within, r.words)
+
+pub lay_longer-requires : goal.lay_longer-requires
+lay_longer-requires c = let r = c.requires.1 in (node-within r.path, len-within r.path, r.path_node, r.path_len)
+
+pub put_counts-requires : goal.put_counts-requires
+put_counts-requires c = let r = c.requires.1 in r.books
+
+pub returns : goal.returns
+returns c = λ ss split r p marks bytes found.
+    let a = c.args in
+    let f = c.add_leaf in
+    let g = c.lay_longer in
+    leafed ss split (tree_of a.parent.now a.depth.now a.len.now a.run.now a.words.now (nodes_in a.books.now) (used_in a.books.now))
+    f.new.parent f.new.depth f.new.len f.new.run f.new.words r p marks bytes a.books.now c.put_counts.new.books a.hashes.now a.m
+    (path_list_of a.path_node.now a.path_len.now) (path_list_of g.new.path_node g.new.path_len)
+    (path_list_of a.found_node.now a.found_len.now) found f.ensures c.put_counts.ensures g.ensures
