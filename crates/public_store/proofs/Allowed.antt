@@ -5,7 +5,7 @@ use Rattle.model.specs.Refusals.{OutList}
 use Rattle.model.specs.Calls.{store_insert, store_expire, store_remove}
 use Rattle.shape_answer.specs.Answers.{store_inserted_of, store_expired_of, store_removed_of}
 use Rattle.theory_outcome.specs.Settled.{state_at, Allows}
-use Rattle.theory_outcome.specs.Contract.{Ints, columns, after, leaves, Promises}
+use Rattle.theory_outcome.specs.Contract.{Ints, columns, after, leaves, stores, Promises}
 use Rattle.public_store.specs.contracts.store_insert as inserts
 use Rattle.public_store.specs.contracts.store_expire as expires
 use Rattle.public_store.specs.contracts.store_remove as removes
@@ -22,23 +22,23 @@ abbrev after_out : {R : Type 0} → OutLent R → R
 after_out (_, (_, (_, (_, (_, (_, rest)))))) = rest
 
 pub store_insert-allowed :
-    Promises inserts.ended (λ M. inserts.spec)
+    Promises inserts.ended (λ M 𝓤. inserts.spec)
     (λ κs a s r.
-    let x = after_out (after a) in
-    Allows store_inserted_of (store_insert (state_at (columns a)) (out_in (after a)) x.0 x.1.0 x.1.1.0 x.1.1.1.0)
-    (leaves s (out_in (after s)) r))
+    let x = after_out (after stores a) in
+    Allows store_inserted_of (store_insert (state_at (columns stores a)) (out_in (after stores a)) x.0 x.1.0 x.1.1.0 x.1.1.1.0)
+    (leaves stores s (out_in (after stores s)) r))
 store_insert-allowed M 𝓤 𝓛 mem run = refl
 
 pub store_expire-allowed :
-    Promises expires.ended (λ M. expires.spec)
+    Promises expires.ended (λ M 𝓤. expires.spec)
     (λ κs a s r.
-    let x = after_out (after a) in
-    Allows store_expired_of (store_expire (state_at (columns a)) (out_in (after a)) x.0 x.1.0 x.1.1.0) (leaves s (out_in (after s)) r))
+    let x = after_out (after stores a) in
+    Allows store_expired_of (store_expire (state_at (columns stores a)) (out_in (after stores a)) x.0 x.1.0 x.1.1.0) (leaves stores s (out_in (after stores s)) r))
 store_expire-allowed M 𝓤 𝓛 mem run = refl
 
 pub store_remove-allowed :
-    Promises removes.ended (λ M. removes.spec)
+    Promises removes.ended (λ M 𝓤. removes.spec)
     (λ κs a s r.
-    let x = (after a).1 in
-    Allows store_removed_of (store_remove (state_at (columns a)) (after a).0.now x.0 x.1.0) (leaves s (after s).0.now r))
+    let x = (after stores a).1 in
+    Allows store_removed_of (store_remove (state_at (columns stores a)) (after stores a).0.now x.0 x.1.0) (leaves stores s (after stores s).0.now r))
 store_remove-allowed M 𝓤 𝓛 mem run = refl
