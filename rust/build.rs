@@ -1,4 +1,4 @@
-//! Links the archives that `rt staticlib` writes. `rust/run` makes them first.
+//! Links the archives that `rt lib` writes. `rust/run` makes them first, and keeps them in target/staticlib.
 
 fn main() {
     let root = concat!(env!("CARGO_MANIFEST_DIR"), "/..");

@@ -16,7 +16,7 @@ def size(line):
 
 
 def parse(text):
-    """The words of a term, a bracketed part as one list."""
+    """The words of a term, a bracketed part as one list; one with a field behind it is a word."""
     stack, word = [[]], ''
 
     def end():
@@ -25,14 +25,17 @@ def parse(text):
             stack[-1].append(word)
             word = ''
 
-    for c in text:
+    for at, c in enumerate(text):
         if c == '(':
             end()
             stack.append([])
         elif c == ')':
             end()
             part = stack.pop()
-            stack[-1].append(part)
+            if text[at + 1:at + 2] == '.':
+                word = '(' + flat(part) + ')'
+            else:
+                stack[-1].append(part)
         elif c == ' ':
             end()
         else:
@@ -102,12 +105,10 @@ def by_argument(term, indent, before, after):
 
 
 def clause(line):
-    m = re.match(r'( *)(requires|ensures) \{ ((?:λ \S+ )?)⌜ (.*) ⌝ \}$', line)
-    if not m:
+    m = re.match(r'( *)((?:requires|ensures)(?: \w+)?) \{ (.*) \}$', line)
+    if not m or flat(parse(m[3])) != ' '.join(m[3].split()):
         return None
-    indent = len(m[1])
-    pad = ' ' * (indent + STEP)
-    return [f'{m[1]}{m[2]} {{', f'{pad}{m[3]}⌜'] + lay(parse(m[4]), indent + STEP) + [f'{pad}⌝', f'{m[1]}}}']
+    return lay(parse(m[3]), len(m[1]), f'{m[2]} {{ ', ' }')
 
 
 def main():

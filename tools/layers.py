@@ -25,7 +25,7 @@ def crates_in(name):
             line = line.split('#')[0].strip()
             if line:
                 crate, names = line.split(':')
-                found.append((number, crate.strip(), names.split()))
+                found.append((number, crate.split()[0], names.split()))
     return found
 
 

@@ -15,24 +15,24 @@ fail() {
 root=$(cd "$(dirname "$0")/.." && pwd -P)
 file=${1-$root/docs/$trace}
 [ -r "$file" ] || fail "$file: cannot be read"
-program=$root/target/bin/$name
+program=$root/crates/$name/out/$name
 
 # The kit is where rt is.
 rt=$(command -v rt) || fail "rt is not on the path"
-home=${RATTLE_HOME:-$(cd "$(dirname "$(readlink -f "$rt")")/.." && pwd -P)}
-tools=$home/on/$(uname -m)/toolchain
+tools=$(cd "$(dirname "$(readlink -f "$rt")")/.." && pwd -P)/toolchain
 
 up_to_date() {
-    [ -x "$program" ] && [ -z "$(find "$root/crates" "$root/crates.txt" -newer "$program" -print -quit)" ]
+    [ -x "$program" ] && [ -z "$(find "$root/crates.txt" "$root"/crates/*/src "$root"/crates/*/specs "$root"/crates/*/proofs -newer "$program" -print -quit 2>/dev/null)" ]
 }
 
+# `rt run` proves, builds and runs it: here on no line.
 if ! up_to_date; then
     echo "$name: proving and building the program, which can take some minutes" >&2
-    (cd "$root" && rt check "$name") >&2 || fail "rt check $name failed"
+    (cd "$root/crates/$name" && rt run </dev/null >/dev/null) || fail "rt run failed in crates/$name"
     touch "$program"
 fi
 
-# Programs are for x86-64; on Arm the kit has an emulator beside its compiler.
-emulator=$tools/bin/qemu-x86_64
-[ -x "$emulator" ] || emulator=
+# Programs are for x86-64; on another processor they run under an emulator, where there is one.
+emulator=
+[ "$(uname -m)" = x86_64 ] || emulator=$(command -v qemu-x86_64 || command -v qemu-x86_64-static) || fail "the program is for x86-64, and qemu-x86_64 is not on the path"
 exec ${emulator:+"$emulator"} "$tools/lib/ld-linux-x86-64.so.2" --library-path "$tools/lib" "$program" <"$file"
