@@ -15,7 +15,7 @@ use lib.Seq.{drop-cons, append_snoc, ext_get_or, get_or-set_same, get_or-set_oth
 use borrow.Author.Tests.{lt-ltb, le-ltb, eq-eqb, ne_eqb, eqb-true, eqb-false}
 use Rattle.model.specs.Sizes.{max_bytes, max_hashes}
 use Rattle.model.specs.State.{State, at}
-use Rattle.model.specs.Store.{store_of, ranges}
+use Rattle.model.specs.Store.{store_of}
 use Rattle.model.specs.Tree.{Seg, resolve}
 use Rattle.model.specs.Lookup.{TierSpan, Looked, reach, first_tier, along, lookup_path, span_blocks, span_bytes, if_tier, tier_sum, tier_sums}
 use Rattle.model.specs.Refusals.{TierList}

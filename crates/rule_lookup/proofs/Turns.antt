@@ -137,6 +137,14 @@ module _ {ds ns ss es bs rs pns pls : List ℕ} {segs : ℕ} {ts : List ℕ} {v 
         is = λ st hs seen. sym (p.same st hs seen) ∙ tier-here st ts t v o z l e h (told st hs seen) ∙ ap (λ (x : ℕ). some (span_at t v o x)) (sym k);
       }
 
+-- the same where the search for a range has told of one
+pub taken : {ds ns ss es bs rs pns pls : List ℕ} {segs : ℕ} {ts : List ℕ} {v o z t e m n : ℕ}
+    → (st : State) × (hs : List ℕ) × Sees ds ns ss es bs rs pns pls segs ts st hs
+    → Passing (Sees ds ns ss es bs rs pns pls segs ts) ts v o z t → t < length ts
+    → OfColumns ns ss es (λ c. found_of (At e) ≡ range_end v o (ranges c (128 * at ts t) (at rs (at ts t))))
+    → n ≡ m → m ≡ min e z → o < z → Holding (Sees ds ns ss es bs rs pns pls segs ts) ts v o z t n
+taken {e = e} {n = n} seen p l tells a b h = pass_here (At e) p l tells e n refl (a ∙ b) h seen.0 seen.1 seen.2
+
 -- the one or the other, by whether the end moved
 pub moved : {S : State → List ℕ → Type 0} {ts : List ℕ} {v o z t e : ℕ} → Answered S ts v o z t e → (e ≡ o → ⊥) → Holding S ts v o z t e
 moved (inl a) f = absurd (f a.stays)
