@@ -473,18 +473,18 @@ module _ (o : Others) (depth bytes : List ℕ) (c : Ranges) (ms x : List ℕ) (s
 
 pub outcome-done : (n : ℕ) (st st' : State) (a a' : ℕ) → n ≡ 0 → st' ≡ st → a ≡ a' → (st₀ : State) (o : Outcome (Unit {0}) TouchAnswer)
     → o ≡ record { state = st; lists = tt; answer = done (read a') } → ◌≡◌ {A = Outcome (Unit {0}) TouchAnswer} (outcome st' tt (done (read a))) (unless n st₀ tt o)
-outcome-done n st st' a a' e f g st₀ o h = (λ i. outcome (f i) tt (done (read (g i)))) ∙ sym h ∙ sym (unless-none st₀ tt o n e)
+outcome-done n _ _ a a' e f g st₀ o h = (λ i. outcome (f i) tt (done (read (g i)))) ∙ sym h ∙ sym (unless-none st₀ tt o n e)
 
 pub none_left : (sps : List Span) (i : ℕ) → length sps ≤ i → i ≤ length sps → drop i sps ≡ []
 none_left sps i a b = let e : i ≡ length sps = omega arith in ap (λ (k : ℕ). drop k sps) e ∙ drop-length sps
 
 pub no_bytes : (st : State) (s : ℕ) (time : Float) (counted : Bool) → bytes_touched st s [] time counted ≡ 0
 unfolding bytes_touched
-no_bytes st s time counted = refl
+no_bytes _ s time counted = refl
 
 pub no_spans : (st : State) (s : ℕ) (time : Float) (counted : Bool) → touch_spans st s [] time counted ≡ st
 unfolding touch_spans
-no_spans st s time counted = refl
+no_spans _ s time counted = refl
 
 module _ (o : Others) (depth bytes : List ℕ) (c₀ : Ranges) (ms₀ x : List ℕ) (s : ℕ) (sps : List Span) (time : Float) (counted : Bool) (i : ℕ) (c : Ranges) (ms : List ℕ) (y : Turn)
     (g : Going o depth bytes c₀ ms₀ x s sps time counted i c ms y) where

@@ -2,4 +2,3 @@ pub mod Books
 pub mod Laws
 pub mod Room
 pub mod Running
-pub mod Lent

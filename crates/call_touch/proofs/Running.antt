@@ -175,14 +175,14 @@ module _ (len : List ℕ) (nodes : ℕ) (sps : List Span) where
     bad-is : (t : Tree) → t.len ≡ len → t.nodes ≡ nodes → bad t sps i ≡ not r
     bad-is t l n = ap (λ (q : Span). not (span_in t q)) (sym e) ∙ ap not (sym (f t l n))
 
-    pub fine_more : not r ≡ false → Fine len nodes sps i → Fine len nodes sps (i + 1)
+    pub fine_more : r ≡ true → Fine len nodes sps i → Fine len nodes sps (i + 1)
     unfolding any
     fine_more g h t l n = ap (λ (k : ℕ). any k (bad t sps)) (add-one i) ∙ rw (bad-is t l n, g, h t l n) refl
 
-    pub fine_not : i < length sps → not r ≡ true → (k a b : ℕ) → a ≡ b → k ≡ four a
+    pub fine_not : i < length sps → r ≡ false → (k a b : ℕ) → a ≡ b → k ≡ four a
         → (t : Tree) → t.len ≡ len → t.nodes ≡ nodes → k ≡ refused_by (any (length sps) (bad t sps)) b
     fine_not less g k a b ab h t l n =
-        h ∙ ap four ab ∙ ap (λ (q : Bool). refused_by q b) (sym (some_at (length sps) (bad t sps) i less (bad-is t l n ∙ g)))
+        h ∙ ap four ab ∙ ap (λ (q : Bool). refused_by q b) (sym (some_at (length sps) (bad t sps) i less (bad-is t l n ∙ ap not g)))
 
   pub fine_all : (i : ℕ) → length sps ≤ i → i ≤ length sps → Fine len nodes sps i → (a b : ℕ) → a ≡ b
       → (t : Tree) → t.len ≡ len → t.nodes ≡ nodes → a ≡ refused_by (any (length sps) (bad t sps)) b

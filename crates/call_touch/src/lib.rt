@@ -1,4 +1,5 @@
 #![tactic(auto)]
+
 ghost use Rattle.std.specs.Prelude.{◌≡◌, List, ℕ, ◌≤◌, length, take};
 ghost use Rattle.model.specs.Sizes.{max_numbers};
 ghost use Rattle.model.specs.Words.{any};
