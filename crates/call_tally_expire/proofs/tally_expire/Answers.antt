@@ -20,10 +20,10 @@ pub bounds-books-2 : goal.bounds-books-2
 bounds-books-2 c = omega (arith, c.requires.0.lent.books)
 
 pub returns-then-stores-s : goal.returns-then-stores-s
-returns-then-stores-s c = expired_nowhere ((state_of ((tree_of c.args.parent.now c.args.depth.now c.args.len.now c.args.run.now c.args.words.now) (nodes_in c.args.books.now) (used_in c.args.books.now)) ((ranges_of c.args.node.now c.args.start.now c.args.end.now c.args.id.now c.args.stamp.now c.args.touched.now c.args.write.now)) ((pins_of c.args.pin_node.now c.args.pin_start.now c.args.pin_end.now c.args.pin_count.now)) c.args.marks.now c.args.bytes.now c.args.books.now)) ((out_list c.args.out_node.now c.args.out_start.now c.args.out_end.now c.args.out_write.now c.args.out_bytes.now c.args.out_dead.now)) c.args.s c.args.time c.args.seconds c.args.sums.now c.requires.2 c.requires.0 c.requires.1 c.if-stores-s.true
+returns-then-stores-s c = expired_nowhere (state_of ((tree_of c.args.parent.now c.args.depth.now c.args.len.now c.args.run.now c.args.words.now) (nodes_in c.args.books.now) (used_in c.args.books.now)) (ranges_of c.args.node.now c.args.start.now c.args.end.now c.args.id.now c.args.stamp.now c.args.touched.now c.args.write.now) (pins_of c.args.pin_node.now c.args.pin_start.now c.args.pin_end.now c.args.pin_count.now) c.args.marks.now c.args.bytes.now c.args.books.now) (out_list c.args.out_node.now c.args.out_start.now c.args.out_end.now c.args.out_write.now c.args.out_bytes.now c.args.out_dead.now) c.args.s c.args.time c.args.seconds c.args.sums.now c.requires.2 c.requires.0 c.requires.1 c.if-stores-s.true
 
 pub far-requires : goal.far-requires
-far-requires c = (store_low ((state_of ((tree_of c.args.parent.now c.args.depth.now c.args.len.now c.args.run.now c.args.words.now) (nodes_in c.args.books.now) (used_in c.args.books.now)) ((ranges_of c.args.node.now c.args.start.now c.args.end.now c.args.id.now c.args.stamp.now c.args.touched.now c.args.write.now)) ((pins_of c.args.pin_node.now c.args.pin_start.now c.args.pin_end.now c.args.pin_count.now)) c.args.marks.now c.args.bytes.now c.args.books.now)) c.args.s c.requires.0 c.if-stores-s.false, c.requires.2)
+far-requires c = (store_low (state_of ((tree_of c.args.parent.now c.args.depth.now c.args.len.now c.args.run.now c.args.words.now) (nodes_in c.args.books.now) (used_in c.args.books.now)) (ranges_of c.args.node.now c.args.start.now c.args.end.now c.args.id.now c.args.stamp.now c.args.touched.now c.args.write.now) (pins_of c.args.pin_node.now c.args.pin_start.now c.args.pin_end.now c.args.pin_count.now) c.args.marks.now c.args.bytes.now c.args.books.now) c.args.s c.requires.0 c.if-stores-s.false, c.requires.2)
 
 pub near_expire-requires : goal.near_expire-requires
 near_expire-requires c = (c.requires.0, c.requires.1, c.requires.2, c.if-stores-s.false)
@@ -35,21 +35,21 @@ pub store_expire-r-requires : goal.store_expire-r-requires
 store_expire-r-requires c = (c.requires.0, c.requires.1)
 
 pub out_sums-o-requires : goal.out_sums-o-requires
-out_sums-o-requires c = expired-listed ((state_of ((tree_of c.args.parent.now c.args.depth.now c.args.len.now c.args.run.now c.args.words.now) (nodes_in c.args.books.now) (used_in c.args.books.now)) ((ranges_of c.args.node.now c.args.start.now c.args.end.now c.args.id.now c.args.stamp.now c.args.touched.now c.args.write.now)) ((pins_of c.args.pin_node.now c.args.pin_start.now c.args.pin_end.now c.args.pin_count.now)) c.args.marks.now c.args.bytes.now c.args.books.now)) ((out_list c.args.out_node.now c.args.out_start.now c.args.out_end.now c.args.out_write.now c.args.out_bytes.now c.args.out_dead.now)) c.args.s c.args.time c.args.seconds {st' = (state_of ((tree_of c.args.parent.now c.args.depth.now c.args.len.now c.args.run.now c.args.words.now) (nodes_in (c.store_expire-r.new.books)) (used_in (c.store_expire-r.new.books))) ((ranges_of c.store_expire-r.new.node c.store_expire-r.new.start c.store_expire-r.new.end c.store_expire-r.new.id c.store_expire-r.new.stamp c.store_expire-r.new.touched c.store_expire-r.new.write)) ((pins_of c.args.pin_node.now c.args.pin_start.now c.args.pin_end.now c.args.pin_count.now)) (c.store_expire-r.new.marks) c.args.bytes.now (c.store_expire-r.new.books))} {l' = (out_list c.store_expire-r.new.out_node c.store_expire-r.new.out_start c.store_expire-r.new.out_end c.store_expire-r.new.out_write c.store_expire-r.new.out_bytes c.store_expire-r.new.out_dead)} c.store_expire-r.result c.store_expire-r.ensures c.in-Done.a c.in-Done.is ((outs_fit c.requires.1 c.store_expire-r.auto.out_node c.store_expire-r.auto.out_start c.store_expire-r.auto.out_end c.store_expire-r.auto.out_write c.store_expire-r.auto.out_bytes c.store_expire-r.auto.out_dead))
+out_sums-o-requires c = expired-listed (state_of ((tree_of c.args.parent.now c.args.depth.now c.args.len.now c.args.run.now c.args.words.now) (nodes_in c.args.books.now) (used_in c.args.books.now)) (ranges_of c.args.node.now c.args.start.now c.args.end.now c.args.id.now c.args.stamp.now c.args.touched.now c.args.write.now) (pins_of c.args.pin_node.now c.args.pin_start.now c.args.pin_end.now c.args.pin_count.now) c.args.marks.now c.args.bytes.now c.args.books.now) (out_list c.args.out_node.now c.args.out_start.now c.args.out_end.now c.args.out_write.now c.args.out_bytes.now c.args.out_dead.now) c.args.s c.args.time c.args.seconds {st' = (state_of ((tree_of c.args.parent.now c.args.depth.now c.args.len.now c.args.run.now c.args.words.now) (nodes_in (c.store_expire-r.new.books)) (used_in (c.store_expire-r.new.books))) (ranges_of c.store_expire-r.new.node c.store_expire-r.new.start c.store_expire-r.new.end c.store_expire-r.new.id c.store_expire-r.new.stamp c.store_expire-r.new.touched c.store_expire-r.new.write) (pins_of c.args.pin_node.now c.args.pin_start.now c.args.pin_end.now c.args.pin_count.now) (c.store_expire-r.new.marks) c.args.bytes.now (c.store_expire-r.new.books))} {l' = (out_list c.store_expire-r.new.out_node c.store_expire-r.new.out_start c.store_expire-r.new.out_end c.store_expire-r.new.out_write c.store_expire-r.new.out_bytes c.store_expire-r.new.out_dead)} c.store_expire-r.result c.store_expire-r.ensures c.in-Done.a c.in-Done.is (outs_fit c.requires.1 c.store_expire-r.auto.out_node c.store_expire-r.auto.out_start c.store_expire-r.auto.out_end c.store_expire-r.auto.out_write c.store_expire-r.auto.out_bytes c.store_expire-r.auto.out_dead)
 
 pub add_expire-requires : goal.add_expire-requires
 add_expire-requires c = (
-  store_low ((state_of ((tree_of c.args.parent.now c.args.depth.now c.args.len.now c.args.run.now c.args.words.now) (nodes_in c.args.books.now) (used_in c.args.books.now)) ((ranges_of c.args.node.now c.args.start.now c.args.end.now c.args.id.now c.args.stamp.now c.args.touched.now c.args.write.now)) ((pins_of c.args.pin_node.now c.args.pin_start.now c.args.pin_end.now c.args.pin_count.now)) c.args.marks.now c.args.bytes.now c.args.books.now)) c.args.s c.requires.0 c.if-stores-s.false,
+  store_low (state_of ((tree_of c.args.parent.now c.args.depth.now c.args.len.now c.args.run.now c.args.words.now) (nodes_in c.args.books.now) (used_in c.args.books.now)) (ranges_of c.args.node.now c.args.start.now c.args.end.now c.args.id.now c.args.stamp.now c.args.touched.now c.args.write.now) (pins_of c.args.pin_node.now c.args.pin_start.now c.args.pin_end.now c.args.pin_count.now) c.args.marks.now c.args.bytes.now c.args.books.now) c.args.s c.requires.0 c.if-stores-s.false,
   c.requires.2,
-  expired_far ((state_of ((tree_of c.args.parent.now c.args.depth.now c.args.len.now c.args.run.now c.args.words.now) (nodes_in c.args.books.now) (used_in c.args.books.now)) ((ranges_of c.args.node.now c.args.start.now c.args.end.now c.args.id.now c.args.stamp.now c.args.touched.now c.args.write.now)) ((pins_of c.args.pin_node.now c.args.pin_start.now c.args.pin_end.now c.args.pin_count.now)) c.args.marks.now c.args.bytes.now c.args.books.now)) ((out_list c.args.out_node.now c.args.out_start.now c.args.out_end.now c.args.out_write.now c.args.out_bytes.now c.args.out_dead.now)) c.args.s c.args.time c.args.seconds c.args.sums.now c.requires.2 {st' = (state_of ((tree_of c.args.parent.now c.args.depth.now c.args.len.now c.args.run.now c.args.words.now) (nodes_in (c.store_expire-r.new.books)) (used_in (c.store_expire-r.new.books))) ((ranges_of c.store_expire-r.new.node c.store_expire-r.new.start c.store_expire-r.new.end c.store_expire-r.new.id c.store_expire-r.new.stamp c.store_expire-r.new.touched c.store_expire-r.new.write)) ((pins_of c.args.pin_node.now c.args.pin_start.now c.args.pin_end.now c.args.pin_count.now)) (c.store_expire-r.new.marks) c.args.bytes.now (c.store_expire-r.new.books))} {l' = (out_list c.store_expire-r.new.out_node c.store_expire-r.new.out_start c.store_expire-r.new.out_end c.store_expire-r.new.out_write c.store_expire-r.new.out_bytes c.store_expire-r.new.out_dead)} c.store_expire-r.result c.store_expire-r.ensures c.in-Done.a c.in-Done.is c.out_sums-o.result c.out_sums-o.ensures (says_yes c.far.result (ap not c.if-not-far.false) c.far.ensures),
+  expired_far (state_of ((tree_of c.args.parent.now c.args.depth.now c.args.len.now c.args.run.now c.args.words.now) (nodes_in c.args.books.now) (used_in c.args.books.now)) (ranges_of c.args.node.now c.args.start.now c.args.end.now c.args.id.now c.args.stamp.now c.args.touched.now c.args.write.now) (pins_of c.args.pin_node.now c.args.pin_start.now c.args.pin_end.now c.args.pin_count.now) c.args.marks.now c.args.bytes.now c.args.books.now) (out_list c.args.out_node.now c.args.out_start.now c.args.out_end.now c.args.out_write.now c.args.out_bytes.now c.args.out_dead.now) c.args.s c.args.time c.args.seconds c.args.sums.now c.requires.2 {st' = (state_of ((tree_of c.args.parent.now c.args.depth.now c.args.len.now c.args.run.now c.args.words.now) (nodes_in (c.store_expire-r.new.books)) (used_in (c.store_expire-r.new.books))) (ranges_of c.store_expire-r.new.node c.store_expire-r.new.start c.store_expire-r.new.end c.store_expire-r.new.id c.store_expire-r.new.stamp c.store_expire-r.new.touched c.store_expire-r.new.write) (pins_of c.args.pin_node.now c.args.pin_start.now c.args.pin_end.now c.args.pin_count.now) (c.store_expire-r.new.marks) c.args.bytes.now (c.store_expire-r.new.books))} {l' = (out_list c.store_expire-r.new.out_node c.store_expire-r.new.out_start c.store_expire-r.new.out_end c.store_expire-r.new.out_write c.store_expire-r.new.out_bytes c.store_expire-r.new.out_dead)} c.store_expire-r.result c.store_expire-r.ensures c.in-Done.a c.in-Done.is c.out_sums-o.result c.out_sums-o.ensures (says_yes c.far.result (ap not c.if-not-far.false) c.far.ensures),
 )
 
 pub returns-in-Refused : goal.returns-in-Refused
-returns-in-Refused c = expired-refused ((state_of ((tree_of c.args.parent.now c.args.depth.now c.args.len.now c.args.run.now c.args.words.now) (nodes_in c.args.books.now) (used_in c.args.books.now)) ((ranges_of c.args.node.now c.args.start.now c.args.end.now c.args.id.now c.args.stamp.now c.args.touched.now c.args.write.now)) ((pins_of c.args.pin_node.now c.args.pin_start.now c.args.pin_end.now c.args.pin_count.now)) c.args.marks.now c.args.bytes.now c.args.books.now)) ((out_list c.args.out_node.now c.args.out_start.now c.args.out_end.now c.args.out_write.now c.args.out_bytes.now c.args.out_dead.now)) c.args.s c.args.time c.args.seconds c.args.sums.now c.requires.2 {st' = (state_of ((tree_of c.args.parent.now c.args.depth.now c.args.len.now c.args.run.now c.args.words.now) (nodes_in (c.store_expire-r.new.books)) (used_in (c.store_expire-r.new.books))) ((ranges_of c.store_expire-r.new.node c.store_expire-r.new.start c.store_expire-r.new.end c.store_expire-r.new.id c.store_expire-r.new.stamp c.store_expire-r.new.touched c.store_expire-r.new.write)) ((pins_of c.args.pin_node.now c.args.pin_start.now c.args.pin_end.now c.args.pin_count.now)) (c.store_expire-r.new.marks) c.args.bytes.now (c.store_expire-r.new.books))} {l' = (out_list c.store_expire-r.new.out_node c.store_expire-r.new.out_start c.store_expire-r.new.out_end c.store_expire-r.new.out_write c.store_expire-r.new.out_bytes c.store_expire-r.new.out_dead)} c.store_expire-r.result c.store_expire-r.ensures c.in-Refused.n c.in-Refused.is
+returns-in-Refused c = expired-refused (state_of ((tree_of c.args.parent.now c.args.depth.now c.args.len.now c.args.run.now c.args.words.now) (nodes_in c.args.books.now) (used_in c.args.books.now)) (ranges_of c.args.node.now c.args.start.now c.args.end.now c.args.id.now c.args.stamp.now c.args.touched.now c.args.write.now) (pins_of c.args.pin_node.now c.args.pin_start.now c.args.pin_end.now c.args.pin_count.now) c.args.marks.now c.args.bytes.now c.args.books.now) (out_list c.args.out_node.now c.args.out_start.now c.args.out_end.now c.args.out_write.now c.args.out_bytes.now c.args.out_dead.now) c.args.s c.args.time c.args.seconds c.args.sums.now c.requires.2 {st' = (state_of ((tree_of c.args.parent.now c.args.depth.now c.args.len.now c.args.run.now c.args.words.now) (nodes_in (c.store_expire-r.new.books)) (used_in (c.store_expire-r.new.books))) (ranges_of c.store_expire-r.new.node c.store_expire-r.new.start c.store_expire-r.new.end c.store_expire-r.new.id c.store_expire-r.new.stamp c.store_expire-r.new.touched c.store_expire-r.new.write) (pins_of c.args.pin_node.now c.args.pin_start.now c.args.pin_end.now c.args.pin_count.now) (c.store_expire-r.new.marks) c.args.bytes.now (c.store_expire-r.new.books))} {l' = (out_list c.store_expire-r.new.out_node c.store_expire-r.new.out_start c.store_expire-r.new.out_end c.store_expire-r.new.out_write c.store_expire-r.new.out_bytes c.store_expire-r.new.out_dead)} c.store_expire-r.result c.store_expire-r.ensures c.in-Refused.n c.in-Refused.is
 
 pub returns-in-Done : goal.returns-in-Done
-returns-in-Done c = expired-made ((state_of ((tree_of c.args.parent.now c.args.depth.now c.args.len.now c.args.run.now c.args.words.now) (nodes_in c.args.books.now) (used_in c.args.books.now)) ((ranges_of c.args.node.now c.args.start.now c.args.end.now c.args.id.now c.args.stamp.now c.args.touched.now c.args.write.now)) ((pins_of c.args.pin_node.now c.args.pin_start.now c.args.pin_end.now c.args.pin_count.now)) c.args.marks.now c.args.bytes.now c.args.books.now)) ((out_list c.args.out_node.now c.args.out_start.now c.args.out_end.now c.args.out_write.now c.args.out_bytes.now c.args.out_dead.now)) c.args.s c.args.time c.args.seconds c.args.sums.now c.requires.2 {st' = (state_of ((tree_of c.args.parent.now c.args.depth.now c.args.len.now c.args.run.now c.args.words.now) (nodes_in (c.store_expire-r.new.books)) (used_in (c.store_expire-r.new.books))) ((ranges_of c.store_expire-r.new.node c.store_expire-r.new.start c.store_expire-r.new.end c.store_expire-r.new.id c.store_expire-r.new.stamp c.store_expire-r.new.touched c.store_expire-r.new.write)) ((pins_of c.args.pin_node.now c.args.pin_start.now c.args.pin_end.now c.args.pin_count.now)) (c.store_expire-r.new.marks) c.args.bytes.now (c.store_expire-r.new.books))} {l' = (out_list c.store_expire-r.new.out_node c.store_expire-r.new.out_start c.store_expire-r.new.out_end c.store_expire-r.new.out_write c.store_expire-r.new.out_bytes c.store_expire-r.new.out_dead)} c.store_expire-r.result c.store_expire-r.ensures c.in-Done.a c.in-Done.is
+returns-in-Done c = expired-made (state_of ((tree_of c.args.parent.now c.args.depth.now c.args.len.now c.args.run.now c.args.words.now) (nodes_in c.args.books.now) (used_in c.args.books.now)) (ranges_of c.args.node.now c.args.start.now c.args.end.now c.args.id.now c.args.stamp.now c.args.touched.now c.args.write.now) (pins_of c.args.pin_node.now c.args.pin_start.now c.args.pin_end.now c.args.pin_count.now) c.args.marks.now c.args.bytes.now c.args.books.now) (out_list c.args.out_node.now c.args.out_start.now c.args.out_end.now c.args.out_write.now c.args.out_bytes.now c.args.out_dead.now) c.args.s c.args.time c.args.seconds c.args.sums.now c.requires.2 {st' = (state_of ((tree_of c.args.parent.now c.args.depth.now c.args.len.now c.args.run.now c.args.words.now) (nodes_in (c.store_expire-r.new.books)) (used_in (c.store_expire-r.new.books))) (ranges_of c.store_expire-r.new.node c.store_expire-r.new.start c.store_expire-r.new.end c.store_expire-r.new.id c.store_expire-r.new.stamp c.store_expire-r.new.touched c.store_expire-r.new.write) (pins_of c.args.pin_node.now c.args.pin_start.now c.args.pin_end.now c.args.pin_count.now) (c.store_expire-r.new.marks) c.args.bytes.now (c.store_expire-r.new.books))} {l' = (out_list c.store_expire-r.new.out_node c.store_expire-r.new.out_start c.store_expire-r.new.out_end c.store_expire-r.new.out_write c.store_expire-r.new.out_bytes c.store_expire-r.new.out_dead)} c.store_expire-r.result c.store_expire-r.ensures c.in-Done.a c.in-Done.is
     c.out_sums-o.result c.out_sums-o.ensures
     {w = c.add_expire.new.sums}
-    (expired_far ((state_of ((tree_of c.args.parent.now c.args.depth.now c.args.len.now c.args.run.now c.args.words.now) (nodes_in c.args.books.now) (used_in c.args.books.now)) ((ranges_of c.args.node.now c.args.start.now c.args.end.now c.args.id.now c.args.stamp.now c.args.touched.now c.args.write.now)) ((pins_of c.args.pin_node.now c.args.pin_start.now c.args.pin_end.now c.args.pin_count.now)) c.args.marks.now c.args.bytes.now c.args.books.now)) ((out_list c.args.out_node.now c.args.out_start.now c.args.out_end.now c.args.out_write.now c.args.out_bytes.now c.args.out_dead.now)) c.args.s c.args.time c.args.seconds c.args.sums.now c.requires.2 {st' = (state_of ((tree_of c.args.parent.now c.args.depth.now c.args.len.now c.args.run.now c.args.words.now) (nodes_in (c.store_expire-r.new.books)) (used_in (c.store_expire-r.new.books))) ((ranges_of c.store_expire-r.new.node c.store_expire-r.new.start c.store_expire-r.new.end c.store_expire-r.new.id c.store_expire-r.new.stamp c.store_expire-r.new.touched c.store_expire-r.new.write)) ((pins_of c.args.pin_node.now c.args.pin_start.now c.args.pin_end.now c.args.pin_count.now)) (c.store_expire-r.new.marks) c.args.bytes.now (c.store_expire-r.new.books))} {l' = (out_list c.store_expire-r.new.out_node c.store_expire-r.new.out_start c.store_expire-r.new.out_end c.store_expire-r.new.out_write c.store_expire-r.new.out_bytes c.store_expire-r.new.out_dead)} c.store_expire-r.result c.store_expire-r.ensures c.in-Done.a c.in-Done.is c.out_sums-o.result c.out_sums-o.ensures (says_yes c.far.result (ap not c.if-not-far.false) c.far.ensures))
+    (expired_far (state_of ((tree_of c.args.parent.now c.args.depth.now c.args.len.now c.args.run.now c.args.words.now) (nodes_in c.args.books.now) (used_in c.args.books.now)) (ranges_of c.args.node.now c.args.start.now c.args.end.now c.args.id.now c.args.stamp.now c.args.touched.now c.args.write.now) (pins_of c.args.pin_node.now c.args.pin_start.now c.args.pin_end.now c.args.pin_count.now) c.args.marks.now c.args.bytes.now c.args.books.now) (out_list c.args.out_node.now c.args.out_start.now c.args.out_end.now c.args.out_write.now c.args.out_bytes.now c.args.out_dead.now) c.args.s c.args.time c.args.seconds c.args.sums.now c.requires.2 {st' = (state_of ((tree_of c.args.parent.now c.args.depth.now c.args.len.now c.args.run.now c.args.words.now) (nodes_in (c.store_expire-r.new.books)) (used_in (c.store_expire-r.new.books))) (ranges_of c.store_expire-r.new.node c.store_expire-r.new.start c.store_expire-r.new.end c.store_expire-r.new.id c.store_expire-r.new.stamp c.store_expire-r.new.touched c.store_expire-r.new.write) (pins_of c.args.pin_node.now c.args.pin_start.now c.args.pin_end.now c.args.pin_count.now) (c.store_expire-r.new.marks) c.args.bytes.now (c.store_expire-r.new.books))} {l' = (out_list c.store_expire-r.new.out_node c.store_expire-r.new.out_start c.store_expire-r.new.out_end c.store_expire-r.new.out_write c.store_expire-r.new.out_bytes c.store_expire-r.new.out_dead)} c.store_expire-r.result c.store_expire-r.ensures c.in-Done.a c.in-Done.is c.out_sums-o.result c.out_sums-o.ensures (says_yes c.far.result (ap not c.if-not-far.false) c.far.ensures))
     c.add_expire.ensures

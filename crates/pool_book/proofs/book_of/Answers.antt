@@ -1,5 +1,5 @@
 -- `pool_book::book_of` meets its contract: the store's row is read, and its book is made of it. Assumes nothing.
-use Rattle.std.proofs.Common.{ℕ, take, drop, ap, ◌∙◌, rules}
+use Rattle.std.proofs.Common.{ℕ, take, drop, ap, ◌∙◌}
 use Rattle.model.specs.Sizes.{store_numbers}
 use Rattle.model.specs.State.{book_from}
 use Rattle.pool_book.proofs.Laws.{book-at}

@@ -1,5 +1,5 @@
 -- `pool_book::put_book` meets its contract: the book's row is written in the store's place. Assumes nothing.
-use Rattle.std.proofs.Common.{◌∙◌, rules}
+use Rattle.std.proofs.Common.{◌∙◌}
 use lib.Seq.{paste}
 use Rattle.model.specs.Sizes.{store_numbers}
 use Rattle.pool_book.proofs.Laws.{book-laid}

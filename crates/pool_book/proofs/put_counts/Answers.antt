@@ -1,5 +1,5 @@
 -- `pool_book::put_counts` meets its contract: both numbers are written at their places. Assumes nothing.
-use Rattle.std.proofs.Common.{arith, lt-length-set, rules}
+use Rattle.std.proofs.Common.{arith, lt-length-set}
 use Rattle.pool_book.proofs.Laws.{counts-laid}
 use Rattle.pool_book.proofs.put_counts.Goals as goal
 

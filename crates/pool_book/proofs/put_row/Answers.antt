@@ -1,7 +1,7 @@
 -- `pool_book::put_row` meets its contract: number by number, by the laws of `Copied`. Assumes nothing.
-use Rattle.std.proofs.Common.{◌-◌, refl, rules}
+use Rattle.std.proofs.Common.{refl, rules}
 use Rattle.model.specs.Sizes.{store_numbers}
-use Rattle.pool_book.proofs.Laws.{Copied, copied_none, copied_more, copied_all}
+use Rattle.pool_book.proofs.Laws.{copied_none, copied_more, copied_all}
 use Rattle.pool_book.proofs.put_row.Goals as goal
 
 pub loop-i-init : goal.loop-i-init

@@ -1,6 +1,6 @@
-use Rattle.std.proofs.Common.{◌-◌, refl, rules}
+use Rattle.std.proofs.Common.{◌-◌}
 use Rattle.model.specs.Sizes.{store_numbers}
-use Rattle.pool_book.proofs.Laws.{Copied, copied_none, copied_more, copied_all}
+use Rattle.pool_book.proofs.Laws.{Copied}
 use Rattle.pool_book.proofs.put_row.Given as goal
 
 abbrev pub invariant-loop-i : goal.invariant-loop-i

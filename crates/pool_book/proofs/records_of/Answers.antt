@@ -1,5 +1,5 @@
 -- `pool_book::records_of` meets its contract: each store's records are those of its book. Assumes nothing.
-use Rattle.std.proofs.Common.{[], ◌∷◌, rules}
+use Rattle.std.proofs.Common.{[], ◌∷◌}
 use Rattle.pool_book.proofs.records_of.Goals as goal
 
 pub returns : goal.returns

@@ -1,7 +1,5 @@
 -- `pool_book::row_at` meets its contract: number by number, by the laws of `Copied`. Assumes nothing.
-use Rattle.std.proofs.Common.{◌-◌, drop, replicate, rules}
-use Rattle.model.specs.Sizes.{store_numbers}
-use Rattle.pool_book.proofs.Laws.{Copied, copied_none, row_more, row-all}
+use Rattle.pool_book.proofs.Laws.{copied_none, row_more, row-all}
 use Rattle.pool_book.proofs.row_at.Goals as goal
 
 pub loop-i-init : goal.loop-i-init

@@ -1,6 +1,6 @@
-use Rattle.std.proofs.Common.{◌-◌, drop, replicate, rules}
+use Rattle.std.proofs.Common.{◌-◌, drop, replicate}
 use Rattle.model.specs.Sizes.{store_numbers}
-use Rattle.pool_book.proofs.Laws.{Copied, copied_none, row_more, row-all}
+use Rattle.pool_book.proofs.Laws.{Copied}
 use Rattle.pool_book.proofs.row_at.Given as goal
 
 abbrev pub invariant-loop-i : goal.invariant-loop-i

@@ -1,5 +1,4 @@
 -- `pool_book::version_past` meets its contract: a case for each side of the test. Assumes nothing.
-use Rattle.std.proofs.Common.{rules}
 use Rattle.pool_book.proofs.Laws.{past-none, past-some}
 use Rattle.pool_book.proofs.version_past.Goals as goal
 

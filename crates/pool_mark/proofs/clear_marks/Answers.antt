@@ -1,9 +1,7 @@
 -- `pool_mark::clear_marks` meets its contract: after i turns i zeros stand in front. Assumes nothing.
-use Prim.Native.Nat.{◌-◌}
 use mathlib.Core.Path.{sym}
-use lib.ListN.{replicate, length-replicate, get_or-replicate}
-use borrow.Author.Rules.{rules}
-use Rattle.pool_mark.proofs.Copy.{Copied, copied_none, copied_more, copied_all}
+use lib.ListN.{length-replicate, get_or-replicate}
+use Rattle.pool_mark.proofs.Copy.{copied_none, copied_more, copied_all}
 use Rattle.pool_mark.proofs.clear_marks.Goals as goal
 
 pub loop-i-init : goal.loop-i-init

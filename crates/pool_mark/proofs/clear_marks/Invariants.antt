@@ -1,8 +1,6 @@
 use Prim.Native.Nat.{◌-◌}
-use mathlib.Core.Path.{sym}
-use lib.ListN.{replicate, length-replicate, get_or-replicate}
-use borrow.Author.Rules.{rules}
-use Rattle.pool_mark.proofs.Copy.{Copied, copied_none, copied_more, copied_all}
+use lib.ListN.{replicate}
+use Rattle.pool_mark.proofs.Copy.{Copied}
 use Rattle.pool_mark.proofs.clear_marks.Given as goal
 
 abbrev pub invariant-loop-i : goal.invariant-loop-i

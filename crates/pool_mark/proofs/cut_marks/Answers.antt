@@ -1,6 +1,5 @@
 -- `pool_mark::cut_marks` meets its contract: the two marks are those of the definition. Assumes nothing.
 use Rattle.pool_mark.proofs.Cut.{marks-are}
-use borrow.Author.Rules.{rules}
 use Rattle.pool_mark.proofs.cut_marks.Goals as goal
 
 pub returns : goal.returns

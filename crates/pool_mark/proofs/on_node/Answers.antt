@@ -1,7 +1,5 @@
 -- `pool_mark::on_node` meets its contract: the ranges passed are not on the node.
-use Prim.Native.Nat.{◌-◌}
-use Rattle.pool_mark.proofs.Laws.{Looking, look_start, look_turn, look_found, look_end}
-use borrow.Author.Rules.{rules}
+use Rattle.pool_mark.proofs.Laws.{look_start, look_turn, look_found, look_end}
 use Rattle.pool_mark.proofs.on_node.Goals as goal
 
 pub loop-i-init : goal.loop-i-init

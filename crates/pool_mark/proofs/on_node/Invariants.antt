@@ -1,6 +1,5 @@
 use Prim.Native.Nat.{◌-◌}
-use Rattle.pool_mark.proofs.Laws.{Looking, look_start, look_turn, look_found, look_end}
-use borrow.Author.Rules.{rules}
+use Rattle.pool_mark.proofs.Laws.{Looking}
 use Rattle.pool_mark.proofs.on_node.Given as goal
 
 abbrev pub invariant-loop-i : goal.invariant-loop-i

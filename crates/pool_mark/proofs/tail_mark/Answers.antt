@@ -1,6 +1,5 @@
 -- `pool_mark::tail_mark` meets its contract. Assumes nothing.
 use native.Mathlib.Omega.{arith}
-use borrow.Author.Rules.{rules}
 use Rattle.pool_mark.proofs.tail_mark.Goals as goal
 
 pub returns-then-mark-k : goal.returns-then-mark-k

@@ -1,7 +1,6 @@
 -- `pool_mark::unmark` meets its contract: the test is the definition's.
 use mathlib.Core.Path.{sym, ◌∙◌}
 use Rattle.pool_mark.proofs.Laws.{unmark-on, unmark-off}
-use borrow.Author.Rules.{rules}
 use Rattle.pool_mark.proofs.unmark.Goals as goal
 
 pub returns-then-on_node : goal.returns-then-on_node

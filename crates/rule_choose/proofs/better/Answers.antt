@@ -1,7 +1,6 @@
 -- `rule_choose::better` meets its contract: its tests are those of the definition.
 use mathlib.Core.Path.{sym, ◌∙◌}
 use borrow.Author.Tests.{lt-ltb, le-ltb}
-use borrow.Author.Rules.{rules}
 use Rattle.rule_choose.proofs.better.Goals as goal
 
 pub returns-then-n-best : goal.returns-then-n-best

@@ -1,15 +1,8 @@
 -- `rule_choose::first_free` meets its contract: going down, the best so far is the first of the records from there on.
-use Prim.Native.Nat.{◌≤◌, ℕ}
 use mathlib.Core.Bool.{not}
 use mathlib.Core.Path.{refl, sym, ap, ◌∙◌}
-use mathlib.Core.List.{List}
-use lib.Ieee.{Float}
 use native.Mathlib.Omega.{arith}
-use Rattle.shape_state.specs.Lent.{ranges_of, pins_of}
-use Rattle.model.specs.Store.{pins}
-use Rattle.model.specs.Trim.{is_pinned}
-use Rattle.rule_choose.proofs.Laws.{Best, best_start, best_skip, best_take, best_stay, best_end}
-use borrow.Author.Rules.{rules}
+use Rattle.rule_choose.proofs.Laws.{best_start, best_skip, best_take, best_stay, best_end}
 use Rattle.rule_choose.proofs.first_free.Goals as goal
 
 pub loop-i-init : goal.loop-i-init

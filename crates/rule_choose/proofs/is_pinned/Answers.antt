@@ -1,7 +1,5 @@
 -- `rule_choose::is_pinned` meets its contract: what the pins to come say is what all say.
-use Prim.Native.Nat.{◌-◌}
-use Rattle.rule_choose.proofs.Laws.{Passed, passed_start, passed-hit, passed-more, passed-end}
-use borrow.Author.Rules.{rules}
+use Rattle.rule_choose.proofs.Laws.{passed_start, passed-hit, passed-more, passed-end}
 use Rattle.rule_choose.proofs.is_pinned.Goals as goal
 
 pub loop-k-init : goal.loop-k-init

@@ -1,6 +1,5 @@
 use Prim.Native.Nat.{◌-◌}
-use Rattle.rule_choose.proofs.Laws.{Passed, passed_start, passed-hit, passed-more, passed-end}
-use borrow.Author.Rules.{rules}
+use Rattle.rule_choose.proofs.Laws.{Passed}
 use Rattle.rule_choose.proofs.is_pinned.Given as goal
 
 abbrev pub invariant-loop-k : goal.invariant-loop-k

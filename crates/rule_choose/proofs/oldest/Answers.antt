@@ -1,13 +1,7 @@
 -- `rule_choose::oldest` meets its contract: going down, the best so far is the first of the records from there on.
-use Prim.Native.Nat.{◌≤◌, ℕ}
-use mathlib.Core.Bool.{true}
 use mathlib.Core.Path.{refl, ◌∙◌}
-use mathlib.Core.List.{List}
-use lib.Ieee.{Float}
 use native.Mathlib.Omega.{arith}
-use Rattle.shape_state.specs.Lent.{ranges_of}
-use Rattle.rule_choose.proofs.Laws.{Best, best_start, best_take, best_end}
-use borrow.Author.Rules.{rules}
+use Rattle.rule_choose.proofs.Laws.{best_start, best_take, best_end}
 use Rattle.rule_choose.proofs.oldest.Goals as goal
 
 pub loop-i-init : goal.loop-i-init

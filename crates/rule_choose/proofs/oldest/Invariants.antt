@@ -1,12 +1,9 @@
 use Prim.Native.Nat.{◌≤◌, ℕ}
 use mathlib.Core.Bool.{true}
-use mathlib.Core.Path.{refl, ◌∙◌}
 use mathlib.Core.List.{List}
 use lib.Ieee.{Float}
-use native.Mathlib.Omega.{arith}
 use Rattle.shape_state.specs.Lent.{ranges_of}
-use Rattle.rule_choose.proofs.Laws.{Best, best_start, best_take, best_end}
-use borrow.Author.Rules.{rules}
+use Rattle.rule_choose.proofs.Laws.{Best}
 use Rattle.rule_choose.proofs.oldest.Given as goal
 
 abbrev pub invariant-loop-i : goal.invariant-loop-i

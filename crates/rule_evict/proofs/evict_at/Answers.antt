@@ -1,7 +1,6 @@
 -- `rule_evict::evict_at` meets its contract: the test is that of the definition, and a whole record is cut out.
 use Rattle.shape_state.specs.Lent.{ranges_of}
 use Rattle.rule_evict.proofs.Laws.{cols-whole, cols-part}
-use Rattle.std.proofs.Common.{rules}
 use Rattle.rule_evict.proofs.evict_at.Goals as goal
 
 pub returns-then-e-start : goal.returns-then-e-start

@@ -1,5 +1,5 @@
 -- `rule_evict::store_evict_entry` meets its contract: each of its calls answers one part.
-use Rattle.std.proofs.Common.{refl, ap, ◌∙◌, arith, rules}
+use Rattle.std.proofs.Common.{refl, ap, ◌∙◌, arith}
 use Rattle.shape_state.specs.Lent.{ranges_of}
 use Rattle.rule_resolve.specs.Span.{only_depth}
 use Rattle.pool_range.proofs.Records.{below}

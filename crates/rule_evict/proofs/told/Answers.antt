@@ -1,5 +1,5 @@
 -- `rule_evict::told` meets its contract: the bytes and the dead bytes are those that `rule_resolve` computes.
-use Rattle.std.proofs.Common.{◌≡◌, rules}
+use Rattle.std.proofs.Common.{◌≡◌}
 use Rattle.pool_out.specs.Evicted.{write_number}
 use Rattle.pool_out.proofs.Laws.{carries}
 use Rattle.rule_evict.proofs.told.Goals as goal

@@ -1,5 +1,4 @@
 -- `rule_fill::counted` meets its contract: a case for each branch.
-use borrow.Author.Rules.{rules}
 use Rattle.rule_fill.proofs.Missing.{counts, counts_not}
 use Rattle.rule_fill.proofs.counted.Goals as goal
 

@@ -1,10 +1,10 @@
 -- `rule_fill::fill` meets its contract: the gaps filled so far and those that are left give the whole fill, by the laws of `Filling`.
 use native.Mathlib.Omega.{arith}
-use Prim.Native.Nat.{◌+◌, ◌-◌}
+use Prim.Native.Nat.{◌+◌}
 use mathlib.Core.Path.{sym, ap, ◌∙◌}
 use Rattle.shape_state.specs.Lent.{ranges_of}
 use Rattle.rule_fill.proofs.Missing.{gaps_length}
-use Rattle.rule_fill.proofs.Laws.{room-new, room-place, Filling, fill_start, fill-turn, fill_end}
+use Rattle.rule_fill.proofs.Laws.{room-new, room-place, fill_start, fill-turn, fill_end}
 use Rattle.rule_fill.proofs.fill.Goals as goal
 
 pub loop-done-init : goal.loop-done-init

@@ -1,9 +1,6 @@
-use native.Mathlib.Omega.{arith}
-use Prim.Native.Nat.{◌+◌, ◌-◌}
-use mathlib.Core.Path.{sym, ap, ◌∙◌}
+use Prim.Native.Nat.{◌-◌}
 use Rattle.shape_state.specs.Lent.{ranges_of}
-use Rattle.rule_fill.proofs.Missing.{gaps_length}
-use Rattle.rule_fill.proofs.Laws.{room-new, room-place, Filling, fill_start, fill-turn, fill_end}
+use Rattle.rule_fill.proofs.Laws.{Filling}
 use Rattle.rule_fill.proofs.fill.Given as goal
 
 abbrev pub invariant-loop-done : goal.invariant-loop-done

@@ -1,6 +1,5 @@
 -- `rule_fill::from_at` meets its contract: the first element, or any one.
 use mathlib.Core.Path.{sym, ap}
-use borrow.Author.Rules.{rules}
 use Rattle.model.specs.State.{at}
 use Rattle.rule_fill.proofs.from_at.Goals as goal
 

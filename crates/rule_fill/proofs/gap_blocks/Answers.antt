@@ -1,7 +1,6 @@
 -- `rule_fill::gap_blocks` meets its contract: the sum so far is that of the gaps so far, by the laws of `Summing`.
 use native.Mathlib.Omega.{arith}
-use Prim.Native.Nat.{◌-◌}
-use Rattle.rule_fill.proofs.Laws.{gap-filled, Summing, sum-start, sum-turn, sum-end}
+use Rattle.rule_fill.proofs.Laws.{gap-filled, sum-start, sum-turn, sum-end}
 use Rattle.rule_fill.proofs.gap_blocks.Goals as goal
 
 pub loop-i-init : goal.loop-i-init

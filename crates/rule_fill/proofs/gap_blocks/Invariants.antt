@@ -1,6 +1,5 @@
-use native.Mathlib.Omega.{arith}
 use Prim.Native.Nat.{◌-◌}
-use Rattle.rule_fill.proofs.Laws.{gap-filled, Summing, sum-start, sum-turn, sum-end}
+use Rattle.rule_fill.proofs.Laws.{Summing}
 use Rattle.rule_fill.proofs.gap_blocks.Given as goal
 
 abbrev pub invariant-loop-i : goal.invariant-loop-i

@@ -1,8 +1,7 @@
 -- `rule_fill::place_for` meets its contract: the records passed so far stand before the range, by the laws of `Passing`.
 use native.Mathlib.Omega.{arith}
 use mathlib.Core.Path.{sym, ◌∙◌}
-use Prim.Native.Nat.{◌-◌}
-use Rattle.rule_fill.proofs.Missing.{Passing, passing_start, passing_here, passing_turn, passing_end}
+use Rattle.rule_fill.proofs.Missing.{passing_start, passing_here, passing_turn, passing_end}
 use Rattle.rule_fill.proofs.place_for.Goals as goal
 
 pub loop-i-init : goal.loop-i-init

@@ -1,7 +1,5 @@
-use native.Mathlib.Omega.{arith}
-use mathlib.Core.Path.{sym, ◌∙◌}
 use Prim.Native.Nat.{◌-◌}
-use Rattle.rule_fill.proofs.Missing.{Passing, passing_start, passing_here, passing_turn, passing_end}
+use Rattle.rule_fill.proofs.Missing.{Passing}
 use Rattle.rule_fill.proofs.place_for.Given as goal
 
 abbrev pub invariant-loop-i : goal.invariant-loop-i

@@ -1,8 +1,6 @@
 -- `rule_fill::store_missing` meets its contract: the gaps found and those still to come are the gaps of the span, by the laws of `Scan`.
-use native.Mathlib.Omega.{arith}
-use Prim.Native.Nat.{◌-◌}
 use mathlib.Core.Path.{refl}
-use Rattle.rule_fill.proofs.Missing.{Scan, scan_start, scan_pass, scan_turn, scan_end}
+use Rattle.rule_fill.proofs.Missing.{scan_start, scan_pass, scan_turn, scan_end}
 use Rattle.rule_fill.proofs.store_missing.Goals as goal
 
 pub loop-i-init : goal.loop-i-init

@@ -1,7 +1,5 @@
-use native.Mathlib.Omega.{arith}
 use Prim.Native.Nat.{◌-◌}
-use mathlib.Core.Path.{refl}
-use Rattle.rule_fill.proofs.Missing.{Scan, scan_start, scan_pass, scan_turn, scan_end}
+use Rattle.rule_fill.proofs.Missing.{Scan}
 use Rattle.rule_fill.proofs.store_missing.Given as goal
 
 abbrev pub invariant-loop-i : goal.invariant-loop-i

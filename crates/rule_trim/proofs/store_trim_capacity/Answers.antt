@@ -1,14 +1,10 @@
 -- `rule_trim::store_trim_capacity` meets its contract, by the laws of `Trimming`.
-use Prim.Native.Nat.{ℕ}
-use mathlib.Core.Path.{sym, ◌∙◌}
-use mathlib.Core.List.{List, []}
+use mathlib.Core.List.{[]}
 use native.Mathlib.Omega.{arith}
-use Rattle.model.specs.Store.{pins}
-use Rattle.shape_state.specs.Lent.{ranges_of, pins_of}
+use Rattle.shape_state.specs.Lent.{ranges_of}
 use Rattle.shape_answer.specs.Lists.{out_list}
 use Rattle.pool_range.proofs.Records.{within}
-use Rattle.rule_trim.proofs.Trim.{Trimming, going-few, going-reach, going-tables, long-fits, trim_start, trim_stuck, trim-place, trim-room, trim-taken, trim-turn, trim-fits}
-use borrow.Author.Rules.{rules}
+use Rattle.rule_trim.proofs.Trim.{going-few, going-reach, going-tables, long-fits, trim_start, trim_stuck, trim-place, trim-room, trim-taken, trim-turn, trim-fits}
 use Rattle.rule_trim.proofs.store_trim_capacity.Goals as goal
 
 pub loop-h-init : goal.loop-h-init

@@ -1,13 +1,9 @@
 use Prim.Native.Nat.{ℕ}
-use mathlib.Core.Path.{sym, ◌∙◌}
-use mathlib.Core.List.{List, []}
-use native.Mathlib.Omega.{arith}
+use mathlib.Core.List.{List}
 use Rattle.model.specs.Store.{pins}
 use Rattle.shape_state.specs.Lent.{ranges_of, pins_of}
 use Rattle.shape_answer.specs.Lists.{out_list}
-use Rattle.pool_range.proofs.Records.{within}
-use Rattle.rule_trim.proofs.Trim.{Trimming, going-few, going-reach, going-tables, long-fits, trim_start, trim_stuck, trim-place, trim-room, trim-taken, trim-turn, trim-fits}
-use borrow.Author.Rules.{rules}
+use Rattle.rule_trim.proofs.Trim.{Trimming}
 use Rattle.rule_trim.proofs.store_trim_capacity.Given as goal
 
 abbrev pub invariant-loop-h : goal.invariant-loop-h

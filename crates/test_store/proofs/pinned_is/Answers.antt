@@ -12,7 +12,7 @@ unfolding pinned_from
 loop-i-init c = (omega arith, refl, omega arith)
 
 pub returns-then-c-gt1000000 : goal.returns-then-c-gt1000000
-returns-then-c-gt1000000 c = pinned_too_much c.args.start.now c.args.end.now c.args.count.now c.args.a c.loop-i-test.true ((c.requires.6 (c.args.a + c.loop-i.i) (omega arith) (omega (arith, c.loop-i-test.true)))).0 c.if-c-gt1000000.true c.requires.5
+returns-then-c-gt1000000 c = pinned_too_much c.args.start.now c.args.end.now c.args.count.now c.args.a c.loop-i-test.true (c.requires.6 (c.args.a + c.loop-i.i) (omega arith) (omega (arith, c.loop-i-test.true))).0 c.if-c-gt1000000.true c.requires.5
 
 pub overflow_sub-l : goal.overflow_sub-l
 overflow_sub-l c = omega (arith, (c.requires.6 (c.args.a + c.loop-i.i) (omega arith) (omega (arith, c.loop-i-test.true))))
