@@ -1,3 +1,4 @@
+#![tactic(auto)]
 // Puts the public calls to damaged states and to every limit, as a script on standard input says, and says of each what came back and whether a place changed.
 // script.rt has the script's lines.
 mod call;
