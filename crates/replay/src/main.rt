@@ -1,7 +1,9 @@
+#![tactic(auto)]
 // Reads the lines of the replay form on standard input and writes an answer line for each. docs/REPLAY.md has the form.
 ghost use Rattle.std.specs.Prelude.{◌≤◌};
 
 use known::NUMBERS;
+use std::io::Result;
 use text_input::Cursor;
 use text_lines::Op;
 
@@ -17,8 +19,9 @@ fn flush(out: &[u8; 1048576], at: usize, most: usize) -> usize
     0
 }
 
-// A proved loop has to end, and nothing says that the input does: the turns are counted down from a number that no run uses up.
-fn main() {
+// A proved loop has to end, and nothing says that the input does: the turns are counted down from a number that no run uses up. Where a read fails, the
+// answers up to there go out first.
+fn main(rt: HostRuntime) -> Result<()> {
     let mut parent = [0usize; 256];
     let mut depth = [0usize; 256];
     let mut len = [0usize; 256];
@@ -43,6 +46,7 @@ fn main() {
     let mut tiers = [0usize; 9];
     let mut capacity = [0u64; 9];
     let mut refreshes = [false; 9];
+    let mut input = rt.stdin();
     let mut buf = [0u8; 131072];
     let mut out = [0u8; 1048576];
     let mut at: usize = 0;
@@ -54,7 +58,8 @@ fn main() {
     };
     let mut turns = u64::MAX;
     while turns > 0 {
-        let n = text_input::next_op(
+        let read = text_input::next_op(
+            &mut input,
             &mut buf,
             &mut list,
             &mut spans,
@@ -63,9 +68,16 @@ fn main() {
             &mut refreshes,
             c,
         );
+        let n = match read {
+            Ok(n) => n,
+            Err(e) => {
+                flush(&out, at, 0);
+                return Err(e);
+            }
+        };
         if n.over {
             flush(&out, at, 0);
-            return;
+            return Ok(());
         }
         let op: Op = n.op;
         let past = prog_calls::call(
@@ -101,4 +113,5 @@ fn main() {
         c = n.cursor;
         turns -= 1;
     }
+    Ok(())
 }

@@ -1,9 +1,11 @@
+#![tactic(auto)]
 // Reads a set-up and operations on standard input and writes the sums at its end. docs/REPORT.md has the form.
 ghost use Rattle.std.specs.Prelude.{◌≤◌};
 ghost use Rattle.model.specs.Sizes.{max_stores};
 ghost use Rattle.model.specs.State.{stores_in};
 
 use known::{NUMBERS, Plain};
+use std::io::Result;
 use text_input::Cursor;
 use text_lines::Op;
 
@@ -23,8 +25,9 @@ fn print_report(books: &[u64; NUMBERS], sums: &[u64; 59], counts: &[u64; 256])
     text_input::write_front(&out, at);
 }
 
-// A proved loop has to end, and nothing says that the input does: the turns are counted down from a number that no run uses up.
-fn main() {
+// A proved loop has to end, and nothing says that the input does: the turns are counted down from a number that no run uses up. Where a read fails,
+// nothing is printed: the sums would be those of a part of the operations.
+fn main(rt: HostRuntime) -> Result<()> {
     let mut parent = [0usize; 256];
     let mut depth = [0usize; 256];
     let mut len = [0usize; 256];
@@ -51,19 +54,21 @@ fn main() {
     let mut tiers = [0usize; 9];
     let mut capacity = [0u64; 9];
     let mut refreshes = [false; 9];
+    let mut input = rt.stdin();
     let mut buf = [0u8; 131072];
     let first = text_input::first_op(
+        &mut input,
         &mut buf,
         &mut list,
         &mut spans,
         &mut tiers,
         &mut capacity,
         &mut refreshes,
-    );
+    )?;
     let setup: Op = first.op;
     let Op::SetUp(k, n) = setup else {
         io::write_all(1, b"unreadable\n");
-        return;
+        return Ok(());
     };
     let r = prog_report::begin(
         &mut parent,
@@ -93,12 +98,13 @@ fn main() {
     );
     if let Plain::Refused(number) = r {
         print_refused(number);
-        return;
+        return Ok(());
     }
     let mut c: Cursor = first.cursor;
     let mut turns = u64::MAX;
     while turns > 0 {
         let n = text_input::next_op(
+            &mut input,
             &mut buf,
             &mut list,
             &mut spans,
@@ -106,10 +112,10 @@ fn main() {
             &mut capacity,
             &mut refreshes,
             c,
-        );
+        )?;
         if n.over {
             print_report(&books, &sums, &counts);
-            return;
+            return Ok(());
         }
         let op: Op = n.op;
         prog_report::call(
@@ -142,4 +148,5 @@ fn main() {
         c = n.cursor;
         turns -= 1;
     }
+    Ok(())
 }

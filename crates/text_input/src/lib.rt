@@ -1,8 +1,11 @@
-// Standard input, a line at a time, in bounded memory; and a buffer's front, to standard output.
-ghost use Rattle.std.specs.Prelude.{◌≤◌, length};
+#![tactic(auto)]
+// What a reader gives, a line at a time, in bounded memory; and a buffer's front, to standard output.
+ghost use Rattle.std.specs.Prelude.{◌≡◌, ◌≤◌, IfOk, OnErr, IsFalse, length};
+ghost use Rattle.text_words.specs.Words.{First, is};
 ghost use Rattle.text_lines.specs.Lines.{Filled};
 ghost use Rattle.text_input.specs.Input.{Within};
 
+use std::io::{Read, Result};
 use text_lines::Op;
 
 // The part of the buffer that is read and not used yet, and whether the input has ended. In a line that is too long to keep, `seen` says what was passed of
@@ -96,34 +99,34 @@ fn least(a: usize, b: usize) -> usize
     b
 }
 
-fn refill(buf: &mut [u8], at: usize, seen: u8) -> Cursor
+fn refill<R: Read>(input: &mut R, buf: &mut [u8], at: usize, seen: u8) -> Result<Cursor>
     requires { (at ≤ length buf.old) × (length buf.old ≤ 131072) }
-    ensures { Within result.from result.to }
+    ensures { IfOk result (λ c. Within c.from c.to) }
 {
-    let got = libc::read(0, &mut buf[at..]);
-    let n = least(io::count(got, buf), buf.len() - at);
-    Cursor {
+    let got = input.read(&mut buf[at..])?;
+    let n = least(got, buf.len() - at);
+    Ok(Cursor {
         from: 0,
         to: at + n,
         ended: n == 0,
         seen,
-    }
+    })
 }
 
-fn read_on(buf: &mut [u8; 131072], c: Cursor) -> Cursor
+fn read_on<R: Read>(input: &mut R, buf: &mut [u8; 131072], c: Cursor) -> Result<Cursor>
     requires { Within c.from c.to }
-    ensures { Within result.from result.to }
+    ensures { IfOk result (λ c. Within c.from c.to) }
 {
     if c.seen != 0 {
         let seen = see(&*buf, c.from, c.to, c.seen);
-        return refill(buf, 0, seen);
+        return refill(input, buf, 0, seen);
     }
     if 65536 < c.to - c.from {
         let seen = see(&*buf, c.from, c.to, 1);
-        return refill(buf, 0, seen);
+        return refill(input, buf, 0, seen);
     }
     let n = shift(buf, c.from, c.to);
-    refill(buf, n, 0)
+    refill(input, buf, n, 0)
 }
 
 // ---- lines
@@ -200,7 +203,10 @@ fn last_line(
     }
 }
 
-pub fn next_op(
+// It reads on, and fails where the read fails, only where no line's end is left in the buffer and the input has not ended. Then no line was read: but for the
+// reader, only the buffer may have changed.
+pub fn next_op<R: Read>(
+    input: &mut R,
     buf: &mut [u8; 131072],
     list: &mut [u64; 1026],
     spans: &mut [usize; 192],
@@ -208,9 +214,16 @@ pub fn next_op(
     capacity: &mut [u64; 9],
     refreshes: &mut [bool; 9],
     c: Cursor,
-) -> Next
+) -> Result<Next>
     requires { Within c.from c.to }
-    ensures { Filled result.op × Within result.cursor.from result.cursor.to }
+    ensures ok { IfOk result (λ n. Filled n.op × Within n.cursor.from n.cursor.to) }
+    ensures read_on { OnErr result (First (is 10) buf.old c.from c.to c.to) }
+    ensures not_ended { OnErr result (IsFalse c.ended) }
+    ensures list { OnErr result (list.new ≡ list.old) }
+    ensures spans { OnErr result (spans.new ≡ spans.old) }
+    ensures tiers { OnErr result (tiers.new ≡ tiers.old) }
+    ensures capacity { OnErr result (capacity.new ≡ capacity.old) }
+    ensures refreshes { OnErr result (refreshes.new ≡ refreshes.old) }
 {
     let from = c.from;
     let to = c.to;
@@ -224,43 +237,44 @@ pub fn next_op(
         };
         if c.seen != 0 {
             let op = long_line(see(&*buf, from, z, c.seen), true);
-            return Next {
+            return Ok(Next {
                 op,
                 cursor,
                 over: false,
-            };
+            });
         }
         let e = without_cr(&*buf, from, z);
         let op = read_line(
             &*buf, list, spans, tiers, capacity, refreshes, from, e, true,
         );
-        return Next {
+        return Ok(Next {
             op,
             cursor,
             over: false,
-        };
+        });
     }
     if c.ended {
-        return last_line(&*buf, list, spans, tiers, capacity, refreshes, c);
+        return Ok(last_line(&*buf, list, spans, tiers, capacity, refreshes, c));
     }
-    let cursor = read_on(buf, c);
-    Next {
+    let cursor = read_on(input, buf, c)?;
+    Ok(Next {
         op: Op::Blank,
         cursor,
         over: false,
-    }
+    })
 }
 
 // The first line that asks for something, or none: the turns are counted down, as in a program's own loop.
-pub fn first_op(
+pub fn first_op<R: Read>(
+    input: &mut R,
     buf: &mut [u8; 131072],
     list: &mut [u64; 1026],
     spans: &mut [usize; 192],
     tiers: &mut [usize; 9],
     capacity: &mut [u64; 9],
     refreshes: &mut [bool; 9],
-) -> Next
-    ensures { Filled result.op × Within result.cursor.from result.cursor.to }
+) -> Result<Next>
+    ensures { IfOk result (λ n. Filled n.op × Within n.cursor.from n.cursor.to) }
 {
     let mut c = Cursor {
         from: 0,
@@ -270,29 +284,29 @@ pub fn first_op(
     };
     let mut turns = u64::MAX;
     while turns > 0 {
-        let n = next_op(buf, list, spans, tiers, capacity, refreshes, c);
+        let n = next_op(input, buf, list, spans, tiers, capacity, refreshes, c)?;
         if n.over {
-            return n;
+            return Ok(n);
         }
         c = n.cursor;
         let op: Op = n.op;
         match op {
             Op::Blank => {}
             _ => {
-                return Next {
+                return Ok(Next {
                     op,
                     cursor: c,
                     over: false,
-                }
+                })
             }
         }
         turns -= 1;
     }
-    Next {
+    Ok(Next {
         op: Op::Blank,
         cursor: c,
         over: true,
-    }
+    })
 }
 
 // ---- writing
