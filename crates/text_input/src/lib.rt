@@ -316,3 +316,6 @@ pub fn write_front(out: &[u8], n: usize)
 {
     io::write_all(1, &out[..n]);
 }
+
+#[cfg(test)]
+mod tests;
