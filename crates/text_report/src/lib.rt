@@ -57,7 +57,7 @@ fn put_held(out: &mut [u8], at: usize, sums: &[u64], s: usize, held: u64) -> usi
 }
 
 // A store's line, from its own numbers and its sums.
-fn put_store(out: &mut [u8], at: usize, sums: &[u64], s: usize, b: Book) -> usize
+pub fn put_store(out: &mut [u8], at: usize, sums: &[u64], s: usize, b: Book) -> usize
     requires { (s < 8) × (59 ≤ length sums.now) × (at + 512 ≤ length out.old) }
     ensures { Wrote at 300 result }
 {
@@ -85,7 +85,7 @@ fn put_stores(out: &mut [u8], at: usize, books: &[u64], sums: &[u64]) -> usize
 }
 
 // `lookups N blocks B bytes Y`
-fn put_lookups(out: &mut [u8], at: usize, sums: &[u64]) -> usize
+pub fn put_lookups(out: &mut [u8], at: usize, sums: &[u64]) -> usize
     requires { (59 ≤ length sums.now) × (at + 128 ≤ length out.old) }
     ensures { Wrote at 96 result }
 {
@@ -108,8 +108,32 @@ fn put_refusal(out: &mut [u8], at: usize, number: usize, times: u64) -> usize
     text_answer::put_end(out, b)
 }
 
-// A line for each number that came: counts[n] is how often n did, from 1 on.
-fn put_refusals(out: &mut [u8], at: usize, counts: &[u64; 256]) -> usize
+// A line for each number that came.
+fn put_refusals(out: &mut [u8], at: usize, times: &[u64]) -> usize
+    requires { (length times.now ≤ 32) × (at + 4096 ≤ length out.old) }
+    ensures { Wrote at 2048 result }
+{
+    let mut next = at;
+    let mut n = 0;
+    while n < times.len() {
+        next = put_refusal(out, next, n, times[n]);
+        n += 1;
+    }
+    next
+}
+
+// What ends a report: the refusals by number, times[n] for number n, and the lines that were unreadable.
+pub fn put_refused(out: &mut [u8], at: usize, times: &[u64], unreadable: u64) -> usize
+    requires { (length times.now ≤ 32) × (at + 4096 ≤ length out.old) }
+    ensures { Wrote at 2112 result }
+{
+    let a = put_refusals(out, at, times);
+    let b = text_answer::put_field(out, a, b"unreadable ", unreadable);
+    text_answer::put_end(out, b)
+}
+
+// The same of every number, from 1 on: counts[n] is how often n came.
+fn put_counts(out: &mut [u8], at: usize, counts: &[u64; 256]) -> usize
     requires { at + 20480 ≤ length out.old }
     ensures { Wrote at 16384 result }
 {
@@ -129,7 +153,7 @@ pub fn put_report(out: &mut [u8], books: &[u64], sums: &[u64], counts: &[u64; 25
 {
     let a = put_stores(out, 0, books, sums);
     let b = put_lookups(out, a, sums);
-    let c = put_refusals(out, b, counts);
+    let c = put_counts(out, b, counts);
     let d = text_answer::put_field(out, c, b"unreadable ", counts[0]);
     text_answer::put_end(out, d)
 }
