@@ -1,9 +1,0 @@
--- `public_start::stop` meets its contract: the touch has no node, and is refused, 1. Assumes nothing.
-use mathlib.Core.Path.{ap}
-use Rattle.call_touch_span.specs.declared.Run.{Run}
-use Rattle.public_start.proofs.stop.Statement.{statement}
-use Rattle.public_start.proofs.stop.Tie as tie
-
-pub stop-spec : {M : Type 1} → statement M
-stop-spec = tie.close (tie.spec
-    (λ c κs. tt) (λ c. record { number = ap (λ (z : Run). z.number) c.fresh.ensures.run; nodes = c.fresh.ensures.nodes }))
