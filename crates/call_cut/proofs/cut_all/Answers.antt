@@ -15,9 +15,6 @@ cut_tree-requires c = let a = c.args in
 pub overflow_add-nodes : goal.overflow_add-nodes
 overflow_add-nodes c = record { fits = number_fits (nodes_in c.args.books.now) c.requires.room }
 
-pub put_counts-requires : goal.put_counts-requires
-put_counts-requires c = c.requires.sound.lent.books
-
 pub cut_stores-requires : goal.cut_stores-requires
 cut_stores-requires c = let a = c.args in
     let t = tree_of a.parent.now a.depth.now a.len.now a.run.now a.words.now (nodes_in a.books.now) (used_in a.books.now) in

@@ -1,17 +1,8 @@
 -- `call_cut::cut_range_half` meets its contract: what the two calls leave is put together by `half_is`.
 use mathlib.Core.Path.{refl}
-use native.Mathlib.Omega.{arith}
 use Rattle.shape_state.specs.Lent.{ranges_of}
 use Rattle.call_cut.proofs.Halves.{half_is}
 use Rattle.call_cut.proofs.cut_range_half.Goals as goal
-
-pub cut_ranges-cut-requires : goal.cut_ranges-cut-requires
-cut_ranges-cut-requires c = let r = c.requires in (r.store, r.records, r.high, r.lent)
-
-pub cut_marks-requires : goal.cut_marks-requires
-cut_marks-requires c = let r = c.requires in
-    let f = c.cut_ranges-cut in
-    (r.store, omega (arith, f.ensures.1, r.records), r.node, r.new, r.marks, omega (arith, f.auto.node, r.lent.node))
 
 pub returns : goal.returns
 returns c = let a = c.args in

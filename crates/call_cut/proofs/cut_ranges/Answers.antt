@@ -3,7 +3,6 @@ use Prim.Native.Nat.{◌*◌}
 use Rattle.shape_state.specs.Lent.{ranges_of}
 use Rattle.pool_part.specs.Parts.{mid_ranges, back_ranges}
 use Rattle.pool_part.proofs.Bounds.{rec_fits, rec_end-fits, rec_fits4, rec_fits8, rec_ends}
-use Rattle.pool_part.proofs.Parts.{part-kept}
 use Rattle.call_cut.proofs.Stores.{asked, given_back, counted}
 use native.Mathlib.Nat.{le-add_right, add-sub_cancel_left}
 use Rattle.call_cut.proofs.cut_ranges.Goals as goal
@@ -102,27 +101,6 @@ pub cut_ranges-requires : goal.cut_ranges-requires
 unfolding mid_ranges
 cut_ranges-requires c = let p = c.requires in
     asked c.args.s _ c.args.n c.args.j c.args.k c.args.next (ranges_of c.args.node.now c.args.start.now c.args.end.now c.args.id.now c.args.stamp.now c.args.touched.now c.args.write.now) (add-sub_cancel_left (128 * c.args.s) 128) p.0 p.1 p.2 p.3
-
-pub shape_of-node : goal.shape_of-node
-shape_of-node c = part-kept 128 c.args.s c.args.node.now c.cut_ranges.new.node c.cut_ranges.auto.node
-
-pub shape_of-start : goal.shape_of-start
-shape_of-start c = part-kept 128 c.args.s c.args.start.now c.cut_ranges.new.start c.cut_ranges.auto.start
-
-pub shape_of-end : goal.shape_of-end
-shape_of-end c = part-kept 128 c.args.s c.args.end.now c.cut_ranges.new.end c.cut_ranges.auto.end
-
-pub shape_of-id : goal.shape_of-id
-shape_of-id c = part-kept 128 c.args.s c.args.id.now c.cut_ranges.new.id c.cut_ranges.auto.id
-
-pub shape_of-stamp : goal.shape_of-stamp
-shape_of-stamp c = part-kept 128 c.args.s c.args.stamp.now c.cut_ranges.new.stamp c.cut_ranges.auto.stamp
-
-pub shape_of-touched : goal.shape_of-touched
-shape_of-touched c = part-kept 128 c.args.s c.args.touched.now c.cut_ranges.new.touched c.cut_ranges.auto.touched
-
-pub shape_of-write : goal.shape_of-write
-shape_of-write c = part-kept 128 c.args.s c.args.write.now c.cut_ranges.new.write c.cut_ranges.auto.write
 
 pub returns : goal.returns
 unfolding mid_ranges back_ranges

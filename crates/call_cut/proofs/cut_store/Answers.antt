@@ -3,9 +3,6 @@ use Rattle.shape_state.specs.Lent.{ranges_of, pins_of}
 use Rattle.call_cut.proofs.Halves.{range_asks, pin_asks, store_is}
 use Rattle.call_cut.proofs.cut_store.Goals as goal
 
-pub book_of-b-requires : goal.book_of-b-requires
-book_of-b-requires c = let r = c.requires in (r.half.store, r.books)
-
 pub cut_range_half-cut-requires : goal.cut_range_half-cut-requires
 cut_range_half-cut-requires c = let a = c.args in
     range_asks a.j a.k a.m a.s (ranges_of a.node.now a.start.now a.end.now a.id.now a.stamp.now a.touched.now a.write.now)
@@ -17,9 +14,6 @@ cut_pins-entries-requires c = let a = c.args in
     pin_asks a.j a.k a.m a.s (ranges_of a.node.now a.start.now a.end.now a.id.now a.stamp.now a.touched.now a.write.now)
     (pins_of a.pin_node.now a.pin_start.now a.pin_end.now a.pin_count.now) a.marks.now a.books.now c.requires
     c.book_of-b.result c.book_of-b.ensures
-
-pub cut_books-requires : goal.cut_books-requires
-cut_books-requires c = let r = c.requires in (r.half.store, r.books)
 
 pub returns : goal.returns
 returns c = let a = c.args in

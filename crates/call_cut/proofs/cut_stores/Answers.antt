@@ -33,9 +33,6 @@ overflow_add-s c = let a = c.args in
           (pins_of a.pin_node.now a.pin_start.now a.pin_end.now a.pin_count.now) a.marks.now a.books.now c.requires c.loop-s.s c.loop-s-test.true;
     }
 
-pub loop-s-smaller : goal.loop-s-smaller
-loop-s-smaller c = omega (arith, c.loop-s-test.true)
-
 pub loop-s-preserved : goal.loop-s-preserved
 loop-s-preserved c = let a = c.args in
     let l = c.loop-s in
@@ -62,45 +59,6 @@ loop-s-preserved c = let a = c.args in
       marks = f.auto.marks;
       books = f.auto.books;
     })
-
-pub shape_of-node : goal.shape_of-node
-shape_of-node c = c.loop-s.invariant.long.node
-
-pub shape_of-start : goal.shape_of-start
-shape_of-start c = c.loop-s.invariant.long.start
-
-pub shape_of-end : goal.shape_of-end
-shape_of-end c = c.loop-s.invariant.long.end
-
-pub shape_of-id : goal.shape_of-id
-shape_of-id c = c.loop-s.invariant.long.id
-
-pub shape_of-stamp : goal.shape_of-stamp
-shape_of-stamp c = c.loop-s.invariant.long.stamp
-
-pub shape_of-touched : goal.shape_of-touched
-shape_of-touched c = c.loop-s.invariant.long.touched
-
-pub shape_of-write : goal.shape_of-write
-shape_of-write c = c.loop-s.invariant.long.write
-
-pub shape_of-pin_node : goal.shape_of-pin_node
-shape_of-pin_node c = c.loop-s.invariant.long.pin_node
-
-pub shape_of-pin_start : goal.shape_of-pin_start
-shape_of-pin_start c = c.loop-s.invariant.long.pin_start
-
-pub shape_of-pin_end : goal.shape_of-pin_end
-shape_of-pin_end c = c.loop-s.invariant.long.pin_end
-
-pub shape_of-pin_count : goal.shape_of-pin_count
-shape_of-pin_count c = c.loop-s.invariant.long.pin_count
-
-pub shape_of-marks : goal.shape_of-marks
-shape_of-marks c = c.loop-s.invariant.long.marks
-
-pub shape_of-books : goal.shape_of-books
-shape_of-books c = c.loop-s.invariant.long.books
 
 pub returns : goal.returns
 returns c = let a = c.args in

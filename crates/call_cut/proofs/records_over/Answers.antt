@@ -1,5 +1,4 @@
 -- `call_cut::records_over` meets its contract: store by store, by the laws of `NoneOver`.
-use native.Mathlib.Omega.{arith}
 use Rattle.model.specs.State.{Ranges, at}
 use Rattle.call_cut.specs.Needs.{overfull}
 use Rattle.call_cut.proofs.Stores.{RangesAre, over-start, over-found, over-turn, over-end, is-over, not_over}
@@ -7,12 +6,6 @@ use Rattle.call_cut.proofs.records_over.Goals as goal
 
 pub loop-s-init : goal.loop-s-init
 loop-s-init c = over-start _ _ _
-
-pub ranges_across-requires : goal.ranges_across-requires
-ranges_across-requires c = let p = c.requires in (omega (arith, p.0, c.loop-s-test.true), p.1 c.loop-s.s c.loop-s-test.true, p.2, p.3, p.4)
-
-pub overflow_add-n : goal.overflow_add-n
-overflow_add-n c = let p = c.requires in omega (arith, p.1 c.loop-s.s c.loop-s-test.true, c.ranges_across.ensures.0)
 
 pub returns-then-n-ranges_across-gt128 : goal.returns-then-n-ranges_across-gt128
 returns-then-n-ranges_across-gt128 c = let a = c.args in

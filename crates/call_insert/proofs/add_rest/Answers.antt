@@ -6,14 +6,8 @@ use Rattle.shape_answer.specs.Lists.{path_list_of}
 use Rattle.call_insert.proofs.Laws.{node-within, len-within, leafed}
 use Rattle.call_insert.proofs.add_rest.Goals as goal
 
-pub add_leaf-requires : goal.add_leaf-requires
-add_leaf-requires c = let r = c.requires.1 in (r.parent, r.depth, r.len, r.run, r.within, r.words)
-
 pub lay_longer-requires : goal.lay_longer-requires
 lay_longer-requires c = let r = c.requires.1 in (node-within r.path, len-within r.path, r.path_node, r.path_len)
-
-pub put_counts-requires : goal.put_counts-requires
-put_counts-requires c = let r = c.requires.1 in r.books
 
 pub returns : goal.returns
 returns c = λ ss split r p marks bytes found.

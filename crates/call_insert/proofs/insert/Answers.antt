@@ -33,6 +33,3 @@ insert_found-requires c = let a = c.args in
     let f = c.refusal-number in
     passed (state_from c.args.parent.now c.args.depth.now c.args.len.now c.args.run.now c.args.words.now c.args.node.now c.args.start.now c.args.end.now c.args.id.now c.args.stamp.now c.args.touched.now c.args.write.now c.args.pin_node.now c.args.pin_start.now c.args.pin_end.now c.args.pin_count.now c.args.marks.now c.args.bytes.now c.args.books.now) (path_list_of c.args.path_node.now c.args.path_len.now) a.hashes.now c.requires.0 c.requires.1 c.if-count-gt1024.false f.result (f.ensures (state_from c.args.parent.now c.args.depth.now c.args.len.now c.args.run.now c.args.words.now c.args.node.now c.args.start.now c.args.end.now c.args.id.now c.args.stamp.now c.args.touched.now c.args.write.now c.args.pin_node.now c.args.pin_start.now c.args.pin_end.now c.args.pin_count.now c.args.marks.now c.args.bytes.now c.args.books.now) a.hashes.now (shown a.parent.now a.depth.now a.len.now a.run.now a.words.now (ranges_of a.node.now a.start.now a.end.now a.id.now a.stamp.now a.touched.now a.write.now) (pins_of a.pin_node.now a.pin_start.now a.pin_end.now a.pin_count.now) a.marks.now a.bytes.now a.books.now a.hashes.now r.result c.requires.0 c.if-count-gt1024.false (r.ensures a.depth.now (used_in a.books.now)).answer)) (path_list_of r.new.path_node r.new.path_len) r.result c.if-number-ne0.false
     (r.ensures a.depth.now (used_in a.books.now))
-
-pub returns : goal.returns
-returns c = c.insert_found.ensures

@@ -1,11 +1,7 @@
 -- `call_insert::lay_longer` meets its contract: one place more is written behind the copies.
 -- Assumes nothing.
-use native.Mathlib.Omega.{arith}
 use Rattle.call_insert.proofs.Laws.{longer}
 use Rattle.call_insert.proofs.lay_longer.Goals as goal
-
-pub lay_path-requires : goal.lay_path-requires
-lay_path-requires c = let p = c.requires in (p.0, p.1, omega (arith, p.2), omega (arith, p.3))
 
 pub returns : goal.returns
 returns c = let a = c.args in

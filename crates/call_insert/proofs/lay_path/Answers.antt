@@ -6,11 +6,5 @@ use Prim.Native.Nat.{ℕ}
 use Rattle.shape_answer.specs.Lists.{path_list_of}
 use Rattle.call_insert.proofs.lay_path.Goals as goal
 
-pub copy_front-requires : goal.copy_front-requires
-copy_front-requires c = let p = c.requires in (p.0, p.2)
-
-pub copy_front-requires-2 : goal.copy_front-requires-2
-copy_front-requires-2 c = let p = c.requires in (p.1, p.3)
-
 pub returns : goal.returns
 returns c = ap₂ (λ (a b : List ℕ). path_list_of a b) c.copy_front.ensures c.copy_front-2.ensures

@@ -20,17 +20,11 @@ loop-i-init c = let long : length c.args.spans ≡ 64 = search rules in (
 pub offset_bounds-spans-i : goal.offset_bounds-spans-i
 offset_bounds-spans-i c = span_fits c.requires.1 c.loop-i-test.true
 
-pub span_in-requires : goal.span_in-requires
-span_in-requires c = c.requires.0
-
 pub returns-then-not-span_in : goal.returns-then-not-span_in
 returns-then-not-span_in c = let v = c.loop-i.invariant in
     fine_not c.args.len.now c.args.nodes (take c.args.count c.args.spans) c.loop-i.i c.span_in.result _
     (array_at c.args.spans c.args.count v.0 c.requires.1 c.loop-i.i _ c.loop-i-test.true) c.span_in.ensures
     (array_in _ _ v.0 c.requires.1 c.loop-i-test.true) c.if-not-span_in.true _ _ _ v.2 c.four_first.ensures
-
-pub loop-i-smaller : goal.loop-i-smaller
-loop-i-smaller c = omega (arith, c.loop-i-test.true)
 
 pub loop-i-preserved : goal.loop-i-preserved
 loop-i-preserved c = let v = c.loop-i.invariant in (

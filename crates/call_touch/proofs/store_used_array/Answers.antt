@@ -1,6 +1,5 @@
 -- `call_touch::store_used_array` meets its contract: the tests before the turns, then the turns; with room for all of them none is refused, and without it the part is kept. Assumes nothing.
 use mathlib.Core.Path.{refl}
-use native.Mathlib.Omega.{arith}
 use lib.ListN.{take}
 use Rattle.shape_state.specs.Lent.{ranges_of}
 use Rattle.theory_refuse.proofs.Says.{says_true}
@@ -8,10 +7,6 @@ use Rattle.call_touch_span.proofs.Laws.{stands_read}
 use Rattle.call_touch.proofs.Laws.{others}
 use Rattle.call_touch.proofs.Running.{start-long, start-counts, start-refused, start-runs, room_array, roomy-none, went_done}
 use Rattle.call_touch.proofs.store_used_array.Goals as goal
-
-pub first_refusal-number-requires : goal.first_refusal-number-requires
-first_refusal-number-requires c = let h = c.requires.0 in
-    (omega (arith, h.counts.nodes, h.lent.tree.len), c.requires.1)
 
 pub returns-then-number-ne0 : goal.returns-then-number-ne0
 returns-then-number-ne0 c =

@@ -28,30 +28,6 @@ one_turn-z-requires c = let l = c.loop-j in
           (array_at c.args.spans c.args.count l.invariant.0 c.requires.1 l.j _ t);
     }
 
-pub shape_of-node-then-z-ne0 : goal.shape_of-node-then-z-ne0
-shape_of-node-then-z-ne0 c = c.one_turn-z.auto.node ∙ c.loop-j.invariant.1.node
-
-pub shape_of-start-then-z-ne0 : goal.shape_of-start-then-z-ne0
-shape_of-start-then-z-ne0 c = c.one_turn-z.auto.start ∙ c.loop-j.invariant.1.start
-
-pub shape_of-end-then-z-ne0 : goal.shape_of-end-then-z-ne0
-shape_of-end-then-z-ne0 c = c.one_turn-z.auto.end ∙ c.loop-j.invariant.1.end
-
-pub shape_of-id-then-z-ne0 : goal.shape_of-id-then-z-ne0
-shape_of-id-then-z-ne0 c = c.one_turn-z.auto.id ∙ c.loop-j.invariant.1.id
-
-pub shape_of-stamp-then-z-ne0 : goal.shape_of-stamp-then-z-ne0
-shape_of-stamp-then-z-ne0 c = c.one_turn-z.auto.stamp ∙ c.loop-j.invariant.1.stamp
-
-pub shape_of-touched-then-z-ne0 : goal.shape_of-touched-then-z-ne0
-shape_of-touched-then-z-ne0 c = c.one_turn-z.auto.touched ∙ c.loop-j.invariant.1.touched
-
-pub shape_of-write-then-z-ne0 : goal.shape_of-write-then-z-ne0
-shape_of-write-then-z-ne0 c = c.one_turn-z.auto.write ∙ c.loop-j.invariant.1.write
-
-pub shape_of-marks-then-z-ne0 : goal.shape_of-marks-then-z-ne0
-shape_of-marks-then-z-ne0 c = c.one_turn-z.auto.marks ∙ c.loop-j.invariant.1.marks
-
 pub returns-then-z-ne0 : goal.returns-then-z-ne0
 returns-then-z-ne0 c =
     let old = ranges_of c.args.node.now c.args.start.now c.args.end.now c.args.id.now c.args.stamp.now c.args.touched.now c.args.write.now in
@@ -63,9 +39,6 @@ returns-then-z-ne0 c =
     (array_at c.args.spans c.args.count l.invariant.0 c.requires.1 l.j _ t) (ranges_of k.new.node k.new.start k.new.end k.new.id k.new.stamp k.new.touched k.new.write) k.new.marks k.result
     (k.ensures o (books_with c.args.s l.z x) (running_at o x (take c.args.count c.args.spans) c.args.depth.now c.args.bytes.now old c.args.marks.now c.args.s c.args.refreshes c.args.time c.args.counted c.args.y q l.j now l.marks l.z (l.invariant.4 o x q) _ (array_in _ _ l.invariant.0 c.requires.1 t)
     (array_at c.args.spans c.args.count l.invariant.0 c.requires.1 l.j _ t))) c.if-z-ne0.true
-
-pub loop-j-smaller : goal.loop-j-smaller
-loop-j-smaller c = omega (arith, c.loop-j-test.true)
 
 pub loop-j-preserved : goal.loop-j-preserved
 loop-j-preserved c =
@@ -83,30 +56,6 @@ loop-j-preserved c =
           (k.ensures o (books_with c.args.s l.z x) (running_at o x (take c.args.count c.args.spans) c.args.depth.now c.args.bytes.now old c.args.marks.now c.args.s c.args.refreshes c.args.time c.args.counted c.args.y q l.j now l.marks l.z (l.invariant.4 o x q) _ (array_in _ _ l.invariant.0 c.requires.1 t)
           (array_at c.args.spans c.args.count l.invariant.0 c.requires.1 l.j _ t))) c.if-z-ne0.false,
     )
-
-pub shape_of-node : goal.shape_of-node
-shape_of-node c = c.loop-j.invariant.1.node
-
-pub shape_of-start : goal.shape_of-start
-shape_of-start c = c.loop-j.invariant.1.start
-
-pub shape_of-end : goal.shape_of-end
-shape_of-end c = c.loop-j.invariant.1.end
-
-pub shape_of-id : goal.shape_of-id
-shape_of-id c = c.loop-j.invariant.1.id
-
-pub shape_of-stamp : goal.shape_of-stamp
-shape_of-stamp c = c.loop-j.invariant.1.stamp
-
-pub shape_of-touched : goal.shape_of-touched
-shape_of-touched c = c.loop-j.invariant.1.touched
-
-pub shape_of-write : goal.shape_of-write
-shape_of-write c = c.loop-j.invariant.1.write
-
-pub shape_of-marks : goal.shape_of-marks
-shape_of-marks c = c.loop-j.invariant.1.marks
 
 pub returns : goal.returns
 returns c = let l = c.loop-j in

@@ -9,9 +9,6 @@ pub keep-old-requires : goal.keep-old-requires
 keep-old-requires c = let p = c.requires.0 in
     lends p.others p.books (take c.args.count c.args.spans) c.args.depth.now c.args.bytes.now (ranges_of c.args.node.now c.args.start.now c.args.end.now c.args.id.now c.args.stamp.now c.args.touched.now c.args.write.now) c.args.marks.now c.args.s c.args.refreshes c.args.time c.args.counted c.args.y p.starts
 
-pub take_turns-z-requires : goal.take_turns-z-requires
-take_turns-z-requires c = (c.requires.0, c.requires.1)
-
 pub undo-requires : goal.undo-requires
 undo-requires c =
     let old = ranges_of c.args.node.now c.args.start.now c.args.end.now c.args.id.now c.args.stamp.now c.args.touched.now c.args.write.now in

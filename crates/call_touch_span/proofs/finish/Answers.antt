@@ -5,8 +5,5 @@ use Rattle.call_touch_span.proofs.finish.Goals as goal
 pub returns-then-run-ne0 : goal.returns-then-run-ne0
 returns-then-run-ne0 c = record { refused = λ n. (refl, refl); done = λ e. absurd (c.if-run-ne0.true e) }
 
-pub put_run-requires : goal.put_run-requires
-put_run-requires c = c.requires c.if-run-ne0.false
-
 pub returns : goal.returns
 returns c = record { refused = λ n. absurd (n c.if-run-ne0.false); done = λ e. (c.put_run.ensures, refl) }

@@ -4,7 +4,6 @@ use native.Mathlib.Nat.{le-add_right, add-sub_cancel_left}
 use Rattle.shape_state.specs.Lent.{ranges_of}
 use Rattle.pool_part.specs.Parts.{mid_ranges, back_ranges}
 use Rattle.pool_part.proofs.Bounds.{rec_fits, rec_end-fits, rec_fits8, rec_fits4, rec_ends, mark_fits, mark_end-fits, mark_fits8, mark_ends}
-use Rattle.pool_part.proofs.Parts.{part-kept}
 use Rattle.call_touch_span.proofs.Laws.{pool_one, pool_two, pool_three, pool_touched}
 use Rattle.call_touch_span.proofs.touch_pools.Goals as goal
 
@@ -120,30 +119,6 @@ pub store_used-requires : goal.store_used-requires
 unfolding mid_ranges
 store_used-requires c = let s = c.args.s in
     record { n_bound = pool_one c.requires _ (add-sub_cancel_left (128 * s) 128); start_lt_end = pool_two c.requires _ (add-sub_cancel_left (256 * s) 256); touch_fits = pool_three c.requires _ (add-sub_cancel_left (128 * s) 128) }
-
-pub shape_of-node : goal.shape_of-node
-shape_of-node c = part-kept 128 c.args.s c.args.node.now c.store_used.new.node c.store_used.auto.node
-
-pub shape_of-start : goal.shape_of-start
-shape_of-start c = part-kept 128 c.args.s c.args.start.now c.store_used.new.start c.store_used.auto.start
-
-pub shape_of-end : goal.shape_of-end
-shape_of-end c = part-kept 128 c.args.s c.args.end.now c.store_used.new.end c.store_used.auto.end
-
-pub shape_of-id : goal.shape_of-id
-shape_of-id c = part-kept 128 c.args.s c.args.id.now c.store_used.new.id c.store_used.auto.id
-
-pub shape_of-stamp : goal.shape_of-stamp
-shape_of-stamp c = part-kept 128 c.args.s c.args.stamp.now c.store_used.new.stamp c.store_used.auto.stamp
-
-pub shape_of-touched : goal.shape_of-touched
-shape_of-touched c = part-kept 128 c.args.s c.args.touched.now c.store_used.new.touched c.store_used.auto.touched
-
-pub shape_of-write : goal.shape_of-write
-shape_of-write c = part-kept 128 c.args.s c.args.write.now c.store_used.new.write c.store_used.auto.write
-
-pub shape_of-marks : goal.shape_of-marks
-shape_of-marks c = part-kept 256 c.args.s c.args.marks.now c.store_used.new.marks c.store_used.auto.marks
 
 pub returns : goal.returns
 unfolding mid_ranges back_ranges

@@ -7,9 +7,6 @@ use Rattle.call_touch_span.proofs.turn_number.Goals as goal
 pub touch_need-w-requires : goal.touch_need-w-requires
 touch_need-w-requires c = ordered_part c.args.s c.args.n _ _ _ _ (add-sub_cancel_left (128 * c.args.s) 128) c.requires.0
 
-pub need_number-requires : goal.need_number-requires
-need_number-requires c = let p = c.requires in (p.1, p.2, p.3)
-
 pub returns : goal.returns
 returns c = let f = c.touch_need-w in
     record {

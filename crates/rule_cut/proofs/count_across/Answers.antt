@@ -1,15 +1,11 @@
 -- `rule_cut::count_across` meets its contract, by the law of `Counting`. Assumes nothing.
 use mathlib.Core.Logic.{inl, inr}
 use Rattle.rule_cut.proofs.Counted.{count-start, count_turn, count-end}
-use native.Mathlib.Omega.{arith}
 use Rattle.rule_cut.proofs.count_across.Goals as goal
 use Rattle.rule_cut.proofs.count_across.Goals.{then-is_across, else-is_across}
 
 pub loop-i-init : goal.loop-i-init
 loop-i-init c = count-start
-
-pub is_across-requires : goal.is_across-requires
-is_across-requires c = let p = c.requires in (omega (arith, p.0), omega (arith, p.1), omega (arith, p.2))
 
 pub loop-i-preserved : goal.loop-i-preserved
 loop-i-preserved c = count_turn c.loop-i.invariant c.loop-i-test.true c.is_across.ensures

@@ -1,13 +1,9 @@
 -- `rule_cut::cut_next` meets its contract: its tests are those by which the step goes. Assumes nothing.
-use native.Mathlib.Omega.{arith}
 use Rattle.model.specs.State.{at}
 use Rattle.shape_state.specs.Lent.{ranges_of}
 use Rattle.rule_cut.specs.Cut.{is_beyond}
 use Rattle.rule_cut.proofs.Step.{under, end_after, is-across, step_stay, step-split, step_move}
 use Rattle.rule_cut.proofs.cut_next.Goals as goal
-
-pub is_beyond-requires : goal.is_beyond-requires
-is_beyond-requires c = let p = c.requires in (omega (arith, p.0, p.1, p.2, p.5.node), omega (arith, p.0, p.1, p.2, p.5.end))
 
 pub returns-then-not-is_beyond : goal.returns-then-not-is_beyond
 returns-then-not-is_beyond c =

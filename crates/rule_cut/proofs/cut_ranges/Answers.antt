@@ -1,7 +1,6 @@
 -- `rule_cut::cut_ranges` meets its contract, by the law of `Cutting`. Assumes nothing.
-use mathlib.Core.Path.{sym, ◌∙◌}
 use Rattle.shape_state.specs.Lent.{ranges_of}
-use Rattle.rule_cut.proofs.Steps.{cut-start, cut-few, cut-sized, cut-end, cut-room, cut-top, cut-id, cut-turn, cut-less}
+use Rattle.rule_cut.proofs.Steps.{cut-start, cut-few, cut-sized, cut-end, cut-room, cut-top, cut-id, cut-turn}
 use Rattle.rule_cut.proofs.cut_ranges.Goals as goal
 
 pub loop-s-init : goal.loop-s-init
@@ -13,32 +12,8 @@ cut_next-s-requires c =
     let now = ranges_of c.loop-s.node c.loop-s.start c.loop-s.end c.loop-s.id c.loop-s.stamp c.loop-s.touched c.loop-s.write in
     (c.loop-s-test.true, cut-top c.args.j c.args.k c.args.m c.args.next c.args.n old now c.loop-s.s c.requires.0 c.requires.2 c.loop-s.invariant c.loop-s-test.true, cut-few c.args.j c.args.k c.args.m c.args.next c.args.n old now c.loop-s.s c.requires.0 c.requires.2 c.loop-s.invariant, cut-room c.args.j c.args.k c.args.m c.args.next c.args.n old now c.loop-s.s c.requires.0 c.requires.2 c.loop-s.invariant c.loop-s-test.true, cut-id c.args.j c.args.k c.args.m c.args.next c.args.n old now c.loop-s.s c.requires.0 c.requires.2 c.loop-s.invariant c.loop-s-test.true c.requires.1, cut-sized c.args.j c.args.k c.args.m c.args.next c.args.n old now c.loop-s.s c.requires.0 c.requires.2 c.loop-s.invariant)
 
-pub loop-s-smaller : goal.loop-s-smaller
-loop-s-smaller c = cut-less c.args.j c.args.k c.args.m c.args.next c.args.n (ranges_of c.args.node.now c.args.start.now c.args.end.now c.args.id.now c.args.stamp.now c.args.touched.now c.args.write.now) (ranges_of c.loop-s.node c.loop-s.start c.loop-s.end c.loop-s.id c.loop-s.stamp c.loop-s.touched c.loop-s.write) c.loop-s.s c.requires.0 c.requires.2 c.loop-s.invariant c.loop-s-test.true _ _ c.cut_next-s.ensures
-
 pub loop-s-preserved : goal.loop-s-preserved
 loop-s-preserved c = cut-turn c.args.j c.args.k c.args.m c.args.next c.args.n (ranges_of c.args.node.now c.args.start.now c.args.end.now c.args.id.now c.args.stamp.now c.args.touched.now c.args.write.now) (ranges_of c.loop-s.node c.loop-s.start c.loop-s.end c.loop-s.id c.loop-s.stamp c.loop-s.touched c.loop-s.write) c.loop-s.s c.requires.0 c.requires.2 c.loop-s.invariant c.loop-s-test.true _ _ c.cut_next-s.ensures
-
-pub shape_of-node : goal.shape_of-node
-shape_of-node c = (cut-sized c.args.j c.args.k c.args.m c.args.next c.args.n (ranges_of c.args.node.now c.args.start.now c.args.end.now c.args.id.now c.args.stamp.now c.args.touched.now c.args.write.now) (ranges_of c.loop-s.node c.loop-s.start c.loop-s.end c.loop-s.id c.loop-s.stamp c.loop-s.touched c.loop-s.write) c.loop-s.s c.requires.0 c.requires.2 c.loop-s.invariant).node ∙ sym c.requires.2.node
-
-pub shape_of-start : goal.shape_of-start
-shape_of-start c = (cut-sized c.args.j c.args.k c.args.m c.args.next c.args.n (ranges_of c.args.node.now c.args.start.now c.args.end.now c.args.id.now c.args.stamp.now c.args.touched.now c.args.write.now) (ranges_of c.loop-s.node c.loop-s.start c.loop-s.end c.loop-s.id c.loop-s.stamp c.loop-s.touched c.loop-s.write) c.loop-s.s c.requires.0 c.requires.2 c.loop-s.invariant).start ∙ sym c.requires.2.start
-
-pub shape_of-end : goal.shape_of-end
-shape_of-end c = (cut-sized c.args.j c.args.k c.args.m c.args.next c.args.n (ranges_of c.args.node.now c.args.start.now c.args.end.now c.args.id.now c.args.stamp.now c.args.touched.now c.args.write.now) (ranges_of c.loop-s.node c.loop-s.start c.loop-s.end c.loop-s.id c.loop-s.stamp c.loop-s.touched c.loop-s.write) c.loop-s.s c.requires.0 c.requires.2 c.loop-s.invariant).end ∙ sym c.requires.2.end
-
-pub shape_of-id : goal.shape_of-id
-shape_of-id c = (cut-sized c.args.j c.args.k c.args.m c.args.next c.args.n (ranges_of c.args.node.now c.args.start.now c.args.end.now c.args.id.now c.args.stamp.now c.args.touched.now c.args.write.now) (ranges_of c.loop-s.node c.loop-s.start c.loop-s.end c.loop-s.id c.loop-s.stamp c.loop-s.touched c.loop-s.write) c.loop-s.s c.requires.0 c.requires.2 c.loop-s.invariant).id ∙ sym c.requires.2.id
-
-pub shape_of-stamp : goal.shape_of-stamp
-shape_of-stamp c = (cut-sized c.args.j c.args.k c.args.m c.args.next c.args.n (ranges_of c.args.node.now c.args.start.now c.args.end.now c.args.id.now c.args.stamp.now c.args.touched.now c.args.write.now) (ranges_of c.loop-s.node c.loop-s.start c.loop-s.end c.loop-s.id c.loop-s.stamp c.loop-s.touched c.loop-s.write) c.loop-s.s c.requires.0 c.requires.2 c.loop-s.invariant).stamp ∙ sym c.requires.2.stamp
-
-pub shape_of-touched : goal.shape_of-touched
-shape_of-touched c = (cut-sized c.args.j c.args.k c.args.m c.args.next c.args.n (ranges_of c.args.node.now c.args.start.now c.args.end.now c.args.id.now c.args.stamp.now c.args.touched.now c.args.write.now) (ranges_of c.loop-s.node c.loop-s.start c.loop-s.end c.loop-s.id c.loop-s.stamp c.loop-s.touched c.loop-s.write) c.loop-s.s c.requires.0 c.requires.2 c.loop-s.invariant).touched ∙ sym c.requires.2.touched
-
-pub shape_of-write : goal.shape_of-write
-shape_of-write c = (cut-sized c.args.j c.args.k c.args.m c.args.next c.args.n (ranges_of c.args.node.now c.args.start.now c.args.end.now c.args.id.now c.args.stamp.now c.args.touched.now c.args.write.now) (ranges_of c.loop-s.node c.loop-s.start c.loop-s.end c.loop-s.id c.loop-s.stamp c.loop-s.touched c.loop-s.write) c.loop-s.s c.requires.0 c.requires.2 c.loop-s.invariant).write ∙ sym c.requires.2.write
 
 pub returns : goal.returns
 returns c = cut-end c.args.j c.args.k c.args.m c.args.next c.args.n (ranges_of c.args.node.now c.args.start.now c.args.end.now c.args.id.now c.args.stamp.now c.args.touched.now c.args.write.now) (ranges_of c.loop-s.node c.loop-s.start c.loop-s.end c.loop-s.id c.loop-s.stamp c.loop-s.touched c.loop-s.write) c.loop-s.s c.requires.0 c.requires.2 c.loop-s.invariant c.loop-s-test.false

@@ -3,10 +3,6 @@ use mathlib.Core.Path.{◌∙◌}
 use Rattle.rule_cut.proofs.Across.{across-of}
 use Rattle.rule_cut.proofs.ranges_across.Goals as goal
 
-pub count_across-requires : goal.count_across-requires
-count_across-requires c = let p = c.requires in
-    (p.1, p.2, p.3)
-
 pub returns : goal.returns
 returns c ranges p q s = let z = c.args in
     c.count_across.ensures ∙ across-of z.j z.k z.n z.node.now z.start.now z.end.now ranges p q s

@@ -5,9 +5,6 @@ use Rattle.rule_cut_pins.proofs.all_stay.Goals as goal
 pub loop-i-init : goal.loop-i-init
 loop-i-init c = stay_start
 
-pub stays-requires : goal.stays-requires
-stays-requires c = let p = c.requires in (c.loop-i-test.true, p.0, p.1, p.2)
-
 pub returns-then-not-stays : goal.returns-then-not-stays
 returns-then-not-stays c = stay_not c.loop-i.invariant c.loop-i-test.true c.stays.ensures c.if-not-stays.true
 

@@ -13,8 +13,5 @@ pub loop-i-preserved : goal.loop-i-preserved
 loop-i-preserved c = write-turn c.args.col.now c.args.from.now c.args.n c.args.k c.requires.0 c.requires.1 c.loop-i.invariant c.loop-i-test.true
     (elim c.if-i-n.branch [ then-i-n w ↦ inl (w.if-i-n.true, w.col-is) | else-i-n w ↦ inr (w.if-i-n.false, w.col-is) ])
 
-pub shape_of-col : goal.shape_of-col
-shape_of-col c = c.loop-i.invariant.long
-
 pub returns : goal.returns
 returns c = write-end c.args.col.now c.args.from.now c.args.n c.args.k c.requires.0 c.requires.1 c.loop-i.invariant c.loop-i-test.false

@@ -3,9 +3,6 @@ use mathlib.Core.Path.{◌∙◌}
 use Rattle.rule_cut_pins.proofs.Across.{across-of}
 use Rattle.rule_cut_pins.proofs.pins_across.Goals as goal
 
-pub count_across-requires : goal.count_across-requires
-count_across-requires c = c.requires
-
 pub returns : goal.returns
 returns c pins p q s = let z = c.args in
     c.count_across.ensures ∙ across-of z.j z.k z.n z.node.now z.start.now z.end.now pins p q s

@@ -11,8 +11,5 @@ loop-i-preserved c = let v = c.loop-i.invariant in
     let t = c.loop-i-test.true in
     elim c.if-w-ne0.branch [ then-w-ne0 w ↦ some_to _ _ _ _ _ _ _ v t _ _ c.requires.2 w.if-w-ne0.true w.list-is w.k-is | else-w-ne0 w ↦ none_to _ _ _ _ _ _ _ v t _ _ w.if-w-ne0.false w.list-is w.k-is ]
 
-pub shape_of-list : goal.shape_of-list
-shape_of-list c = c.loop-i.invariant.same
-
 pub returns : goal.returns
 returns c = list-end _ _ _ _ _ _ _ c.loop-i.invariant c.loop-i-test.false

@@ -6,12 +6,6 @@ use Rattle.rule_overlap.proofs.Laws.{shares, remove-fits}
 use Rattle.rule_remove.proofs.Laws.{freed_none, freed_some}
 use Rattle.rule_remove.proofs.store_remove.Goals as goal
 
-pub first_overlap-lo-requires : goal.first_overlap-lo-requires
-first_overlap-lo-requires c = c.requires.n_bound.2
-
-pub end_overlap-hi-requires : goal.end_overlap-hi-requires
-end_overlap-hi-requires c = (c.requires.n_bound.2, c.first_overlap-lo.ensures)
-
 pub returns-then-lo-hi : goal.returns-then-lo-hi
 returns-then-lo-hi c = let p = c.requires.n_bound in
     λ x same marks. freed_none (ranges_of c.args.node.now c.args.start.now c.args.end.now c.args.id.now c.args.stamp.now c.args.touched.now c.args.write.now) _ _ _ _ _ (record { few = p.0; sized = p.1; over = c.end_overlap-hi.ensures }) x same c.if-lo-hi.true _ _ marks
@@ -19,10 +13,6 @@ returns-then-lo-hi c = let p = c.requires.n_bound in
 pub removed_blocks-removed-requires : goal.removed_blocks-removed-requires
 removed_blocks-removed-requires c = let p = c.requires.n_bound in
     record { lo_le_hi = (c.end_overlap-hi.ensures.order, omega (arith, c.end_overlap-hi.ensures.high, p.0), omega (arith, c.end_overlap-hi.ensures.high, p.0, p.1.start), omega (arith, c.end_overlap-hi.ensures.high, p.0, p.1.end), c.requires.start_lt_end.1); each = shares (ranges_of c.args.node.now c.args.start.now c.args.end.now c.args.id.now c.args.stamp.now c.args.touched.now c.args.write.now) _ _ _ _ c.requires.start_lt_end.0 c.end_overlap-hi.ensures p.2 }
-
-pub list_writes-writes-requires : goal.list_writes-writes-requires
-list_writes-writes-requires c = let p = c.requires.n_bound in
-    (c.end_overlap-hi.ensures.order, omega (arith, c.end_overlap-hi.ensures.high, p.0, p.1.write), omega (arith, c.end_overlap-hi.ensures.high, p.0, c.requires.start_lt_end.3))
 
 pub cut_out-left-requires : goal.cut_out-left-requires
 cut_out-left-requires c = let p = c.requires.n_bound in

@@ -15,38 +15,11 @@ joins_at-requires c = let s = joining_sized (ranges_of c.args.node.now c.args.st
 pub merge-requires : goal.merge-requires
 merge-requires c = (c.loop-i-test.true, omega (arith, c.loop-i.invariant.few, c.requires.1), joining_sized (ranges_of c.args.node.now c.args.start.now c.args.end.now c.args.id.now c.args.stamp.now c.args.touched.now c.args.write.now) (ranges_of c.loop-i.node c.loop-i.start c.loop-i.end c.loop-i.id c.loop-i.stamp c.loop-i.touched c.loop-i.write) c.args.n c.args.v c.loop-i.m c.loop-i.i c.requires.2 c.requires.1 c.loop-i.invariant)
 
-pub loop-i-smaller-then-joins_at : goal.loop-i-smaller-then-joins_at
-loop-i-smaller-then-joins_at c = omega (arith, c.loop-i-test.true)
-
 pub loop-i-preserved-then-joins_at : goal.loop-i-preserved-then-joins_at
 loop-i-preserved-then-joins_at c = joining_yes (ranges_of c.args.node.now c.args.start.now c.args.end.now c.args.id.now c.args.stamp.now c.args.touched.now c.args.write.now) (ranges_of c.loop-i.node c.loop-i.start c.loop-i.end c.loop-i.id c.loop-i.stamp c.loop-i.touched c.loop-i.write) c.args.n c.args.v c.loop-i.m c.loop-i.i c.requires.2 c.requires.1 c.loop-i.invariant c.loop-i-test.true (sym c.if-joins_at.true ∙ c.joins_at.ensures) _ c.merge.ensures
 
-pub loop-i-smaller : goal.loop-i-smaller
-loop-i-smaller c = omega (arith, c.loop-i-test.true)
-
 pub loop-i-preserved : goal.loop-i-preserved
 loop-i-preserved c = joining_no (ranges_of c.args.node.now c.args.start.now c.args.end.now c.args.id.now c.args.stamp.now c.args.touched.now c.args.write.now) (ranges_of c.loop-i.node c.loop-i.start c.loop-i.end c.loop-i.id c.loop-i.stamp c.loop-i.touched c.loop-i.write) c.args.n c.args.v c.loop-i.m c.loop-i.i c.requires.2 c.requires.1 c.loop-i.invariant c.loop-i-test.true (sym c.if-joins_at.false ∙ c.joins_at.ensures)
-
-pub shape_of-node : goal.shape_of-node
-shape_of-node c = (joining_sized (ranges_of c.args.node.now c.args.start.now c.args.end.now c.args.id.now c.args.stamp.now c.args.touched.now c.args.write.now) (ranges_of c.loop-i.node c.loop-i.start c.loop-i.end c.loop-i.id c.loop-i.stamp c.loop-i.touched c.loop-i.write) c.args.n c.args.v c.loop-i.m c.loop-i.i c.requires.2 c.requires.1 c.loop-i.invariant).node ∙ sym c.requires.2.node
-
-pub shape_of-start : goal.shape_of-start
-shape_of-start c = (joining_sized (ranges_of c.args.node.now c.args.start.now c.args.end.now c.args.id.now c.args.stamp.now c.args.touched.now c.args.write.now) (ranges_of c.loop-i.node c.loop-i.start c.loop-i.end c.loop-i.id c.loop-i.stamp c.loop-i.touched c.loop-i.write) c.args.n c.args.v c.loop-i.m c.loop-i.i c.requires.2 c.requires.1 c.loop-i.invariant).start ∙ sym c.requires.2.start
-
-pub shape_of-end : goal.shape_of-end
-shape_of-end c = (joining_sized (ranges_of c.args.node.now c.args.start.now c.args.end.now c.args.id.now c.args.stamp.now c.args.touched.now c.args.write.now) (ranges_of c.loop-i.node c.loop-i.start c.loop-i.end c.loop-i.id c.loop-i.stamp c.loop-i.touched c.loop-i.write) c.args.n c.args.v c.loop-i.m c.loop-i.i c.requires.2 c.requires.1 c.loop-i.invariant).end ∙ sym c.requires.2.end
-
-pub shape_of-id : goal.shape_of-id
-shape_of-id c = (joining_sized (ranges_of c.args.node.now c.args.start.now c.args.end.now c.args.id.now c.args.stamp.now c.args.touched.now c.args.write.now) (ranges_of c.loop-i.node c.loop-i.start c.loop-i.end c.loop-i.id c.loop-i.stamp c.loop-i.touched c.loop-i.write) c.args.n c.args.v c.loop-i.m c.loop-i.i c.requires.2 c.requires.1 c.loop-i.invariant).id ∙ sym c.requires.2.id
-
-pub shape_of-stamp : goal.shape_of-stamp
-shape_of-stamp c = (joining_sized (ranges_of c.args.node.now c.args.start.now c.args.end.now c.args.id.now c.args.stamp.now c.args.touched.now c.args.write.now) (ranges_of c.loop-i.node c.loop-i.start c.loop-i.end c.loop-i.id c.loop-i.stamp c.loop-i.touched c.loop-i.write) c.args.n c.args.v c.loop-i.m c.loop-i.i c.requires.2 c.requires.1 c.loop-i.invariant).stamp ∙ sym c.requires.2.stamp
-
-pub shape_of-touched : goal.shape_of-touched
-shape_of-touched c = (joining_sized (ranges_of c.args.node.now c.args.start.now c.args.end.now c.args.id.now c.args.stamp.now c.args.touched.now c.args.write.now) (ranges_of c.loop-i.node c.loop-i.start c.loop-i.end c.loop-i.id c.loop-i.stamp c.loop-i.touched c.loop-i.write) c.args.n c.args.v c.loop-i.m c.loop-i.i c.requires.2 c.requires.1 c.loop-i.invariant).touched ∙ sym c.requires.2.touched
-
-pub shape_of-write : goal.shape_of-write
-shape_of-write c = (joining_sized (ranges_of c.args.node.now c.args.start.now c.args.end.now c.args.id.now c.args.stamp.now c.args.touched.now c.args.write.now) (ranges_of c.loop-i.node c.loop-i.start c.loop-i.end c.loop-i.id c.loop-i.stamp c.loop-i.touched c.loop-i.write) c.args.n c.args.v c.loop-i.m c.loop-i.i c.requires.2 c.requires.1 c.loop-i.invariant).write ∙ sym c.requires.2.write
 
 pub returns : goal.returns
 returns c = joining_end (ranges_of c.args.node.now c.args.start.now c.args.end.now c.args.id.now c.args.stamp.now c.args.touched.now c.args.write.now) (ranges_of c.loop-i.node c.loop-i.start c.loop-i.end c.loop-i.id c.loop-i.stamp c.loop-i.touched c.loop-i.write) c.args.n c.args.v c.loop-i.m c.loop-i.i c.requires.2 c.requires.1 c.loop-i.invariant c.loop-i-test.false

@@ -10,8 +10,5 @@ use Rattle.rule_touch.proofs.read_bytes.Goals as goal
 pub returns-then-not-counted : goal.returns-then-not-counted
 returns-then-not-counted c = read_off c.args.counted (only_depth c.args.depth.now) c.args.bytes.now c.args.sp (ranges (only_spans c.args.start.now c.args.end.now) c.args.lo (c.args.hi - c.args.lo)) c.if-not-counted.true
 
-pub held_bytes-requires : goal.held_bytes-requires
-held_bytes-requires c = record { lo_le_hi = c.requires.lo_le_hi; each = c.requires.each }
-
 pub returns : goal.returns
 returns c = read-on c.args.counted (only_depth c.args.depth.now) c.args.bytes.now c.args.sp (ranges (only_spans c.args.start.now c.args.end.now) c.args.lo (c.args.hi - c.args.lo)) _ c.if-not-counted.false (c.held_bytes.ensures [] [] [] [] [])

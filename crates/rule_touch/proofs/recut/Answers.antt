@@ -1,5 +1,4 @@
 -- `rule_touch::recut` meets its contract: the pieces that stand so far and the records to come, by the laws of `Recutting`.
-use mathlib.Core.Path.{sym, ◌∙◌}
 use native.Mathlib.Omega.{arith}
 use Rattle.shape_state.specs.Lent.{ranges_of}
 use Rattle.rule_touch.proofs.Laws.{recutting_start, recutting_sized, recutting_hit, recutting_room, recutting_turn, recutting_end}
@@ -17,32 +16,8 @@ recut_one-k-requires c =
     let t = c.loop-j-test.true in
     record { i_lt_n = (omega (arith, t, p.3.over.high), recutting_room old now c.args.n c.args.lo c.args.hi c.args.sp c.args.top c.args.time c.args.next c.loop-j.p c.loop-j.j p.3 p.2 v t, omega (arith, v.count, p.1), recutting_sized old now c.args.n c.args.lo c.args.hi c.args.sp c.args.top c.args.time c.args.next c.loop-j.p c.loop-j.j p.3 p.2 v); start_lt_end = (p.0, recutting_hit old now c.args.n c.args.lo c.args.hi c.args.sp c.args.top c.args.time c.args.next c.loop-j.p c.loop-j.j p.3 p.2 v t) }
 
-pub loop-j-smaller : goal.loop-j-smaller
-loop-j-smaller c = omega (arith, c.loop-j-test.true)
-
 pub loop-j-preserved : goal.loop-j-preserved
 loop-j-preserved c = (recutting_turn (ranges_of c.args.node.now c.args.start.now c.args.end.now c.args.id.now c.args.stamp.now c.args.touched.now c.args.write.now) (ranges_of c.loop-j.node c.loop-j.start c.loop-j.end c.loop-j.id c.loop-j.stamp c.loop-j.touched c.loop-j.write) c.args.n c.args.lo c.args.hi c.args.sp c.args.top c.args.time c.args.next c.loop-j.p c.loop-j.j c.requires.3 c.requires.2 c.loop-j.invariant c.loop-j-test.true _ _ c.recut_one-k.ensures)
-
-pub shape_of-node : goal.shape_of-node
-shape_of-node c = (recutting_sized (ranges_of c.args.node.now c.args.start.now c.args.end.now c.args.id.now c.args.stamp.now c.args.touched.now c.args.write.now) (ranges_of c.loop-j.node c.loop-j.start c.loop-j.end c.loop-j.id c.loop-j.stamp c.loop-j.touched c.loop-j.write) c.args.n c.args.lo c.args.hi c.args.sp c.args.top c.args.time c.args.next c.loop-j.p c.loop-j.j c.requires.3 c.requires.2 c.loop-j.invariant).node ∙ sym c.requires.3.sized.node
-
-pub shape_of-start : goal.shape_of-start
-shape_of-start c = (recutting_sized (ranges_of c.args.node.now c.args.start.now c.args.end.now c.args.id.now c.args.stamp.now c.args.touched.now c.args.write.now) (ranges_of c.loop-j.node c.loop-j.start c.loop-j.end c.loop-j.id c.loop-j.stamp c.loop-j.touched c.loop-j.write) c.args.n c.args.lo c.args.hi c.args.sp c.args.top c.args.time c.args.next c.loop-j.p c.loop-j.j c.requires.3 c.requires.2 c.loop-j.invariant).start ∙ sym c.requires.3.sized.start
-
-pub shape_of-end : goal.shape_of-end
-shape_of-end c = (recutting_sized (ranges_of c.args.node.now c.args.start.now c.args.end.now c.args.id.now c.args.stamp.now c.args.touched.now c.args.write.now) (ranges_of c.loop-j.node c.loop-j.start c.loop-j.end c.loop-j.id c.loop-j.stamp c.loop-j.touched c.loop-j.write) c.args.n c.args.lo c.args.hi c.args.sp c.args.top c.args.time c.args.next c.loop-j.p c.loop-j.j c.requires.3 c.requires.2 c.loop-j.invariant).end ∙ sym c.requires.3.sized.end
-
-pub shape_of-id : goal.shape_of-id
-shape_of-id c = (recutting_sized (ranges_of c.args.node.now c.args.start.now c.args.end.now c.args.id.now c.args.stamp.now c.args.touched.now c.args.write.now) (ranges_of c.loop-j.node c.loop-j.start c.loop-j.end c.loop-j.id c.loop-j.stamp c.loop-j.touched c.loop-j.write) c.args.n c.args.lo c.args.hi c.args.sp c.args.top c.args.time c.args.next c.loop-j.p c.loop-j.j c.requires.3 c.requires.2 c.loop-j.invariant).id ∙ sym c.requires.3.sized.id
-
-pub shape_of-stamp : goal.shape_of-stamp
-shape_of-stamp c = (recutting_sized (ranges_of c.args.node.now c.args.start.now c.args.end.now c.args.id.now c.args.stamp.now c.args.touched.now c.args.write.now) (ranges_of c.loop-j.node c.loop-j.start c.loop-j.end c.loop-j.id c.loop-j.stamp c.loop-j.touched c.loop-j.write) c.args.n c.args.lo c.args.hi c.args.sp c.args.top c.args.time c.args.next c.loop-j.p c.loop-j.j c.requires.3 c.requires.2 c.loop-j.invariant).stamp ∙ sym c.requires.3.sized.stamp
-
-pub shape_of-touched : goal.shape_of-touched
-shape_of-touched c = (recutting_sized (ranges_of c.args.node.now c.args.start.now c.args.end.now c.args.id.now c.args.stamp.now c.args.touched.now c.args.write.now) (ranges_of c.loop-j.node c.loop-j.start c.loop-j.end c.loop-j.id c.loop-j.stamp c.loop-j.touched c.loop-j.write) c.args.n c.args.lo c.args.hi c.args.sp c.args.top c.args.time c.args.next c.loop-j.p c.loop-j.j c.requires.3 c.requires.2 c.loop-j.invariant).touched ∙ sym c.requires.3.sized.touched
-
-pub shape_of-write : goal.shape_of-write
-shape_of-write c = (recutting_sized (ranges_of c.args.node.now c.args.start.now c.args.end.now c.args.id.now c.args.stamp.now c.args.touched.now c.args.write.now) (ranges_of c.loop-j.node c.loop-j.start c.loop-j.end c.loop-j.id c.loop-j.stamp c.loop-j.touched c.loop-j.write) c.args.n c.args.lo c.args.hi c.args.sp c.args.top c.args.time c.args.next c.loop-j.p c.loop-j.j c.requires.3 c.requires.2 c.loop-j.invariant).write ∙ sym c.requires.3.sized.write
 
 pub returns : goal.returns
 returns c = recutting_end (ranges_of c.args.node.now c.args.start.now c.args.end.now c.args.id.now c.args.stamp.now c.args.touched.now c.args.write.now) (ranges_of c.loop-j.node c.loop-j.start c.loop-j.end c.loop-j.id c.loop-j.stamp c.loop-j.touched c.loop-j.write) c.args.n c.args.lo c.args.hi c.args.sp c.args.top c.args.time c.args.next c.loop-j.p c.loop-j.j c.requires.3 c.requires.2 c.loop-j.invariant c.loop-j-test.false

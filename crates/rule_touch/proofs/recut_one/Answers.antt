@@ -1,7 +1,5 @@
 -- `rule_touch::recut_one` meets its contract: at most two splits, and the middle's stamp and time, by the law `one-is`.
-use mathlib.Core.Path.{◌∙◌}
 use native.Mathlib.Omega.{arith}
-use lib.ListN.{length-set}
 use Rattle.shape_state.specs.Lent.{ranges_of}
 use Rattle.rule_touch.proofs.Laws.{one-is, room-head, room-tail, sized₁}
 use Rattle.rule_touch.proofs.recut_one.Goals as goal
@@ -18,12 +16,6 @@ split_if-t-requires c =
     let p = c.requires.i_lt_n in
     let q = c.requires.start_lt_end in
     (omega (arith, p.0), room-tail old p.3 _ _ p.0 _ _ _ c.args.top c.args.time c.args.next q.0 q.1 p.1 new _ c.split_if-h.ensures.0 c.split_if-h.ensures.1, sized₁ old p.3 _ _ p.0 _ _ _ c.args.top c.args.time c.args.next q.0 q.1 p.1 new _ c.split_if-h.ensures.0 c.split_if-h.ensures.1)
-
-pub shape_of-stamp : goal.shape_of-stamp
-shape_of-stamp c = simp length-set (c.split_if-t.auto.stamp ∙ c.split_if-h.auto.stamp)
-
-pub shape_of-touched : goal.shape_of-touched
-shape_of-touched c = simp length-set (c.split_if-t.auto.touched ∙ c.split_if-h.auto.touched)
 
 pub returns : goal.returns
 returns c = let p = c.requires.i_lt_n in

@@ -5,17 +5,9 @@ use Rattle.shape_state.specs.Lent.{ranges_of}
 use Rattle.rule_touch.proofs.Laws.{refreshed_one, refreshed_cut}
 use Rattle.rule_touch.proofs.refresh.Goals as goal
 
-pub one_inside-requires : goal.one_inside-requires
-one_inside-requires c = let p = c.requires.lo_lt_hi in
-    (p.0, omega (arith, p.2.over.high, p.2.few, p.2.sized.start), omega (arith, p.2.over.high, p.2.few, p.2.sized.end))
-
 pub returns-then-one_inside : goal.returns-then-one_inside
 returns-then-one_inside c = let p = c.requires.lo_lt_hi in
     refreshed_one (ranges_of c.args.node.now c.args.start.now c.args.end.now c.args.id.now c.args.stamp.now c.args.touched.now c.args.write.now) c.args.n c.args.lo c.args.hi c.args.sp c.args.top c.args.time c.args.next p.0 p.2 _ c.one_inside.ensures c.if-one_inside.true
-
-pub recut-p-requires : goal.recut-p-requires
-recut-p-requires c = let q = c.requires.start_lt_end in
-    (q.0, q.1, q.2, c.requires.lo_lt_hi.2)
 
 pub join_ranges-m-requires : goal.join_ranges-m-requires
 join_ranges-m-requires c = let p = c.requires.lo_lt_hi in

@@ -7,12 +7,6 @@ use Rattle.rule_overlap.proofs.Laws.{shares, touch-fits}
 use Rattle.rule_touch.proofs.Laws.{touching_none, touching_off, touching_on}
 use Rattle.rule_touch.proofs.store_used.Goals as goal
 
-pub first_overlap-lo-requires : goal.first_overlap-lo-requires
-first_overlap-lo-requires c = c.requires.n_bound.2
-
-pub end_overlap-hi-requires : goal.end_overlap-hi-requires
-end_overlap-hi-requires c = (c.requires.n_bound.2, c.first_overlap-lo.ensures)
-
 pub returns-then-lo-hi : goal.returns-then-lo-hi
 returns-then-lo-hi c = λ t x deep same high on marks. touching_none (ranges_of c.args.node.now c.args.start.now c.args.end.now c.args.id.now c.args.stamp.now c.args.touched.now c.args.write.now) c.args.n c.first_overlap-lo.result c.end_overlap-hi.result c.args.sp c.args.next c.args.time c.args.counted (record { few = c.requires.n_bound.0; sized = c.requires.n_bound.1; over = c.end_overlap-hi.ensures }) t c.args.bytes.now x same c.if-lo-hi.true _ marks
 
@@ -20,9 +14,6 @@ pub read_bytes-read-requires : goal.read_bytes-read-requires
 read_bytes-read-requires c = let p = c.requires.n_bound in
     let q = c.requires.start_lt_end in
     record { lo_le_hi = (c.end_overlap-hi.ensures.order, omega (arith, c.end_overlap-hi.ensures.high, p.0), omega (arith, c.end_overlap-hi.ensures.high, p.0, p.1.start), omega (arith, c.end_overlap-hi.ensures.high, p.0, p.1.end), q.2); each = λ i l u. le_of_lt (shares (ranges_of c.args.node.now c.args.start.now c.args.end.now c.args.id.now c.args.stamp.now c.args.touched.now c.args.write.now) c.args.n _ _ c.args.sp q.0 c.end_overlap-hi.ensures p.2 i l u) }
-
-pub mark_read-requires : goal.mark_read-requires
-mark_read-requires c = c.requires.start_lt_end.1
 
 pub returns-then-not-refreshes : goal.returns-then-not-refreshes
 returns-then-not-refreshes c = λ t x deep same high on marks. touching_off (ranges_of c.args.node.now c.args.start.now c.args.end.now c.args.id.now c.args.stamp.now c.args.touched.now c.args.write.now) c.args.n c.first_overlap-lo.result c.end_overlap-hi.result c.args.sp c.args.next c.args.time c.args.counted (record { few = c.requires.n_bound.0; sized = c.requires.n_bound.1; over = c.end_overlap-hi.ensures }) t c.args.bytes.now x same c.if-lo-hi.false c.args.depth.now deep _ c.read_bytes-read.ensures c.args.marks.now _ marks c.mark_read.ensures (on ∙ c.if-not-refreshes.true)
