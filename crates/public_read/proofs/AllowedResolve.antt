@@ -4,10 +4,10 @@ use mathlib.Core.Path.{refl}
 use Rattle.model.specs.Calls.{resolve_call}
 use Rattle.shape_answer.specs.Answers.{resolved_of}
 use Rattle.theory_outcome.specs.Settled.{state_at, Allows}
-use Rattle.theory_outcome.specs.Contract.{columns, after, path_in, leaves, Promises}
+use Rattle.theory_outcome.specs.Contract.{reads, columns, after, path_in, leaves, Promises}
 use Rattle.public_read.specs.contracts.resolve as resolve
 
 pub resolve-allowed :
-    Promises resolve.ended (λ M. resolve.spec)
-    (λ κs a s r. Allows resolved_of (resolve_call (state_at (columns a)) (path_in (after a)) (after a).1.1.0.now) (leaves s (path_in (after s)) r))
+    Promises resolve.ended (λ M 𝓤. resolve.spec)
+    (λ κs a s r. Allows resolved_of (resolve_call (state_at (columns reads a)) (path_in (after reads a)) (after reads a).1.1.0.now) (leaves reads s (path_in (after reads s)) r))
 resolve-allowed M 𝓤 𝓛 mem run = refl
