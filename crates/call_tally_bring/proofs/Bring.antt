@@ -23,7 +23,7 @@ use Rattle.theory_calls.proofs.Calls.{store_insert-sound}
 use Rattle.theory_sums.specs.Bounds.{Far}
 use Rattle.theory_sums.proofs.Tallied.{tallied_insert, low-insert}
 use Rattle.theory_sums.proofs.Bounds.{insert-most}
-use Rattle.theory_sums.proofs.Far.{far_insert}
+use Rattle.theory_sums.proofs.Never.{insert_never_passes}
 use Rattle.theory_sums.proofs.Counted.{answered, answer-is, left-sound, counted-refused, counted_far, counted-made, counted-past, store_low, insert_nowhere}
 use Rattle.pool_part.specs.Parts.{back, back_ranges}
 use Rattle.pool_undo.specs.declared.Old.{Old}
@@ -57,7 +57,7 @@ module _ (st : State) (l : OutList) (v : List ℕ) (s : ℕ) (sp : Span) (time :
         pub brought_far : Far s v → passes (bring_more b.capacity s a.blocks o) v ≡ false
         brought_far far =
             counted_far (by_bring (capacity_of st s) s) v (answered plain (ap store_inserted_of e)) (λ i. bring_more (is_b i).capacity s a.blocks (is-o i))
-            (far_insert st v l s sp time w far)
+            (insert_never_passes st v l s sp time w far)
 
         pub brought-made : {u : List ℕ} → passes (bring_more b.capacity s a.blocks o) v ≡ false → u ≡ add (bring_more b.capacity s a.blocks o) v
             → outcome st' (summed l' u) (done a) ≡ tally_insert st (summed l v) s sp time w

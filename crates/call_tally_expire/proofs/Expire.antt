@@ -22,7 +22,7 @@ use Rattle.theory_calls.proofs.Calls.{store_expire-sound}
 use Rattle.theory_sums.specs.Bounds.{Far}
 use Rattle.theory_sums.proofs.Tallied.{tallied_expire, low-expire}
 use Rattle.theory_sums.proofs.Bounds.{expire-most}
-use Rattle.theory_sums.proofs.Far.{far_expire}
+use Rattle.theory_sums.proofs.Never.{expire_never_passes}
 use Rattle.theory_sums.proofs.Counted.{answered, answer-is, left-sound, counted-refused, counted_far, counted-made, counted-past, store_low, expire_nowhere}
 use Rattle.pool_part.specs.Parts.{back, back_ranges}
 use Rattle.pool_undo.specs.declared.Old.{Old}
@@ -58,7 +58,7 @@ module _ (st : State) (l : OutList) (s : ℕ) (time seconds : Float) where
       module _ (a : ExpireAnswer) (e : r ≡ Done a) (o : OutSums) (is-o : o ≡ out_sums a.outs (sum_columns l')) where
         -- far from the limit the test may be left out
         pub expired_far : Far s v → passes (expire_more s o) v ≡ false
-        expired_far far = counted_far (by_expire s) v (answered plain (ap store_expired_of e)) (ap (expire_more s) is-o) (far_expire st v l s time seconds far)
+        expired_far far = counted_far (by_expire s) v (answered plain (ap store_expired_of e)) (ap (expire_more s) is-o) (expire_never_passes st v l s time seconds far)
 
         pub expired-made : {w : List ℕ} → passes (expire_more s o) v ≡ false → w ≡ add (expire_more s o) v
             → outcome st' (summed l' w) (done a) ≡ tally_expire st (summed l v) s time seconds

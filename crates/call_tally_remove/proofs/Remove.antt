@@ -21,7 +21,7 @@ use Rattle.shape_answer.specs.declared.StoreRemoved.TheVariants.{Refused, Done}
 use Rattle.theory_calls.proofs.Calls.{store_remove-sound}
 use Rattle.theory_sums.specs.Bounds.{Far}
 use Rattle.theory_sums.proofs.Tallied.{tallied_remove, low-remove}
-use Rattle.theory_sums.proofs.Far.{far_remove}
+use Rattle.theory_sums.proofs.Never.{remove_never_passes}
 use Rattle.theory_sums.proofs.Counted.{answered, answer-is, left-sound, counted-refused, counted_far, counted-made, counted-past, store_low, remove_nowhere}
 use Rattle.pool_part.specs.Parts.{mid, back, back_ranges}
 use Rattle.pool_undo.specs.declared.Old.{Old}
@@ -41,7 +41,7 @@ module _ (st : State) (l v : List ℕ) (s : ℕ) (sp : Span) (long : sum_places 
     module _ (a : RemoveAnswer) (e : r ≡ Done a) where
       -- far from the limit the test may be left out
       pub removed_far : Far s v → passes (add_remove s a) v ≡ false
-      removed_far far = counted_far (by_remove s) v (answered plain (ap store_removed_of e)) refl (far_remove st v l s sp far)
+      removed_far far = counted_far (by_remove s) v (answered plain (ap store_removed_of e)) refl (remove_never_passes st v l s sp far)
 
       pub removed-made : {w : List ℕ} → passes (add_remove s a) v ≡ false → w ≡ add (add_remove s a) v
           → outcome st' (summed l' w) (done a) ≡ tally_remove st (summed l v) s sp

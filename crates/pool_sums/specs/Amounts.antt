@@ -4,6 +4,8 @@ use Rattle.model.specs.Refusals.{OutList}
 use Rattle.model_sums.specs.Sums.{More, more, listed_sum, listed_blocks, brought_at, age_at, bytes_at, dead_at, gave_at, lookups_at, blocks_at, read_at, max_sum}
 use Rattle.shape_answer.specs.Lists.{out_list}
 use Rattle.pool_sums.specs.declared.OutSums.{OutSums}
+-- far from the limit: the seven of a store, and the three over all
+pub use Rattle.theory_sums.specs.Bounds.{Far, FarOver}
 
 -- ---- of a given-out list
 

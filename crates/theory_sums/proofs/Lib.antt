@@ -12,5 +12,6 @@ pub mod Outs
 pub mod Looked
 pub mod Bounds
 pub mod Far
+pub mod Never
 pub mod Lent
 pub mod Counted

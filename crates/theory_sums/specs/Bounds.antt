@@ -1,5 +1,5 @@
 -- How much an accepted call adds at most, so that far from the limit no sum has to be tested. Assumes nothing.
-use Rattle.std.specs.Prelude.{ℕ, ◌≤◌, List}
+use Rattle.std.specs.Prelude.{ℕ, ◌≤◌, List, [], ◌∷◌}
 use Rattle.model.specs.Sizes.{out_places}
 use Rattle.model.specs.State.{at}
 use Rattle.model.specs.Refusals.{OutList}
@@ -23,6 +23,11 @@ pub record OutsMost (n : ℕ) (l : OutList) : Type 0 where
 -- 2^62: from here one call cannot pass the limit
 abbrev pub far_sum : ℕ
 far_sum = 4611686018427387904
+
+-- the sums at these places are no more than that
+abbrev pub FarAt : List ℕ → List ℕ → Type 0
+FarAt v [] = Unit {0}
+FarAt v (p ∷ ps) = (at v p ≤ far_sum) × FarAt v ps
 
 -- the seven sums of store s are no more than that
 pub record Far (s : ℕ) (v : List ℕ) : Type 0 where
