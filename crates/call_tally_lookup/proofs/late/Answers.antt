@@ -3,7 +3,7 @@ use mathlib.Core.Path.{ap}
 use Rattle.shape_answer.specs.Lists.{path_list_of, tier_list_of, lists_of}
 use Rattle.shape_answer.specs.Answers.{state_from, looked_of}
 use Rattle.theory_refuse.proofs.Says.{says_true}
-use Rattle.theory_sums.proofs.Far.{far_lookup}
+use Rattle.theory_sums.proofs.Never.{lookup_never_passes}
 use Rattle.call_tally_lookup.proofs.Lookup.{zeros, zeros-path, zeros-spans, looked-fits, trial_refused, trial_done}
 use Rattle.call_tally_lookup.proofs.late.Goals as goal
 
@@ -14,7 +14,7 @@ pub returns-then-far_over : goal.returns-then-far_over
 returns-then-far_over c =
     let a = c.args in
     let st = state_from a.parent.now a.depth.now a.len.now a.run.now a.words.now a.node.now a.start.now a.end.now a.id.now a.stamp.now a.touched.now a.write.now a.pin_node.now a.pin_start.now a.pin_end.now a.pin_count.now a.marks.now a.bytes.now a.books.now in
-    λ l path spans. far_lookup st a.sums.now l a.tiers.now a.hashes.now (says_true c.if-far_over.true c.far_over.ensures)
+    λ l path spans. lookup_never_passes st a.sums.now l a.tiers.now a.hashes.now (says_true c.if-far_over.true c.far_over.ensures)
 
 pub lookup-r-requires : goal.lookup-r-requires
 lookup-r-requires c = (c.requires.0, zeros-path, zeros-spans)
