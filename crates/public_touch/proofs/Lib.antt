@@ -1,5 +1,4 @@
 -- The contract of `store_used` is what the theorems take it to be.
 pub mod Allowed
 mod Whole
-pub mod First
 mod Array

@@ -15,6 +15,7 @@ use Rattle.model.specs.Refusals.{store_used_refusals}
 use Rattle.model.specs.Calls.{store_used}
 use Rattle.theory_refuse.proofs.Says.{says_true, says_false}
 use Rattle.theory_refuse.proofs.Refusals.{first-is, store_used_exact}
+use Rattle.shape_state.specs.Lent.{ranges_of}
 use Rattle.shape_answer.specs.declared.StoreUsed.{StoreUsed}
 use Rattle.shape_answer.specs.Answers.{outcome, store_used_of}
 use Rattle.call_touch_span.specs.declared.Turn.{Turn}
@@ -77,3 +78,26 @@ module _ (o : Others) (depth bytes : List ℕ) (c₀ : Ranges) (ms₀ x : List �
         pub start-outcome : (x' : List ℕ) (r : StoreUsed) → Finished x z x' r
             → outcome (whole o depth bytes c ms x') tt (store_used_of r) ≡ store_used began s sps time counted
         start-outcome x' r f = going_end o depth bytes c₀ ms₀ x s sps time counted (length sps) c ms z last_turn x' r (omega arith) f
+
+-- the same where the lists at the turns are equal to those before, as the start leaves them
+pub same_ranges : {a a' b b' c c' d d' e e' : List ℕ} {f f' : List Float} {g g' : List ℕ}
+    → a ≡ a' → b ≡ b' → c ≡ c' → d ≡ d' → e ≡ e' → f ≡ f' → g ≡ g' → ranges_of a b c d e f g ≡ ranges_of a' b' c' d' e' f' g'
+same_ranges p q r s t u v = cc
+
+module _ (o : Others) (depth bytes : List ℕ) (c₀ : Ranges) (ms₀ x : List ℕ) (s : ℕ) (sps : List Span) (time : Float) (counted : Bool)
+    (c₁ : Ranges) (ms₁ x₁ : List ℕ) (e : c₁ ≡ c₀) (f : ms₁ ≡ ms₀) (g : x₁ ≡ x)
+    (y₀ : Turn) (b : Started (began o depth bytes c₀ ms₀ x s sps time counted) x s (length sps) time counted y₀)
+    (y : Turn) (v : Looks sps o.len y₀ (length sps) y) where
+  pub kept-turns : AtFirst sps depth bytes c₁ ms₁ y
+  kept-turns = rw (e, f) (start-turns o depth bytes c₀ ms₀ x s sps time counted y₀ b y v)
+
+  module _ (c : Ranges) (ms : List ℕ) (z : Turn) (t : Turns sps depth bytes c₁ ms₁ y (length sps) c ms z) where
+    as-first : Turns sps depth bytes c₀ ms₀ y (length sps) c ms z
+    as-first = rw (← e, ← f) t
+
+    pub kept-writes : Writes x₁ z
+    kept-writes = rw g (start-writes o depth bytes c₀ ms₀ x s sps time counted y₀ b y v c ms z as-first)
+
+    pub kept-outcome : (x' : List ℕ) (r : StoreUsed) → Finished x₁ z x' r
+        → outcome (whole o depth bytes c ms x') tt (store_used_of r) ≡ store_used (began o depth bytes c₀ ms₀ x s sps time counted) s sps time counted
+    kept-outcome x' r h = start-outcome o depth bytes c₀ ms₀ x s sps time counted y₀ b y v c ms z as-first x' r (rw g at h)
