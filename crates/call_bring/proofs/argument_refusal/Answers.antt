@@ -1,5 +1,4 @@
 -- `call_bring::argument_refusal` meets its contract: each test is the condition's own. Assumes nothing.
-use borrow.Author.Rules.{rules}
 use Rattle.test_arguments.proofs.Laws.{finite-is}
 use Rattle.call_bring.proofs.Laws.{no_store_lem, bad-span, bad-time, arguments_pass}
 use Rattle.std.proofs.Common.{ap}

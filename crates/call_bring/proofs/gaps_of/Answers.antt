@@ -1,7 +1,6 @@
 -- `call_bring::gaps_of` meets its contract: the part of each column is lent on, and its gaps are the store's. Assumes nothing.
 use native.Mathlib.Nat.{add-sub_cancel_left}
 use Prim.Native.Nat.{◌*◌}
-use borrow.Author.Rules.{rules}
 use native.Mathlib.Omega.{arith}
 use Rattle.call_bring.proofs.Laws.{gaps-part}
 use Rattle.call_bring.proofs.gaps_of.Goals as goal

@@ -1,5 +1,4 @@
 -- `call_bring::give_back` meets its contract: the span is priced, and put at the first place.
-use borrow.Author.Rules.{rules}
 use native.Mathlib.Omega.{arith}
 use Rattle.rule_resolve.specs.Span.{only_depth}
 use Rattle.shape_answer.specs.Lists.{out_list}

@@ -1,5 +1,4 @@
 -- `call_bring::settle` meets its contract: the store's numbers are laid, then the next id and the stalls, and `books-settled` has them together.
-use borrow.Author.Rules.{rules}
 use Rattle.call_bring.proofs.Bring.{books-settled}
 use Rattle.call_bring.proofs.settle.Goals as goal
 

@@ -1,5 +1,4 @@
 -- `call_bring::stalls_after` meets its contract: a case for each side of the two tests.
-use borrow.Author.Rules.{rules}
 use Rattle.call_bring.proofs.Bring.{stall_none, stall_more, stall_most}
 use Rattle.std.proofs.Common.{ap}
 use mathlib.Core.Bool.{not}

@@ -1,16 +1,11 @@
 -- `call_bring::store_insert` meets its contract: refused for its arguments, given back at capacity 0, refused where the gaps need too much, or brought in:
 -- a sound state makes the store's part ready, and `brought_in_lem` has what the pools and the small numbers become. Assumes nothing.
 use mathlib.Core.Path.{refl}
-use borrow.Author.Rules.{rules}
 use native.Mathlib.Omega.{arith}
-use Rattle.model.specs.State.{State}
-use Rattle.model.specs.Refusals.{OutList}
 use Rattle.shape_state.specs.Lent.{ranges_of}
 use Rattle.shape_answer.specs.Lists.{out_list}
 use Rattle.shape_answer.specs.Answers.{state_from}
 use Rattle.call_bring.proofs.Bring.{rising-gaps, sum_fits, pool_in, settle_in, brought_in_lem}
-use Rattle.call_bring.specs.Insert.{InsertReady}
-use Rattle.call_bring.specs.Keep.{KeepReady}
 use Rattle.call_bring.proofs.Laws.{need-tested, book_in_lem, nodes-lent, none_read, some_read, need-asked, gaps_asked, records-read, is_none, argument_refused, store-there, priced, given_back, keep-ready, need-refused, insert-ready, kept_whole}
 use Rattle.call_bring.proofs.store_insert.Goals as goal
 

@@ -5,7 +5,6 @@ use Rattle.shape_state.specs.Lent.{ranges_of}
 use Rattle.shape_answer.specs.Lists.{out_list}
 use Rattle.pool_part.specs.Parts.{mid_ranges, back_ranges}
 use Rattle.pool_part.proofs.Bounds.{rec_fits, rec_end-fits, rec_fits8, rec_fits4, rec_ends, mark_fits, mark_end-fits, mark_fits8, mark_ends}
-use Rattle.pool_part.proofs.Parts.{part-kept}
 use Rattle.call_expire.proofs.Laws.{pool_part, pool_given}
 use Rattle.call_expire.proofs.expire_pools.Goals as goal
 

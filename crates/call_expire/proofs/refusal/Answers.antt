@@ -1,5 +1,4 @@
 -- `call_expire::refusal` meets its contract: each test gives its number where those before it fail. Assumes nothing.
-use borrow.Author.Rules.{rules}
 use Rattle.call_expire.proofs.Laws.{refused-store, refused-time, refused_seconds, accepted}
 use Rattle.std.proofs.Common.{ap}
 use mathlib.Core.Bool.{not}

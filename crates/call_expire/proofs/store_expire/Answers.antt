@@ -1,9 +1,6 @@
 -- `call_expire::store_expire` meets its contract: a refusal's number is the definition's, and where there is none the law `call-done` has what the expiry leaves. Assumes nothing.
-use Prim.Native.Nat.{ℕ}
-use borrow.Author.Rules.{rules}
 use mathlib.Core.Path.{refl}
-use Rattle.model.specs.State.{Tree, Ranges, Pins, State, nodes_in, used_in}
-use Rattle.model.specs.Refusals.{OutList}
+use Rattle.model.specs.State.{nodes_in, used_in}
 use Rattle.shape_state.specs.Lent.{tree_of, ranges_of, pins_of, state_of}
 use Rattle.shape_answer.specs.Lists.{out_list}
 use Rattle.call_expire.proofs.Laws.{call-refused, book_in_lem, pool_in, call-done}

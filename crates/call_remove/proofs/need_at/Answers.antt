@@ -1,7 +1,6 @@
 -- `call_remove::need_at` meets its contract: the store's part of each column is lent on. Assumes nothing.
 use Prim.Native.Nat.{◌*◌}
 use native.Mathlib.Nat.{add-sub_cancel_left}
-use borrow.Author.Rules.{rules}
 use Rattle.call_remove.proofs.Laws.{ordered_part, needs-part}
 use Rattle.call_remove.proofs.need_at.Goals as goal
 

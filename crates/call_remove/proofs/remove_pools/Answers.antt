@@ -4,7 +4,6 @@ use native.Mathlib.Nat.{le-add_right, add-sub_cancel_left}
 use Rattle.shape_state.specs.Lent.{ranges_of}
 use Rattle.pool_part.specs.Parts.{mid_ranges, back_ranges}
 use Rattle.pool_part.proofs.Bounds.{rec_fits, rec_end-fits, rec_fits8, rec_fits4, rec_ends, mark_fits, mark_end-fits, mark_fits8, mark_ends}
-use Rattle.pool_part.proofs.Parts.{part-kept}
 use Rattle.call_remove.proofs.Laws.{pool_sized, pool_span, pool_fits, pool_freed}
 use Rattle.call_remove.proofs.remove_pools.Goals as goal
 

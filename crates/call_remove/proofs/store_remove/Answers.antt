@@ -1,8 +1,6 @@
 -- `call_remove::store_remove` meets its contract: a refusal's number is the definition's, and where there is none the law `call-done` has what the removal leaves. Assumes nothing.
-use Prim.Native.Nat.{ℕ}
-use mathlib.Core.Path.{refl, ◌∙◌}
 use native.Mathlib.Omega.{arith}
-use Rattle.model.specs.State.{Tree, Ranges, Pins, State, nodes_in, used_in}
+use Rattle.model.specs.State.{nodes_in, used_in}
 use Rattle.shape_state.specs.Lent.{tree_of, ranges_of, pins_of, state_of}
 use Rattle.call_remove.proofs.Laws.{asked, seen, refused-store, call-refused, pool_in, freed_in, held-most, next_fits, call-done}
 use Rattle.call_remove.proofs.store_remove.Goals as goal

@@ -1,10 +1,7 @@
 -- `call_tally_bring::near_insert` meets its contract: it is the plain call, with its sums added or put back. Assumes nothing.
-use Prim.Native.Nat.{ℕ}
-use mathlib.Core.Path.{refl, sym, ◌∙◌}
-use mathlib.Core.List.{List}
+use mathlib.Core.Path.{sym, ◌∙◌}
 use native.Mathlib.Omega.{arith}
-use Rattle.model.specs.State.{Tree, Ranges, Pins, State, nodes_in, used_in}
-use Rattle.model.specs.Refusals.{OutList, OutFits}
+use Rattle.model.specs.State.{nodes_in, used_in}
 use Rattle.shape_state.specs.Lent.{tree_of, ranges_of, pins_of, state_of}
 use Rattle.shape_answer.specs.Lists.{out_list}
 use Rattle.theory_sums.proofs.Counted.{store_low, book-lent, part-lent}

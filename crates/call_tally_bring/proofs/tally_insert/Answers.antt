@@ -1,17 +1,10 @@
 -- `call_tally_bring::tally_insert` meets its contract: 2, the call near the limit, or the plain call with its sums added. Assumes nothing.
-use Prim.Native.Nat.{ℕ}
-use mathlib.Core.Path.{◌≡◌, refl}
-use mathlib.Core.Bool.{false}
-use mathlib.Core.List.{List}
 use native.Mathlib.Omega.{arith}
-use Rattle.model.specs.State.{Tree, Ranges, Pins, State, nodes_in, used_in}
-use Rattle.model.specs.Refusals.{OutList, OutFits}
-use Rattle.model_sums.specs.Sums.{passes}
+use Rattle.model.specs.State.{nodes_in, used_in}
 use Rattle.shape_state.specs.Lent.{tree_of, ranges_of, pins_of, state_of}
 use Rattle.shape_answer.specs.Lists.{out_list}
 use Rattle.theory_refuse.proofs.Says.{says_yes}
 use Rattle.theory_sums.proofs.Counted.{store_low, book-lent}
-use Rattle.pool_sums.specs.Amounts.{bring_more}
 use Rattle.pool_sums.proofs.Listed.{outs_fit}
 use Rattle.call_tally_bring.proofs.Bring.{brought_nowhere, brought-refused, brought-listed, brought_far, brought-made}
 use Rattle.std.proofs.Common.{ap}

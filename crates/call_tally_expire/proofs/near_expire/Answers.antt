@@ -1,12 +1,8 @@
 -- `call_tally_expire::near_expire` meets its contract: the plain call made and, where a sum would pass the limit, put back. The laws of `Expire` have each case.
 -- Assumes nothing.
-use Prim.Native.Nat.{ℕ}
-use mathlib.Core.Path.{refl, sym, ◌∙◌}
-use mathlib.Core.List.{List}
+use mathlib.Core.Path.{sym, ◌∙◌}
 use native.Mathlib.Omega.{arith}
-use Rattle.model.specs.State.{Tree, Ranges, Pins, State, nodes_in, used_in}
-use Rattle.model.specs.Sound.{Sound}
-use Rattle.model.specs.Refusals.{OutList, OutFits}
+use Rattle.model.specs.State.{nodes_in, used_in}
 use Rattle.shape_state.specs.Lent.{tree_of, ranges_of, pins_of, state_of}
 use Rattle.shape_answer.specs.Lists.{out_list}
 use Rattle.theory_sums.proofs.Counted.{store_low, book-lent, part-lent}

@@ -1,11 +1,7 @@
 -- `call_tally_expire::tally_expire` meets its contract: 2, or far from the limit the plain call with its sums added, or what the call near the limit answers. The laws of
 -- `Expire` have each case. Assumes nothing.
-use Prim.Native.Nat.{ℕ}
-use mathlib.Core.Path.{refl}
-use mathlib.Core.List.{List}
 use native.Mathlib.Omega.{arith}
-use Rattle.model.specs.State.{Tree, Ranges, Pins, State, nodes_in, used_in}
-use Rattle.model.specs.Refusals.{OutList, OutFits}
+use Rattle.model.specs.State.{nodes_in, used_in}
 use Rattle.shape_state.specs.Lent.{tree_of, ranges_of, pins_of, state_of}
 use Rattle.shape_answer.specs.Lists.{out_list}
 use Rattle.theory_refuse.proofs.Says.{says_yes}

@@ -1,8 +1,7 @@
 -- `call_tally_remove::near_remove` meets its contract: each end of the plain call by its law. Assumes nothing.
-use Prim.Native.Nat.{ℕ}
-use mathlib.Core.Path.{refl, sym, ◌∙◌}
+use mathlib.Core.Path.{sym, ◌∙◌}
 use native.Mathlib.Omega.{arith}
-use Rattle.model.specs.State.{Tree, Ranges, Pins, State, nodes_in, used_in}
+use Rattle.model.specs.State.{nodes_in, used_in}
 use Rattle.shape_state.specs.Lent.{tree_of, ranges_of, pins_of, state_of}
 use Rattle.theory_sums.proofs.Counted.{store_low, book-lent, part-lent}
 use Rattle.call_tally_remove.proofs.Remove.{removed-refused, removed-made, removed-sound, removed-late}

@@ -1,8 +1,6 @@
 -- `call_tally_remove::tally_remove` meets its contract: 2, the call near the limit, or the plain call far from it. Assumes nothing.
-use Prim.Native.Nat.{ℕ}
-use mathlib.Core.Path.{refl}
 use native.Mathlib.Omega.{arith}
-use Rattle.model.specs.State.{Tree, Ranges, Pins, State, nodes_in, used_in}
+use Rattle.model.specs.State.{nodes_in, used_in}
 use Rattle.shape_state.specs.Lent.{tree_of, ranges_of, pins_of, state_of}
 use Rattle.theory_refuse.proofs.Says.{says_yes}
 use Rattle.theory_sums.proofs.Counted.{store_low}

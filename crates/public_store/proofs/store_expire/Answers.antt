@@ -1,5 +1,4 @@
 -- `public_store::store_expire` meets its contract: refused by 1 or 14, or what the inner call answers. Assumes nothing.
-use mathlib.Core.Path.{refl}
 use Rattle.theory_refuse.proofs.Says.{says_yes, says_no}
 use Rattle.shape_answer.specs.Lists.{out_list}
 use Rattle.theory_outcome.proofs.Gates.{store_expire-unsound, store_expire-short}

@@ -1,5 +1,4 @@
 -- `rule_bring::bring_part` meets its contract: the part is filled, then trimmed, and the laws of `PartReady` make the two results one.
-use mathlib.Core.Path.{◌∙◌}
 use Rattle.model.specs.Store.{pins}
 use Rattle.shape_state.specs.Lent.{ranges_of, pins_of}
 use Rattle.shape_answer.specs.Lists.{out_list}

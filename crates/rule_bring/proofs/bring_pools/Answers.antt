@@ -5,7 +5,6 @@ use Rattle.shape_state.specs.Lent.{ranges_of}
 use Rattle.shape_answer.specs.Lists.{out_list}
 use Rattle.pool_part.specs.Parts.{mid, mid_ranges, back_ranges, mid_pins}
 use Rattle.pool_part.proofs.Bounds.{rec_fits, rec_end-fits, rec_fits8, rec_fits4, rec_ends, mark_fits, mark_end-fits, mark_fits8, mark_ends, pin-fits, pin-end-fits, pin_fits8, pin-ends}
-use Rattle.pool_part.proofs.Parts.{part-kept}
 use Rattle.rule_bring.proofs.Laws.{pool_part, pool_pins, pool_given}
 use Rattle.rule_bring.proofs.bring_pools.Goals as goal
 

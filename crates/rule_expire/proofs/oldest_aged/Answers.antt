@@ -3,7 +3,6 @@ use mathlib.Core.List.{[]}
 use native.Mathlib.Omega.{arith}
 use Rattle.shape_state.specs.Lent.{ranges_of}
 use Rattle.rule_expire.proofs.Laws.{place-less, aged-none, aged_yes, aged_no}
-use borrow.Author.Rules.{rules}
 use Rattle.rule_expire.proofs.oldest_aged.Goals as goal
 
 pub returns-in_default : goal.returns-in_default

@@ -1,12 +1,10 @@
 -- `rule_expire::store_expire` meets its contract, by the laws of `Expiring`.
-use mathlib.Core.Path.{sym, ◌∙◌}
 use native.Mathlib.Omega.{arith}
 use Rattle.shape_state.specs.Lent.{ranges_of}
 use Rattle.shape_answer.specs.Lists.{out_list}
 use Rattle.pool_range.proofs.Records.{within}
 use Rattle.rule_trim.proofs.Trim.{going-few, going-reach, going-tables, long-fits}
-use Rattle.rule_expire.proofs.Laws.{Expiring, expire-start, expire-end, expire-place, expire-room, expire-taken, expire-less, expire-turn}
-use borrow.Author.Rules.{rules}
+use Rattle.rule_expire.proofs.Laws.{expire-start, expire-end, expire-place, expire-room, expire-taken, expire-less, expire-turn}
 use Rattle.rule_expire.proofs.store_expire.Goals as goal
 
 pub loop-i-init : goal.loop-i-init

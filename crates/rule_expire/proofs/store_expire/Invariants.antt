@@ -1,11 +1,6 @@
-use mathlib.Core.Path.{sym, ◌∙◌}
-use native.Mathlib.Omega.{arith}
 use Rattle.shape_state.specs.Lent.{ranges_of}
 use Rattle.shape_answer.specs.Lists.{out_list}
-use Rattle.pool_range.proofs.Records.{within}
-use Rattle.rule_trim.proofs.Trim.{going-few, going-reach, going-tables, long-fits}
-use Rattle.rule_expire.proofs.Laws.{Expiring, expire-start, expire-end, expire-place, expire-room, expire-taken, expire-less, expire-turn}
-use borrow.Author.Rules.{rules}
+use Rattle.rule_expire.proofs.Laws.{Expiring}
 use Rattle.rule_expire.proofs.store_expire.Given as goal
 
 abbrev pub invariant-loop-i : goal.invariant-loop-i
