@@ -1,0 +1,15 @@
+-- `rust_store::scorebeetle_unpin_source` meets its contract: the known call's equation or the public one's, its answer told as a number. Assumes nothing.
+use Rattle.shape_answer.specs.Answers.{plain_of}
+use Rattle.rust_values.proofs.Telling.{plainly, unpin-numbered}
+use Rattle.rust_store.proofs.scorebeetle_unpin_source.Goals as goal
+
+pub unpin_source-r-requires : goal.unpin_source-r-requires
+unpin_source-r-requires c = c.requires c.if-known.true
+
+pub returns-then-known : goal.returns-then-known
+returns-then-known c = let k = c.unpin_source-r in
+    plainly (plain_of k.result) k.ensures (unpin-numbered _ _ _) c.plain.ensures
+
+pub returns : goal.returns
+returns c = let k = c.unpin_source-r-2 in
+    plainly (plain_of k.result) k.ensures (unpin-numbered _ _ _) c.plain-2.ensures
