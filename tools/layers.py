@@ -31,13 +31,14 @@ def crates_in(name):
 
 def lines_of(crate):
     """(path, line number, line) of each line of its code, specs and proofs."""
-    for folder, _, files in sorted(os.walk(f'crates/{crate}')):
-        for file in sorted(files):
-            if file.endswith(('.rt', '.antt')):
-                path = os.path.join(folder, file)
-                with open(path, encoding='utf-8') as f:
-                    for number, line in enumerate(f, 1):
-                        yield path, number, line
+    for part in ('src', 'specs', 'proofs'):
+        for folder, _, files in sorted(os.walk(f'crates/{crate}/{part}')):
+            for file in sorted(files):
+                if file.endswith(('.rt', '.antt')):
+                    path = os.path.join(folder, file)
+                    with open(path, encoding='utf-8') as f:
+                        for number, line in enumerate(f, 1):
+                            yield path, number, line
 
 
 def layer(crate):
