@@ -1,5 +1,4 @@
 -- `call_lookup::lookup` meets its contract: refused by 2 or 3, or what the walk along the resolved path answers. Assumes nothing.
-use native.Mathlib.Omega.{arith}
 use Rattle.model.specs.State.{used_in}
 use Rattle.shape_answer.specs.Lists.{path_list_of, tier_list_of, lists_of}
 use Rattle.shape_answer.specs.Answers.{state_from}
@@ -8,9 +7,6 @@ use Rattle.rule_resolve.proofs.Sound.{sound_walkable}
 use Rattle.call_lookup.proofs.Records.{records-each}
 use Rattle.call_lookup.proofs.Outcomes.{no_tier-is, many_hashes_is, many-tiers-is, looked-is, seen-is}
 use Rattle.call_lookup.proofs.lookup.Goals as goal
-
-pub bounds-books-2 : goal.bounds-books-2
-bounds-books-2 c = omega (arith, c.requires.0.lent.books)
 
 pub returns-then-no_tier : goal.returns-then-no_tier
 returns-then-no_tier c =
@@ -36,18 +32,12 @@ returns-then-many_tiers c =
     let lent = lists_of (path_list_of c.args.path_node.now c.args.path_len.now) (tier_list_of c.args.span_tier.now c.args.span_node.now c.args.span_start.now c.args.span_end.now) in
     many-tiers-is state lent c.args.tiers.now c.args.hashes.now c.requires.0 c.requires.1 c.requires.2 (says_false c.if-no_tier.false c.no_tier.ensures) c.if-hashes-gt1024.false (says_true c.if-many_tiers.true c.many_tiers.ensures)
 
-pub bounds-books-0 : goal.bounds-books-0
-bounds-books-0 c = omega (arith, c.requires.0.lent.books)
-
 pub resolve-m-requires : goal.resolve-m-requires
 resolve-m-requires c =
     let state = state_from c.args.parent.now c.args.depth.now c.args.len.now c.args.run.now c.args.words.now c.args.node.now c.args.start.now
     c.args.end.now c.args.id.now c.args.stamp.now c.args.touched.now c.args.write.now c.args.pin_node.now c.args.pin_start.now
     c.args.pin_end.now c.args.pin_count.now c.args.marks.now c.args.bytes.now c.args.books.now in
     record { by_index = (c.args.depth.now, used_in c.args.books.now, sound_walkable state c.requires.0); path_fits = c.requires.1 }
-
-pub records_of-records-requires : goal.records_of-records-requires
-records_of-records-requires c = c.requires.0.lent.books
 
 pub lookup_resolved-w-requires : goal.lookup_resolved-w-requires
 lookup_resolved-w-requires c =

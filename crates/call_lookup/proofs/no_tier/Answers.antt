@@ -8,9 +8,6 @@ use Rattle.call_lookup.proofs.no_tier.Goals as goal
 pub loop-i-init : goal.loop-i-init
 loop-i-init c = (omega arith, λ k low high. absurd (omega arith))
 
-pub returns-then-stores-tiers : goal.returns-then-stores-tiers
-returns-then-stores-tiers c = (c.loop-i.i, c.loop-i-test.true, c.if-stores-tiers.true)
-
 pub loop-i-preserved : goal.loop-i-preserved
 loop-i-preserved c = (omega arith, λ k low high. below_more (λ k. at c.args.tiers.now k < c.args.stores) c.loop-i.i (λ j less. c.loop-i.invariant.1 j (omega arith) less) c.if-stores-tiers.false k high)
 

@@ -9,17 +9,11 @@ use Rattle.std.proofs.Common.{ap}
 use mathlib.Core.Bool.{not}
 use Rattle.call_pin.proofs.pin_source.Goals as goal
 
-pub bounds-books-2 : goal.bounds-books-2
-bounds-books-2 c = omega (arith, c.requires.lent.books)
-
 pub returns-then-stores-s : goal.returns-then-stores-s
 returns-then-stores-s c =
     let tree = tree_of c.args.parent.now c.args.depth.now c.args.len.now c.args.run.now c.args.words.now in
     let books = c.args.books.now in
     pin_no_store (tree (nodes_in books) (used_in books)) _ _ _ _ _ c.args.s c.args.sp c.requires c.if-stores-s.true
-
-pub bounds-books-0 : goal.bounds-books-0
-bounds-books-0 c = omega (arith, c.requires.lent.books)
 
 pub span_in-requires : goal.span_in-requires
 span_in-requires c = nodes_in_lem c.requires

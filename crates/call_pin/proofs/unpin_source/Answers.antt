@@ -1,7 +1,6 @@
 -- `call_pin::unpin_source` meets its contract: each way out is one law. Assumes nothing.
 use mathlib.Core.Path.{refl}
 use native.Mathlib.Nat.{le_of_lt}
-use native.Mathlib.Omega.{arith}
 use Rattle.model.specs.State.{nodes_in, used_in}
 use Rattle.shape_state.specs.Lent.{tree_of, pins_of}
 use Rattle.call_pin.proofs.Calls.{in_order, nodes_in_lem, in_books, base_fits, unpin_no_store, unpin-bad-span, to_place, no_entry_lem, to_unpin, off-fits, unpin-ends}
@@ -9,17 +8,11 @@ use Rattle.std.proofs.Common.{ap}
 use mathlib.Core.Bool.{not}
 use Rattle.call_pin.proofs.unpin_source.Goals as goal
 
-pub bounds-books-2 : goal.bounds-books-2
-bounds-books-2 c = omega (arith, c.requires.lent.books)
-
 pub returns-then-stores-s : goal.returns-then-stores-s
 returns-then-stores-s c =
     let tree = tree_of c.args.parent.now c.args.depth.now c.args.len.now c.args.run.now c.args.words.now in
     let books = c.args.books.now in
     unpin_no_store (tree (nodes_in books) (used_in books)) _ _ _ _ _ c.args.s c.args.sp c.requires c.if-stores-s.true
-
-pub bounds-books-0 : goal.bounds-books-0
-bounds-books-0 c = omega (arith, c.requires.lent.books)
 
 pub span_in-requires : goal.span_in-requires
 span_in-requires c = nodes_in_lem c.requires

@@ -7,21 +7,9 @@ use Rattle.call_set_up.proofs.fresh_books.Goals as goal
 pub loop-s-init : goal.loop-s-init
 loop-s-init c = filled_none c.args.capacity.now c.args.refreshes.now c.args.books.now
 
-pub book_at-b-requires : goal.book_at-b-requires
-book_at-b-requires c = c.requires.1
-
-pub put_book-requires : goal.put_book-requires
-put_book-requires c = (c.loop-s-test.true, omega (arith, c.requires.0, c.loop-s.invariant.long))
-
 pub loop-s-preserved : goal.loop-s-preserved
 loop-s-preserved c = filled_more c.args.capacity.now c.args.refreshes.now c.loop-s.invariant c.loop-s-test.true c.book_at-b.ensures c.put_book.ensures
     c.put_book.auto.books
-
-pub put_counts-requires : goal.put_counts-requires
-put_counts-requires c = omega (arith, c.requires.0, c.loop-s.invariant.long)
-
-pub bounds-books-2 : goal.bounds-books-2
-bounds-books-2 c = omega (arith, c.requires.0, c.loop-s.invariant.long, c.put_counts.auto.books)
 
 pub put_next-requires : goal.put_next-requires
 put_next-requires c = rw length-set (omega (arith, c.requires.0, c.loop-s.invariant.long, c.put_counts.auto.books))

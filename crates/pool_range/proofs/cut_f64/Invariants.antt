@@ -1,7 +1,5 @@
-use native.Mathlib.Omega.{arith}
-use Rattle.pool_range.proofs.Columns.{Closing, close_start, close_turn, close_end}
+use Rattle.pool_range.proofs.Columns.{Closing}
 use Prim.Native.Nat.{◌-◌}
-use lib.ListN.{length-set}
 use Rattle.pool_range.proofs.cut_f64.Given as goal
 
 abbrev pub invariant-loop-i : goal.invariant-loop-i

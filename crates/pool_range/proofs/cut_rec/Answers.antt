@@ -32,27 +32,6 @@ pub cut_u32-requires : goal.cut_u32-requires
 cut_u32-requires c = let p = c.requires in
     (p.0, within p.1 p.2.write)
 
-pub shape_of-node : goal.shape_of-node
-shape_of-node c = c.cut_usize.auto.c
-
-pub shape_of-start : goal.shape_of-start
-shape_of-start c = c.cut_usize-2.auto.c
-
-pub shape_of-end : goal.shape_of-end
-shape_of-end c = c.cut_usize-3.auto.c
-
-pub shape_of-id : goal.shape_of-id
-shape_of-id c = c.cut_u64.auto.c
-
-pub shape_of-stamp : goal.shape_of-stamp
-shape_of-stamp c = c.cut_u64-2.auto.c
-
-pub shape_of-touched : goal.shape_of-touched
-shape_of-touched c = c.cut_f64.auto.c
-
-pub shape_of-write : goal.shape_of-write
-shape_of-write c = c.cut_u32.auto.c
-
 pub returns : goal.returns
 unfolding cut_range of_bits of_fields
 returns c = ranges_eq

@@ -1,7 +1,5 @@
 -- `pool_range::put_f64` meets its contract, by the law of `Opening`.
-use native.Mathlib.Omega.{arith}
-use lib.ListN.{length-set}
-use Rattle.pool_range.proofs.Columns.{Opening, open_start, open_turn, open_end}
+use Rattle.pool_range.proofs.Columns.{open_start, open_turn, open_end}
 use Rattle.pool_range.proofs.put_f64.Goals as goal
 
 pub loop-i-init : goal.loop-i-init
@@ -9,9 +7,6 @@ loop-i-init c = open_start _ _ _ c.requires.0 c.requires.1
 
 pub loop-i-preserved : goal.loop-i-preserved
 loop-i-preserved c = open_turn _ _ _ _ _ _ c.loop-i.invariant c.loop-i-test.true
-
-pub shape_of-c : goal.shape_of-c
-shape_of-c c = simp length-set c.loop-i.invariant.long
 
 pub returns : goal.returns
 returns c = open_end _ _ _ _ _ _ c.loop-i.invariant c.loop-i-test.false

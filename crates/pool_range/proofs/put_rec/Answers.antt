@@ -31,27 +31,6 @@ pub put_u32-requires : goal.put_u32-requires
 put_u32-requires c = let p = c.requires in
     (p.0, below p.1 p.2.write)
 
-pub shape_of-node : goal.shape_of-node
-shape_of-node c = c.put_usize.auto.c
-
-pub shape_of-start : goal.shape_of-start
-shape_of-start c = c.put_usize-2.auto.c
-
-pub shape_of-end : goal.shape_of-end
-shape_of-end c = c.put_usize-3.auto.c
-
-pub shape_of-id : goal.shape_of-id
-shape_of-id c = c.put_u64.auto.c
-
-pub shape_of-stamp : goal.shape_of-stamp
-shape_of-stamp c = c.put_u64-2.auto.c
-
-pub shape_of-touched : goal.shape_of-touched
-shape_of-touched c = c.put_f64.auto.c
-
-pub shape_of-write : goal.shape_of-write
-shape_of-write c = c.put_u32.auto.c
-
 pub returns : goal.returns
 unfolding put_range
 returns c = ranges_eq

@@ -1,6 +1,4 @@
-use native.Mathlib.Omega.{arith}
-use lib.ListN.{length-set}
-use Rattle.pool_range.proofs.Columns.{Opening, open_start, open_turn, open_end}
+use Rattle.pool_range.proofs.Columns.{Opening}
 use Rattle.pool_range.proofs.put_u32.Given as goal
 
 abbrev pub invariant-loop-i : goal.invariant-loop-i

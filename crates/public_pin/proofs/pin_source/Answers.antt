@@ -8,6 +8,3 @@ returns-then-not-sound_state c = pin-unsound _ (says_false c.if-not-sound_state.
 
 pub pin_source-requires : goal.pin_source-requires
 pin_source-requires c = says_true c.if-not-sound_state.false c.sound_state.ensures
-
-pub returns : goal.returns
-returns c = c.pin_source.ensures

@@ -16,6 +16,3 @@ returns-then-not-tiers_fit c = lookup-short-spans _ (says_true c.if-not-sound_st
 
 pub lookup-requires : goal.lookup-requires
 lookup-requires c = (says_true c.if-not-sound_state.false c.sound_state.ensures, says_true c.if-not-path_fits.false c.path_fits.ensures, says_true c.if-not-tiers_fit.false c.tiers_fit.ensures)
-
-pub returns : goal.returns
-returns c = c.lookup.ensures

@@ -12,6 +12,3 @@ returns-then-not-path_fits c = resolve-short _ (says_true c.if-not-sound_state.f
 
 pub resolve-requires : goal.resolve-requires
 resolve-requires c = ((says_true c.if-not-sound_state.false c.sound_state.ensures), (says_true c.if-not-path_fits.false c.path_fits.ensures))
-
-pub returns : goal.returns
-returns c = c.resolve.ensures

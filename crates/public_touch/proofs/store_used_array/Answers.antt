@@ -5,9 +5,6 @@ use lib.ListN.{length}
 use Rattle.public_touch.proofs.Array.{take_within}
 use Rattle.public_touch.proofs.store_used_array.Goals as goal
 
-pub first_used-requires : goal.first_used-requires
-first_used-requires c = omega (arith, c.within-n.ensures)
-
 pub returns : goal.returns
 returns c =
     let long : length c.args.spans ≡ 65 = omega arith in

@@ -9,15 +9,6 @@ use Rattle.rule_resolve.proofs.child.Goals as goal
 pub loop-k-init : goal.loop-k-init
 loop-k-init c = λ depth len used. scan_start _ _ _
 
-pub bounds-parent-k : goal.bounds-parent-k
-bounds-parent-k c = let p = c.requires in omega (arith, p.parent)
-
-pub pass_others-k-requires : goal.pass_others-k-requires
-pass_others-k-requires c = let p = c.requires in (omega arith, p.parent)
-
-pub loop-k-smaller-then-parent-k : goal.loop-k-smaller-then-parent-k
-loop-k-smaller-then-parent-k c = let e = c.pass_others-k.ensures in omega (arith, e.0, e.1)
-
 pub loop-k-preserved-then-parent-k : goal.loop-k-preserved-then-parent-k
 loop-k-preserved-then-parent-k c = λ depth len used.
     let e = c.pass_others-k.ensures in

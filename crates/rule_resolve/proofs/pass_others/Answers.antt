@@ -6,9 +6,6 @@ use Rattle.rule_resolve.proofs.pass_others.Goals as goal
 pub loop-k-init : goal.loop-k-init
 loop-k-init c = (omega arith, omega arith, others-none _ _ _)
 
-pub returns-then-parent-k : goal.returns-then-parent-k
-returns-then-parent-k c = c.loop-k.invariant
-
 pub returns-then-parent-k-2 : goal.returns-then-parent-k-2
 returns-then-parent-k-2 c = (omega arith, omega arith, others-one c.loop-k.invariant.2 c.if-parent-k.false)
 
@@ -20,6 +17,3 @@ returns-then-parent-k-4 c = (omega arith, omega arith, others_three c.loop-k.inv
 
 pub loop-k-preserved : goal.loop-k-preserved
 loop-k-preserved c = (omega arith, omega arith, others-four c.loop-k.invariant.2 c.if-parent-k.false c.if-parent-k-2.false c.if-parent-k-3.false c.if-parent-k-4.false)
-
-pub returns : goal.returns
-returns c = c.loop-k.invariant

@@ -12,10 +12,6 @@ pub returns-then-id-j : goal.returns-then-id-j
 unfolding Fresh
 returns-then-id-j c = λ f. let w = c.loop-link in f (w.link - 1) (omega (arith, w.invariant.hi)) (w.invariant.here (w.link - 1) (omega arith)).0 c.if-id-j.true
 
-pub loop-link-smaller : goal.loop-link-smaller
-loop-link-smaller c = let w = c.loop-link in
-    omega (arith, c.requires.2.down (w.link - 1) (omega (arith, w.invariant.hi)) (w.invariant.here (w.link - 1) (omega arith)).0)
-
 pub loop-link-preserved : goal.loop-link-preserved
 loop-link-preserved c = walk_step c.requires.2 c.loop-link.invariant (λ k h. rw h) c.loop-link-test.true c.if-id-j.false
 

@@ -14,9 +14,6 @@ loop-i-init c = met_none 1024 _ _ _
 pub loop-i-preserved-then-records-k : goal.loop-i-preserved-then-records-k
 loop-i-preserved-then-records-k c = met_skip c.loop-i.invariant (dead-by c.args.books.now c.loop-i.i (omega (arith, c.requires.1)) c.records_of-records.ensures c.if-records-k.true)
 
-pub bounds-last-bucket : goal.bounds-last-bucket
-bounds-last-bucket c = omega (arith, c.loop-i.invariant.nlast)
-
 pub slice_bounds-fresh-end : goal.slice_bounds-fresh-end
 slice_bounds-fresh-end c = sym c.loop-i.invariant.nprev
 
@@ -28,12 +25,6 @@ fresh-requires c = let m = c.loop-i.invariant in
 pub returns-then-not-fresh : goal.returns-then-not-fresh
 unfolding Fresh Differ
 returns-then-not-fresh c = met_miss c.loop-i.invariant c.loop-i-test.true (live_by c.args.books.now c.loop-i.i (omega (arith, c.requires.1)) c.records_of-records.ensures c.if-records-k.false) (says_false c.if-not-fresh.true c.fresh.ensures)
-
-pub bounds-prev-k : goal.bounds-prev-k
-bounds-prev-k c = omega (arith, c.loop-i.invariant.nprev)
-
-pub bounds-last-bucket-in-loop-i : goal.bounds-last-bucket-in-loop-i
-bounds-last-bucket-in-loop-i c = omega (arith, c.loop-i.invariant.nlast)
 
 pub loop-i-preserved : goal.loop-i-preserved
 unfolding Fresh

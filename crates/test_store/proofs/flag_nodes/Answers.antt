@@ -4,9 +4,6 @@ use Rattle.test_store.proofs.Marks.{flags_more}
 use native.Mathlib.Omega.{arith}
 use Rattle.test_store.proofs.flag_nodes.Goals as goal
 
-pub loop-i-init : goal.loop-i-init
-loop-i-init c = (omega arith, omega arith, c.requires.4)
-
 pub offset_bounds-flags-v : goal.offset_bounds-flags-v
 offset_bounds-flags-v c = let h = c.requires.3 c.loop-i.i c.loop-i.invariant.0 c.loop-i-test.true in omega arith
 

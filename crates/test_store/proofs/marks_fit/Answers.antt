@@ -12,10 +12,6 @@ flag_nodes-requires c = let p = c.requires in
 pub loop-v-init : goal.loop-v-init
 loop-v-init c = (omega arith, each_none _ 0, c.flag_nodes.ensures)
 
-pub mark_fits-requires : goal.mark_fits-requires
-mark_fits-requires c = let p = c.requires in
-    (omega arith, omega arith, omega arith, omega arith, p.7, c.loop-v.invariant.2)
-
 pub returns-then-not-mark_fits : goal.returns-then-not-mark_fits
 returns-then-not-mark_fits c = each_not c.loop-v.invariant.0 c.loop-v-test.true (says_false c.if-not-mark_fits.true c.mark_fits.ensures)
 

@@ -4,17 +4,11 @@ use Rattle.test_store.proofs.Ends.{ends_by}
 use native.Mathlib.Omega.{arith}
 use Rattle.test_store.proofs.pins_fit.Goals as goal
 
-pub all_inside-requires : goal.all_inside-requires
-all_inside-requires c = let p = c.requires in (p.2, omega arith, omega arith, omega arith)
-
 pub returns-then-not-all_inside : goal.returns-then-not-all_inside
 returns-then-not-all_inside c = λ h. (says_false c.if-not-all_inside.true c.all_inside.ensures) h.inside
 
 pub returns-then-not-all_counted : goal.returns-then-not-all_counted
 returns-then-not-all_counted c = λ h. (says_false c.if-not-all_counted.true c.all_counted.ensures) h.counted
-
-pub all_pins_stand-requires : goal.all_pins_stand-requires
-all_pins_stand-requires c = (omega arith, omega arith, omega arith, omega arith, omega arith)
 
 pub returns-then-not-all_pins_stand : goal.returns-then-not-all_pins_stand
 returns-then-not-all_pins_stand c = λ h. (says_false c.if-not-all_pins_stand.true c.all_pins_stand.ensures) h.stand

@@ -4,9 +4,6 @@ use Rattle.test_store.proofs.Ends.{filled, ends_by}
 use native.Mathlib.Omega.{arith}
 use Rattle.test_store.proofs.records_fit.Goals as goal
 
-pub all_inside-requires : goal.all_inside-requires
-all_inside-requires c = let p = c.requires in (p.2, omega arith, omega arith, omega arith)
-
 pub returns-then-not-all_inside : goal.returns-then-not-all_inside
 returns-then-not-all_inside c = λ h. (says_false c.if-not-all_inside.true c.all_inside.ensures) h.inside
 
@@ -15,9 +12,6 @@ all_stand-requires c = (omega arith, omega arith, omega arith, omega arith, omeg
 
 pub returns-then-not-all_stand : goal.returns-then-not-all_stand
 returns-then-not-all_stand c = λ h. (says_false c.if-not-all_stand.true c.all_stand.ensures) h.stand
-
-pub all_numbered-requires : goal.all_numbered-requires
-all_numbered-requires c = (omega arith, omega arith)
 
 pub returns-then-not-all_numbered : goal.returns-then-not-all_numbered
 returns-then-not-all_numbered c = λ h. (says_false c.if-not-all_numbered.true c.all_numbered.ensures) h.numbered

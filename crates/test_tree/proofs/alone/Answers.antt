@@ -16,9 +16,6 @@ pub returns-then-twins : goal.returns-then-twins
 unfolding Alone
 returns-then-twins c = λ f. let w = c.loop-link in f (w.link - 1) (omega (arith, w.invariant.hi)) (w.invariant.here (w.link - 1) (omega arith)).0 (says_true c.if-twins.true c.twins.ensures)
 
-pub loop-link-smaller : goal.loop-link-smaller
-loop-link-smaller c = let w = c.loop-link in omega (arith, c.requires.6.down (w.link - 1) (omega (arith, w.invariant.hi)) (w.invariant.here (w.link - 1) (omega arith)).0)
-
 pub loop-link-preserved : goal.loop-link-preserved
 loop-link-preserved c = walk_step c.requires.6 c.loop-link.invariant (λ k h. rw (h.one_parent, h.one_hash)) c.loop-link-test.true (says_false c.if-twins.false c.twins.ensures)
 

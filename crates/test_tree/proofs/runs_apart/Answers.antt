@@ -8,9 +8,6 @@ use Rattle.test_tree.proofs.runs_apart.Goals as goal
 pub loop-i-init : goal.loop-i-init
 loop-i-init c = (omega arith, owned_none _ _)
 
-pub overflow_add-to : goal.overflow_add-to
-overflow_add-to c = omega (arith, c.requires.3 c.loop-i.i c.loop-i.invariant.0 c.loop-i-test.true)
-
 pub slice_bounds-claim-end : goal.slice_bounds-claim-end
 slice_bounds-claim-end c = sym c.loop-i.invariant.1.long
 

@@ -23,9 +23,6 @@ loop-i-init c = (omega arith, met_skip (met_none 256 _ _ _) (λ u. omega arith))
 pub offset_bounds-words-f : goal.offset_bounds-words-f
 offset_bounds-words-f c = let h = c.requires.3 c.loop-i.i c.loop-i-test.true c.loop-i.invariant.0 in search rules
 
-pub bounds-words-f : goal.bounds-words-f
-bounds-words-f c = c.requires.3 c.loop-i.i c.loop-i-test.true c.loop-i.invariant.0
-
 pub offset_bounds-last-b : goal.offset_bounds-last-b
 offset_bounds-last-b c = let h = below _ _ c.bucket-b.ensures in search rules
 
