@@ -8,3 +8,7 @@ returns-then-not-sound_state c = unpin-unsound _ (says_false c.if-not-sound_stat
 
 pub unpin_source-requires : goal.unpin_source-requires
 unpin_source-requires c = says_true c.if-not-sound_state.false c.sound_state.ensures
+
+-- must-fail/answer_left_open.edit reads this answer
+pub returns : goal.returns
+returns c = c.unpin_source.ensures
