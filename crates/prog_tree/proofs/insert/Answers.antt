@@ -1,12 +1,8 @@
 -- `prog_tree::insert` keeps the state sound, by the equation of its call, and has room for the answer. Assumes nothing.
 use Rattle.std.proofs.Common.{rules}
-use native.Mathlib.Nat.{le_refl}
 use Rattle.prog_tree.proofs.Laws.{insert_in, insert-keeps}
 use native.Mathlib.Omega.{arith}
 use Rattle.prog_tree.proofs.insert.Goals as goal
-
-pub insert-r-requires : goal.insert-r-requires
-insert-r-requires c = (c.requires.0, record { node = le_refl _; len = le_refl _ })
 
 pub put_inserted-requires : goal.put_inserted-requires
 put_inserted-requires c = (insert_in _ _ _ _ _ c.insert-r.result c.insert-r.ensures, search rules, search rules, omega (arith, c.requires.1))

@@ -3,8 +3,5 @@ use Rattle.prog_tree.proofs.Laws.{set_up_keeps}
 use native.Mathlib.Omega.{arith}
 use Rattle.prog_tree.proofs.set_up.Goals as goal
 
-pub put_plain-requires : goal.put_plain-requires
-put_plain-requires c = omega (arith, c.requires.1)
-
 pub returns : goal.returns
 returns c = (set_up_keeps _ _ _ _ _ c.set_up-r.result c.set_up-r.ensures c.requires.0, omega (arith, c.put_plain.ensures.high, c.requires.1))
