@@ -1,12 +1,8 @@
 -- `prog_store::bring` keeps the state sound, by the equation of its call, and has room for the answer. Assumes nothing.
 use Rattle.std.proofs.Common.{rules}
-use native.Mathlib.Nat.{le_refl}
 use Rattle.prog_store.proofs.Laws.{bring_in_lem, bring-keeps}
 use native.Mathlib.Omega.{arith}
 use Rattle.prog_store.proofs.bring.Goals as goal
-
-pub store_insert-r-requires : goal.store_insert-r-requires
-store_insert-r-requires c = (c.requires.0, record { node = le_refl _; start = le_refl _; end = le_refl _; write = le_refl _; bytes = le_refl _; dead = le_refl _ })
 
 pub put_brought-requires : goal.put_brought-requires
 put_brought-requires c = (bring_in_lem _ _ _ _ _ _ _ _ c.store_insert-r.result c.store_insert-r.ensures, search rules, search rules, search rules, search rules, search rules, search rules, omega (arith, c.requires.1))

@@ -1,12 +1,8 @@
 -- `prog_store::expire` keeps the state sound, by the equation of its call, and has room for the answer. Assumes nothing.
 use Rattle.std.proofs.Common.{rules}
-use native.Mathlib.Nat.{le_refl}
 use Rattle.prog_store.proofs.Laws.{expire_in, expire-keeps}
 use native.Mathlib.Omega.{arith}
 use Rattle.prog_store.proofs.expire.Goals as goal
-
-pub store_expire-r-requires : goal.store_expire-r-requires
-store_expire-r-requires c = (c.requires.0, record { node = le_refl _; start = le_refl _; end = le_refl _; write = le_refl _; bytes = le_refl _; dead = le_refl _ })
 
 pub put_expired-requires : goal.put_expired-requires
 put_expired-requires c = (expire_in _ _ _ _ _ _ _ c.store_expire-r.result c.store_expire-r.ensures, search rules, search rules, search rules, search rules, search rules, search rules, omega (arith, c.requires.1))

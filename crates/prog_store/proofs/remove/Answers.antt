@@ -1,12 +1,8 @@
 -- `prog_store::remove` keeps the state sound, by the equation of its call, and has room for the answer. Assumes nothing.
 use Rattle.std.proofs.Common.{rules}
-use native.Mathlib.Nat.{le_refl}
 use Rattle.prog_store.proofs.Laws.{remove_in, remove-keeps}
 use native.Mathlib.Omega.{arith}
 use Rattle.prog_store.proofs.remove.Goals as goal
-
-pub store_remove-r-requires : goal.store_remove-r-requires
-store_remove-r-requires c = (c.requires.0, le_refl _)
 
 pub put_removed-requires : goal.put_removed-requires
 put_removed-requires c = (remove_in _ _ _ _ _ _ c.store_remove-r.result c.store_remove-r.ensures, search rules, omega (arith, c.requires.1))
