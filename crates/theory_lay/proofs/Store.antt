@@ -12,7 +12,7 @@ use lib.ListN.{length, get_or, take, drop, length-take, length-drop}
 use lib.Seq.{get_or-take, get_or-drop}
 use Rattle.model.specs.declared.Book.{Book}
 use Rattle.model.specs.Sizes.{max_stores, max_records, max_pins, max_marks, max_numbers, table_length, store_records, store_pins, store_marks}
-use Rattle.model.specs.State.{Ranges, Pins, State, Range, Pin, at, record_of, entry_of, mark_of, stores_of, book_in, book_of, records_of, entries_of}
+use Rattle.model.specs.State.{Ranges, Pins, State, Range, Pin, record_of, entry_of, mark_of, stores_of, book_in, book_of, records_of, entries_of}
 use Rattle.model.specs.Sound.{Sound, Lent, TreeLent, RangesLent, PinsLent, held_by, pinned_by, HoldsNone}
 use Rattle.model.specs.Store.{Store, ranges, pins, store_of, lay, lay_ranges, lay_pins, lay_book, lay_next, with_ranges, with_pins, with_next, total, on_node}
 use Rattle.model.specs.Pins.{pinned_in}
