@@ -1,5 +1,4 @@
 -- `public_insert::insert` meets its contract: refused by 1 or 14, or what the inner call answers. Assumes nothing.
-use mathlib.Core.Path.{refl}
 use Rattle.theory_refuse.proofs.Says.{says_yes, says_no}
 use Rattle.shape_answer.specs.Lists.{path_list_of}
 use Rattle.theory_outcome.proofs.Gates.{insert-unsound, insert-short}
