@@ -99,10 +99,10 @@ pub extern "C" fn scorebeetle_store_insert(
         → Sound (state_from parent.now depth.now len.now run.now words.now node.old start.old end.old id.old stamp.old touched.old
         write.old pin_node.now pin_start.now pin_end.now pin_count.now marks.old bytes.now books.old)
         × OutFits (out_list out_node.old out_start.old out_end.old out_write.old out_bytes.old out_dead.old)) }
-    ensures { let old = state_from parent.now depth.now len.now run.now words.now node.entry.now
+    ensures { let old = state_from parent.now depth.now len.now run.now words.now node.old
         start.old end.old id.old stamp.old touched.old write.old pin_node.now
         pin_start.now pin_end.now pin_count.now marks.old bytes.now books.old in
-        let new = state_from parent.now depth.now len.now run.now words.now node.exit.now
+        let new = state_from parent.now depth.now len.now run.now words.now node.new
         start.new end.new id.new stamp.new touched.new write.new pin_node.now
         pin_start.now pin_end.now pin_count.now marks.new bytes.now books.new in
         let lent = out_list out_node.old out_start.old out_end.old out_write.old
@@ -232,10 +232,10 @@ pub extern "C" fn scorebeetle_store_remove(
         → Sound (state_from parent.now depth.now len.now run.now words.now node.old start.old end.old id.old stamp.old touched.old
         write.old pin_node.now pin_start.now pin_end.now pin_count.now marks.old bytes.now books.old)
         × (out_places ≤ length list.old)) }
-    ensures { let old = state_from parent.now depth.now len.now run.now words.now node.entry.now
+    ensures { let old = state_from parent.now depth.now len.now run.now words.now node.old
         start.old end.old id.old stamp.old touched.old write.old pin_node.now
         pin_start.now pin_end.now pin_count.now marks.old bytes.now books.old in
-        let new = state_from parent.now depth.now len.now run.now words.now node.exit.now
+        let new = state_from parent.now depth.now len.now run.now words.now node.new
         start.new end.new id.new stamp.new touched.new write.new pin_node.now
         pin_start.now pin_end.now pin_count.now marks.new bytes.now books.new in
         Tells remove_at remove_values (store_remove old list.old s (record { node = on; start = from; end = upto })) new list.new result
@@ -359,10 +359,10 @@ pub extern "C" fn scorebeetle_pin_source(
     requires { known ≡ true
         → Sound (state_from parent.now depth.now len.now run.now words.now node.now start.now end.now id.now stamp.now touched.now
         write.now pin_node.old pin_start.old pin_end.old pin_count.old marks.now bytes.now books.old) }
-    ensures { let old = state_from parent.now depth.now len.now run.now words.now node.entry.now
+    ensures { let old = state_from parent.now depth.now len.now run.now words.now node.now
         start.now end.now id.now stamp.now touched.now write.now pin_node.old
         pin_start.old pin_end.old pin_count.old marks.now bytes.now books.old in
-        let new = state_from parent.now depth.now len.now run.now words.now node.entry.now
+        let new = state_from parent.now depth.now len.now run.now words.now node.now
         start.now end.now id.now stamp.now touched.now write.now pin_node.new
         pin_start.new pin_end.new pin_count.new marks.now bytes.now books.new in
         outcome new tt (told_plain result) ≡ pin_source old s (record { node = on; start = from; end = upto }) }
@@ -417,10 +417,10 @@ pub extern "C" fn scorebeetle_unpin_source(
     requires { known ≡ true
         → Sound (state_from parent.now depth.now len.now run.now words.now node.now start.now end.now id.now stamp.now touched.now
         write.now pin_node.old pin_start.old pin_end.old pin_count.old marks.now bytes.now books.old) }
-    ensures { let old = state_from parent.now depth.now len.now run.now words.now node.entry.now
+    ensures { let old = state_from parent.now depth.now len.now run.now words.now node.now
         start.now end.now id.now stamp.now touched.now write.now pin_node.old
         pin_start.old pin_end.old pin_count.old marks.now bytes.now books.old in
-        let new = state_from parent.now depth.now len.now run.now words.now node.entry.now
+        let new = state_from parent.now depth.now len.now run.now words.now node.now
         start.now end.now id.now stamp.now touched.now write.now pin_node.new
         pin_start.new pin_end.new pin_count.new marks.now bytes.now books.new in
         outcome new tt (told_plain result) ≡ unpin_source old s (record { node = on; start = from; end = upto }) }

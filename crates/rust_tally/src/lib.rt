@@ -55,11 +55,11 @@ pub extern "C" fn scorebeetle_tally_insert(
         write.old pin_node.now pin_start.now pin_end.now pin_count.now marks.old bytes.now books.old)
         × OutFits (out_list out_node.old out_start.old out_end.old out_write.old out_bytes.old out_dead.old)
         × (sum_places ≤ length sums.old) }
-    ensures { let old = state_from parent.now depth.now len.now run.now words.now node.entry.now
+    ensures { let old = state_from parent.now depth.now len.now run.now words.now node.old
         start.old end.old id.old stamp.old touched.old write.old
         pin_node.now pin_start.now pin_end.now pin_count.now marks.old
         bytes.now books.old in
-        let new = state_from parent.now depth.now len.now run.now words.now node.exit.now
+        let new = state_from parent.now depth.now len.now run.now words.now node.new
         start.new end.new id.new stamp.new touched.new write.new
         pin_node.now pin_start.now pin_end.now pin_count.now marks.new
         bytes.now books.new in
@@ -182,11 +182,11 @@ pub extern "C" fn scorebeetle_tally_remove(
         write.old pin_node.now pin_start.now pin_end.now pin_count.now marks.old bytes.now books.old)
         × (out_places ≤ length list.old)
         × (sum_places ≤ length sums.old) }
-    ensures { let old = state_from parent.now depth.now len.now run.now words.now node.entry.now
+    ensures { let old = state_from parent.now depth.now len.now run.now words.now node.old
         start.old end.old id.old stamp.old touched.old write.old
         pin_node.now pin_start.now pin_end.now pin_count.now marks.old
         bytes.now books.old in
-        let new = state_from parent.now depth.now len.now run.now words.now node.exit.now
+        let new = state_from parent.now depth.now len.now run.now words.now node.new
         start.new end.new id.new stamp.new touched.new write.new
         pin_node.now pin_start.now pin_end.now pin_count.now marks.new
         bytes.now books.new in
