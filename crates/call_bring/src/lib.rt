@@ -37,7 +37,8 @@ fn stalls_after(stalled: bool, stalls: u64) -> u64
 
 // The small numbers after store s, whose own were b, was trimmed; `need` is how many stamps and ids were given.
 pub fn settle(books: &mut [u64], s: usize, b: Book, need: usize, t: Trimming)
-    requires { (s < max_stores) × (max_numbers ≤ length books.old) × (need ≤ 128) × (b.stamp ≤ 281474976710656) × (next_id_in books.old ≤ 281474976710656) }
+    requires { (s < max_stores) × (max_numbers ≤ length books.old) × (need ≤ 128)
+        × (b.stamp ≤ 281474976710656) × (next_id_in books.old ≤ 281474976710656) }
     ensures { books.new ≡ settled s b need t.n t.held t.version t.stalled books.old }
 {
     let given = need as u64;

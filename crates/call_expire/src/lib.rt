@@ -21,7 +21,8 @@ use shape_answer::StoreExpired;
 
 // What an expiry in a sound state is refused for, the lists long enough: 2, 5 or nothing, 0.
 fn refusal(stores: usize, s: usize, time: f64, seconds: f64) -> u8
-    ensures { (st : State) (l : OutList) → Sound st → OutFits l → stores_of st ≡ stores → result ≡ first_of (store_expire_refusals st l s time seconds) }
+    ensures { (st : State) (l : OutList) → Sound st → OutFits l → stores_of st ≡ stores
+        → result ≡ first_of (store_expire_refusals st l s time seconds) }
 {
     if stores <= s {
         return 2;

@@ -337,7 +337,8 @@ fn refresh(
     top: u64,
     next: u64,
 ) -> Renewed
-    requires lo_lt_hi { (lo < hi) × (top < 281474976710655) × Cuttable (ranges_of node.old start.old end.old id.old stamp.old touched.old write.old) n lo hi sp }
+    requires lo_lt_hi { (lo < hi) × (top < 281474976710655)
+        × Cuttable (ranges_of node.old start.old end.old id.old stamp.old touched.old write.old) n lo hi sp }
     requires start_lt_end { (sp.start < sp.end)
         × (next
         + new_pieces sp.node sp.start sp.end (ranges (ranges_of node.old start.old end.old id.old stamp.old touched.old write.old) 0 n)

@@ -2,7 +2,8 @@
 ghost use Rattle.std.specs.Prelude.{◌≡◌};
 ghost use Rattle.std.proofs.lemmas.List.Edits.{sets};
 ghost use Rattle.model.specs.Lookup.{sums_in};
-ghost use Rattle.shape_answer.specs.Answers.{plain_of, count_of, resolved_of, inserted_of, store_inserted_of, store_used_of, store_removed_of, store_expired_of, looked_of};
+ghost use Rattle.shape_answer.specs.Answers.{plain_of, count_of, resolved_of, inserted_of, looked_of};
+ghost use Rattle.shape_answer.specs.Answers.{store_inserted_of, store_used_of, store_removed_of, store_expired_of};
 ghost use Rattle.rust_values.specs.Told.{number_of, laid, count_values, resolve_values, insert_values};
 ghost use Rattle.rust_values.specs.Told.{bring_values, touch_values, remove_values, expire_values, lookup_values};
 

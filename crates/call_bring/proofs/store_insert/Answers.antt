@@ -18,7 +18,6 @@ bounds-books-2 c = omega (arith, c.requires.0.lent.books)
 pub argument_refusal-number-requires : goal.argument_refusal-number-requires
 argument_refusal-number-requires c = nodes-lent c.requires.0
 
--- ---- the needs
 pub returns-then-number-gt0 : goal.returns-then-number-gt0
 returns-then-number-gt0 c = argument_refused (state_from c.args.parent.now c.args.depth.now c.args.len.now c.args.run.now c.args.words.now c.args.node.now c.args.start.now c.args.end.now c.args.id.now c.args.stamp.now c.args.touched.now c.args.write.now c.args.pin_node.now c.args.pin_start.now c.args.pin_end.now c.args.pin_count.now c.args.marks.now c.args.bytes.now c.args.books.now) (out_list c.args.out_node.now c.args.out_start.now c.args.out_end.now c.args.out_write.now c.args.out_bytes.now c.args.out_dead.now) c.args.s c.args.sp c.args.time c.requires.0 c.requires.1 c.args.w c.argument_refusal-number.result c.if-number-gt0.true (c.argument_refusal-number.ensures (state_from c.args.parent.now c.args.depth.now c.args.len.now c.args.run.now c.args.words.now c.args.node.now c.args.start.now c.args.end.now c.args.id.now c.args.stamp.now c.args.touched.now c.args.write.now c.args.pin_node.now c.args.pin_start.now c.args.pin_end.now c.args.pin_count.now c.args.marks.now c.args.bytes.now c.args.books.now) refl refl refl)
 

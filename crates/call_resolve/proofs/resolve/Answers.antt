@@ -9,11 +9,5 @@ returns-then-hashes-gt1024 c = many_is _ _ c.args.hashes.now c.requires.0 c.requ
 pub resolve-m-requires : goal.resolve-m-requires
 resolve-m-requires c = record { by_index = (_, _, sound_walkable _ c.requires.0); path_fits = c.requires.1 }
 
--- at Then1
--- at Else1
--- at After-resolve-arg3
--- at After-slice-known4
--- at After-slice-known4
--- at After-slice-known4
 pub returns : goal.returns
 returns c = resolved_is _ _ c.args.hashes.now c.requires.0 c.requires.1 c.if-hashes-gt1024.false (c.resolve-m.ensures _ _)
