@@ -38,7 +38,7 @@ def defines(text, name):
         m = re.search(rf'(?m)^(?:pub )?(?:record|struct) {record}\b(?:.*\n)(?:(?:[ ]+.*|)\n)*?[ ]+(?:pub )?{field}\s*:', text)
         return m is not None
     at = re.escape(name)
-    return re.search(rf'(?m)^\s*(?:abbrev |unfoldable )?(?:pub )?(?:record |data |fn |struct |enum )?{at}(?= |:|\(|$|\n)', text) is not None
+    return re.search(rf'(?m)^\s*(?:abbrev |unfoldable )?(?:pub )?(?:record |data |fn |struct |enum |ghost )?{at}(?= |:|\(|<|$|\n)', text) is not None
 
 
 def names_in(text):

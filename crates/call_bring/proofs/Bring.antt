@@ -1,6 +1,6 @@
 -- A bring-in on a sound state: its store's part is ready for the fill and the trim, and what they leave is the state that `bring_in` has.
 use Prim.Native.Nat.{ℕ, zero, suc, ◌+◌, ◌*◌, ◌≤◌, ◌<◌}
-use mathlib.Core.Bool.{Bool, true, false, not}
+use mathlib.Core.Bool.{Bool}
 use mathlib.Core.Path.{◌≡◌, refl, sym, ap, subst, ◌∙◌}
 use mathlib.Core.List.{List, [], ◌∷◌}
 use native.Mathlib.Omega.{arith}
@@ -42,29 +42,6 @@ use Rattle.rule_trim.proofs.Trim.{trim-depth}
 use Rattle.rule_bring.specs.Pool.{PoolReady, GivenOutAt}
 use Rattle.call_bring.specs.Settled.{settled}
 use Rattle.call_bring.specs.Insert.{InsertReady, BroughtIn}
-
--- ---- stalls
-
-pub stall_none : (b : Bool) (n : ℕ) → not b ≡ true → n ≡ stalls_after b n
-stall_none true n e = absurd (never e)
-  where
-    never : false ≡ true → ⊥
-    never q = let z : ◌≡◌ {A = ℕ} 0 1 = cc in omega arith
-stall_none false n e = refl
-
-pub stall_more : (b : Bool) (n : ℕ) → not b ≡ false → n < 281474976710656 → n + 1 ≡ stalls_after b n
-stall_more true n e h = omega arith
-stall_more false n e h = absurd (never e)
-  where
-    never : true ≡ false → ⊥
-    never q = let z : ◌≡◌ {A = ℕ} 0 1 = cc in omega arith
-
-pub stall_most : (b : Bool) (n : ℕ) → not b ≡ false → 281474976710656 ≤ n → 281474976710656 ≡ stalls_after b n
-stall_most true n e h = omega arith
-stall_most false n e h = absurd (never e)
-  where
-    never : true ≡ false → ⊥
-    never q = let z : ◌≡◌ {A = ℕ} 0 1 = cc in omega arith
 
 -- ---- one span given out
 
@@ -129,7 +106,7 @@ module _ {st : State} {l : OutList} {s : ℕ} {sp : Span} {g : Gaps} {time : Flo
         own.held,
         ap gap_blocks p.gaps,
         p.records,
-        gaps_length g.from g.upto g.n,
+        gaps_length g.list g.n,
         ap (λ (x : List Gap). length x) p.gaps,
         own.records,
       )
@@ -261,7 +238,7 @@ module _ {st : State} {l : OutList} {s : ℕ} {sp : Span} {g : Gaps} {time : Flo
         → {k : ℕ} → k ≡ gap_blocks (gaps_of g) → BroughtIn st l s sp time w (state_with (nodes_in bs) (used_in bs) c ms bs) lʹ o k
     brought_in_lem b is bs a d e u more =
         let y = given_in b is u in
-        let k : g.n ≡ length gs = sym (gaps_length g.from g.upto g.n) ∙ ap length p.gaps in
+        let k : g.n ≡ length gs = sym (gaps_length g.list g.n) ∙ ap length p.gaps in
         record {
           state = counted_in c ms (length gs) n h v q bs a d (e ∙ (λ j. settled s (is j) (k j) n h v q st.books)) ∙ laid_in y;
           lists = y.lists ∙ ap (λ (x : List Out). lay_outs x l) (outs_in w);

@@ -12,16 +12,17 @@ use lib.ListN.{length}
 use lib.Ieee.{Float}
 use Rattle.model.specs.declared.Span.{Span}
 use Rattle.model.specs.declared.Book.{Book}
+use Rattle.model.specs.declared.BringAnswer.{BringAnswer}
 use Rattle.model.specs.Sizes.{max_stores, max_numbers, store_records, max_stamp}
-use Rattle.model.specs.State.{Range, State, stores_of, next_id_of, book_of, capacity_of, records_of, stamp_of}
+use Rattle.model.specs.State.{State, stores_of, next_id_of, book_of, capacity_of, records_of, stamp_of}
 use Rattle.model.specs.Words.{pick}
-use Rattle.model.specs.Sound.{Sound, Finite}
+use Rattle.model.specs.Sound.{Sound, Finite, RangesLent}
 use Rattle.model.specs.SoundTest.{finite}
 use Rattle.model.specs.Store.{store_of, ranges}
 use Rattle.model.specs.Trim.{Out}
 use Rattle.model.specs.Bring.{Brought, gaps, bring_need, bring_blocks, give_back}
 use Rattle.model.specs.Refusals.{Condition, Exact, First, first_of, OutList, OutFits, SpanIn, span_in, unsound, short_outs, no_store, bad_span, bad_time, few_records, late_stamp, store_insert_refusals}
-use Rattle.model.specs.Calls.{refused, done, brought, bring_in, lay_outs, store_insert}
+use Rattle.model.specs.Calls.{refused, done, brought, bring_in, lay_outs, store_insert, Answer, Outcome}
 use Rattle.theory_refuse.proofs.Says.{false_says}
 use Rattle.theory_refuse.proofs.Refusals.{first_says, store_insert_exact}
 use Rattle.theory_refuse.proofs.Unless.{unless-none, unless-some}
@@ -31,9 +32,6 @@ use Rattle.test_arguments.specs.Need.{need_number}
 use Rattle.test_arguments.proofs.Need.{number_0}
 use Rattle.rule_resolve.specs.Span.{Priced, only_depth}
 use Rattle.rule_resolve.proofs.Sound.{sound-priced}
-use Rattle.shape_state.specs.Lent.{ranges_of}
-use Rattle.pool_part.specs.Parts.{mid, mid_ranges}
-use Rattle.pool_part.proofs.Parts.{ranges-part}
 use Rattle.rule_fill.specs.declared.Gaps.{Gaps}
 use Rattle.rule_fill.specs.Gaps.{gaps_of}
 use Rattle.rule_fill.proofs.Missing.{gaps_length}
@@ -125,24 +123,9 @@ need-first-of st s need =
     first-of-two (ltb store_records (records_of st s + need)) (ltb max_stamp (stamp_of st s + need) || ltb max_stamp (next_id_of st + need))
 
 -- the number that the test gave, by a store's numbers that were read
-pub need-tested : (st : State) (s : ℕ) {b : Book} → b ≡ book_of st s → (need : ℕ) {r : ℕ} → r ≡ need_number b.records need b.stamp need (next_id_of st)
+need-tested : (st : State) (s : ℕ) {b : Book} → b ≡ book_of st s → (need : ℕ) {r : ℕ} → r ≡ need_number b.records need b.stamp need (next_id_of st)
     → r ≡ first_of (need_refusals st s need)
 need-tested st s is need e = e ∙ ap (λ (k : Book). need_number k.records need k.stamp need (next_id_of st)) is ∙ need-first-of st s need
-
--- ---- the gaps of a store's part are those of the store
-
-pub gaps-part : (st : State) (s w n : ℕ) (sp : Span) (g : Gaps) (node start end : List ℕ) → w ≡ 128 → n ≤ 128
-    → ((id stamp write : List ℕ) (touched : List Float)
-    → gaps_of g ≡ gaps sp.node (ranges (ranges_of (mid (128 * s) w node) (mid (128 * s) w start) (mid (128 * s) w end) id stamp touched write) 0 n) sp.start sp.end)
-    → st.ranges.node ≡ node → st.ranges.start ≡ start → st.ranges.end ≡ end → records_of st s ≡ n
-    → gaps_of g ≡ gaps sp.node (store_of st s).ranges sp.start sp.end
-unfolding store_of mid_ranges
-gaps-part st s w n sp g node start end e few f a b c d =
-    let q = st.ranges in
-    f (mid (128 * s) w q.id) (mid (128 * s) w q.stamp) (mid (128 * s) w q.write) (mid (128 * s) w q.touched)
-    ∙ (λ j. gaps sp.node (ranges (ranges_of (mid (128 * s) w (sym a j)) (mid (128 * s) w (sym b j)) (mid (128 * s) w (sym c j)) (mid (128 * s) w q.id) (mid (128 * s) w q.stamp) (mid (128 * s) w q.touched) (mid (128 * s) w q.write)) 0 n) sp.start sp.end)
-    ∙ (λ j. gaps sp.node (ranges (mid_ranges (128 * s) (e j) q) 0 n) sp.start sp.end)
-    ∙ ap (λ (rs : List Range). gaps sp.node rs sp.start sp.end) (ranges-part q (128 * s) 128 n few ∙ ap (λ (m : ℕ). ranges q (128 * s) m) (sym d))
 
 -- ---- what a sound state gives the calls
 
@@ -164,16 +147,12 @@ need-asked {st} {l} {s} {sp} {time} p b is =
     (rw is c.records, rw is c.stamp, p.sound.counts.next_id)
 
 pub gaps_asked : {st : State} {l : OutList} {s : ℕ} {sp : Span} {time : Float} → KeepReady st l s sp time → (b : Book) → b ≡ book_of st s
-    → (s < 8) × (b.records ≤ 128) × (1024 ≤ length st.ranges.node) × (1024 ≤ length st.ranges.start) × (1024 ≤ length st.ranges.end)
+    → (s < 8) × (b.records ≤ 128) × RangesLent st.ranges
 gaps_asked {st} {l} {s} {sp} {time} p b is =
-    let r = p.sound.lent.ranges in
-    (in_eight_lem p.sound p.store, rw is (p.sound.counts.each s zero-le p.store).records, r.node, r.start, r.end)
+    (in_eight_lem p.sound p.store, rw is (p.sound.counts.each s zero-le p.store).records, p.sound.lent.ranges)
 
 -- a store's numbers that were read are its own
 module _ {b c : Book} (is : b ≡ c) where
-  pub records-read : c.records ≡ b.records
-  records-read = ap (λ (k : Book). k.records) (sym is)
-
   pub none_read : b.capacity ≡ 0 → c.capacity ≡ 0
   none_read e = ap (λ (k : Book). k.capacity) (sym is) ∙ e
 
@@ -195,6 +174,11 @@ need_decides st l s sp time h fits store span known =
     (x.0, (x.1.0, (x.1.1.0, (x.1.1.1.0, (x.1.1.1.1.0, tt)))))
     (λ n. n h, (λ n. n fits, (λ (n : stores_of st ≤ s). omega arith, (λ n. n span, (λ n. n known, tt)))))
 
+-- n is the number of the first condition of the arguments that holds; only the tree's nodes and the stores matter
+abbrev pub Tested : State → ℕ → Span → Float → ℕ → Type 0
+Tested st s sp time n =
+    (x : State) → x.tree.len ≡ st.tree.len → x.tree.nodes ≡ st.tree.nodes → stores_of x ≡ stores_of st → n ≡ first_of (argument_refusals x s sp time)
+
 module _ (st : State) (l : OutList) (s : ℕ) (sp : Span) (time : Float) (h : Sound st) (fits : OutFits l) where
   abbrev need : ℕ
   need = bring_need (store_of st s) sp
@@ -206,10 +190,10 @@ module _ (st : State) (l : OutList) (s : ℕ) (sp : Span) (time : Float) (h : So
   first-left : first_of (store_insert_refusals st l s sp time) ≡ first_of (argument_refusals st s sp time ++ need_refusals st s need)
   first-left = first-behind (unsound st ∷ short_outs l ∷ []) (argument_refusals st s sp time ++ need_refusals st s need) (exact.0, (exact.1.0, tt)) (λ n. n h, (λ n. n fits, tt))
 
-  pub argument_refused : (w n : ℕ) → 0 < n → n ≡ first_of (argument_refusals st s sp time) → outcome st l (refused n) ≡ store_insert st l s sp time w
+  pub argument_refused : (w n : ℕ) → 0 < n → Tested st s sp time n → outcome st l (refused n) ≡ store_insert st l s sp time w
   unfolding store_insert
   argument_refused w n p e =
-      sym (unless-some st l _ _ n (first-left ∙ first-front (argument_refusals st s sp time) (need_refusals st s need) n p e) (λ (z : n ≡ 0). omega arith))
+      sym (unless-some st l _ _ n (first-left ∙ first-front (argument_refusals st s sp time) (need_refusals st s need) n p (e st refl refl refl)) (λ (z : n ≡ 0). omega arith))
 
   arguments_exact : Exact (argument_refusals st s sp time)
   arguments_exact = (exact.1.1.0, (exact.1.1.1.0, (exact.1.1.1.1.0, tt)))
@@ -219,9 +203,9 @@ module _ (st : State) (l : OutList) (s : ℕ) (sp : Span) (time : Float) (h : So
 
   -- ---- a store, a span and a time that 01 takes
 
-  module _ (n : ℕ) (low : n ≤ 0) (is : n ≡ first_of (argument_refusals st s sp time)) where
+  module _ (n : ℕ) (low : n ≤ 0) (test : Tested st s sp time n) where
     accepted : NoneHolds (argument_refusals st s sp time)
-    accepted = passed (is_none low is)
+    accepted = passed (is_none low (test st refl refl refl))
 
     pub store-there : s < stores_of st
     store-there = let h : stores_of st ≤ s → ⊥ = accepted.0 in omega arith
@@ -279,15 +263,19 @@ module _ (st : State) (l : OutList) (s : ℕ) (sp : Span) (time : Float) (h : So
 
 -- ---- a store with a capacity
 
-module _ {st : State} {l : OutList} {s : ℕ} {sp : Span} {time : Float} (p : KeepReady st l s sp time) (g : Gaps)
-    (is : gaps_of g ≡ gaps sp.node (store_of st s).ranges sp.start sp.end) where
+module _ {st : State} {l : OutList} {s : ℕ} {sp : Span} {time : Float} (p : KeepReady st l s sp time) {b : Book} (own : b ≡ book_of st s) (g : Gaps)
+    (read : gaps_of g ≡ gaps sp.node (ranges st.ranges (128 * s) b.records) sp.start sp.end) where
+  is : gaps_of g ≡ gaps sp.node (store_of st s).ranges sp.start sp.end
+  unfolding store_of
+  is = read ∙ ap (λ (k : Book). gaps sp.node (ranges st.ranges (128 * s) k.records) sp.start sp.end) own
+
   abbrev kept : ℕ
   kept = bring_need (store_of st s) sp
 
   kept-is : g.n ≡ kept
   unfolding store_of
   kept-is =
-      sym (gaps_length g.from g.upto g.n) ∙ ap length is
+      sym (gaps_length g.list g.n) ∙ ap length is
       ∙ bring_cases st.tree st.bytes (next_id_of st) (store_of st s) sp time 0
       (λ k b. length (gaps sp.node (store_of st s).ranges sp.start sp.end) ≡ k) (λ z. absurd (p.some z)) (λ z. refl)
 
@@ -296,11 +284,18 @@ module _ {st : State} {l : OutList} {s : ℕ} {sp : Span} {time : Float} (p : Ke
       need_decides st l s sp time p.sound p.fits p.store p.span p.finite
       ∙ ap (λ (k : ℕ). first_of (need_refusals st s k)) (sym kept-is)
 
-  pub need-refused : (w n : ℕ) → 0 < n → n ≡ first_of (need_refusals st s g.n) → outcome st l (refused n) ≡ store_insert st l s sp time w
-  unfolding store_insert
-  need-refused w n q e = sym (unless-some st l _ _ n (need-first ∙ sym e) (λ (z : n ≡ 0). omega arith))
+  -- the number that the test of 8 and 11 gives
+  abbrev Asked : ℕ → Type 0
+  Asked n = n ≡ need_number b.records g.n b.stamp g.n (next_id_of st)
 
-  module _ (e : 0 ≡ first_of (need_refusals st s g.n)) where
+  pub need-refused : (w n : ℕ) → 0 < n → Asked n → outcome st l (refused n) ≡ store_insert st l s sp time w
+  unfolding store_insert
+  need-refused w n q e = sym (unless-some st l _ _ n (need-first ∙ sym (need-tested st s own g.n e)) (λ (z : n ≡ 0). omega arith))
+
+  module _ {n : ℕ} (low : n ≤ 0) (asked : Asked n) where
+    e : 0 ≡ first_of (need_refusals st s g.n)
+    e = is_none low (need-tested st s own g.n asked)
+
     none-late : NoneHolds (need_refusals st s kept)
     none-late =
         none-holds (need_refusals st s kept) (omega arith, (omega arith, tt)) (store_insert_exact st l s sp time).1.1.1.1.1
@@ -328,3 +323,8 @@ module _ {st : State} {l : OutList} {s : ℕ} {sp : Span} {time : Float} (p : Ke
     unfolding store_insert
     kept_whole u =
         (λ j. outcome (u.state j) (u.lists j) (done (record { outs = u.outs j; blocks = u.blocks j }))) ∙ sym (unless-none st l _ _ (need-first ∙ sym e))
+
+-- ---- the lent columns are the lender's again
+
+pub came_back : {st : State} {a : Answer BringAnswer} {x : Outcome OutList BringAnswer} {l lʹ : OutList} → l ≡ lʹ → outcome st l a ≡ x → outcome st lʹ a ≡ x
+came_back e g = rw (← e) g

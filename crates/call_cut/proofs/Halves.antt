@@ -7,9 +7,8 @@ use native.Mathlib.Omega.{arith}
 use native.Mathlib.Nat.{le_refl}
 use lib.ListN.{length, take, drop, length-drop}
 use Rattle.model.specs.declared.Book.{Book}
-use Rattle.model.specs.Sizes.{max_stores, max_numbers, max_pinned, store_numbers}
+use Rattle.model.specs.Sizes.{max_stores, max_numbers, store_numbers}
 use Rattle.model.specs.State.{Tree, Ranges, Pins, Range, Pin, State, at, whole, next_id_in, stalls_in, parts_in, numbers, book_from, book_in, changed}
-use Rattle.model.specs.Sound.{PinsLent}
 use Rattle.model.specs.Store.{Store, lay, ranges, lay_ranges, pins, lay_pins, lay_book, lay_next, store_of, with_ranges, with_pins, with_next}
 use Rattle.model.specs.Insert.{ranges_across, cut_marks, cut_pins, pins_across, cut_store, ranges_from, cut_store_in}
 use Rattle.model.specs.Pins.{pinned_in}
@@ -20,7 +19,6 @@ use Rattle.theory_lay.proofs.Pools.{ranges_in}
 use Rattle.theory_lay.proofs.Rows.{ranges_length}
 use Rattle.theory_sound.specs.Facts.{All}
 use Rattle.theory_cut.proofs.CutStore.{cut_last, cut-last, cut_store_length, cut_store-pinned}
-use Rattle.rule_cut_pins.specs.Entries.{counts}
 use Rattle.rule_cut.specs.declared.After.{After}
 use Rattle.call_cut.specs.Halves.{halves, cut_book, RangesRoom, RangesCut, StoreRoom}
 
@@ -146,16 +144,5 @@ module _ (j k m s : ℕ) (c : Ranges) (p : Pins) (ms l : List ℕ) (room : Store
       left = λ i. record { tree = t; ranges = h.laid i; pins = laid-pins i; marks = h.marks i; bytes = bytes; books = laid-books i }
 
   module _ (b : Book) (is : b ≡ book_in l s) where
-    pub range_asks : RangesRoom j k m s b.records (next_id_in l) c ms
-    range_asks = subst (λ (d : Book). RangesRoom j k m s d.records (next_id_in l) c ms) (sym is) room.half
-
-    pub pin_asks : (s < 8) × (b.entries + pins_across j k (pins p (32 * s) b.entries) ≤ 32) × (counts (pins p (32 * s) b.entries) ≤ max_pinned) × PinsLent p
-    pin_asks = (
-      room.half.store,
-      subst (λ (d : Book). d.entries + pins_across j k (pins p (32 * s) d.entries) ≤ 32) (sym is) room.entries,
-      subst (λ (d : Book). counts (pins p (32 * s) d.entries) ≤ max_pinned) (sym is) room.few,
-      room.lent,
-    )
-
     pub store_is : (c' : Ranges) (p' : Pins) (ms' l' : List ℕ) (r : After) (entries : ℕ) → Makes c' p' ms' l' r entries b
     store_is c' p' ms' l' r entries = subst (λ (d : Book). Makes c' p' ms' l' r entries d) (sym is) (makes c' p' ms' l' r entries)

@@ -1,12 +1,12 @@
 -- The loop over the stores: each turn is the cut of one store in the state, and keeps what the next turn asks. Assumes nothing.
 use mathlib.Core.Path.{◌≡◌, refl, sym, ap, ap₂, subst, ◌∙◌}
 use mathlib.Core.List.{List, [], ◌∷◌}
-use Prim.Native.Nat.{ℕ, zero, suc, ◌+◌, ◌-◌, ◌*◌, ◌^◌, ◌≤◌, ◌<◌, zero-le}
+use Prim.Native.Nat.{ℕ, zero, suc, ◌+◌, ◌-◌, ◌*◌, ◌≤◌, ◌<◌, zero-le}
 use native.Mathlib.Numerals.{add-one}
 use native.Mathlib.Omega.{arith}
 use native.Mathlib.Nat.{le_refl, le_of_eq, mul-le-mul_right, sub-zero}
 use lib.ListN.{length}
-use Rattle.model.specs.Sizes.{max_nodes, max_stores, max_numbers, max_stamp}
+use Rattle.model.specs.Sizes.{max_stores, max_numbers, max_stamp}
 use Rattle.model.specs.State.{Tree, Ranges, Pins, Pin, Range, State, at, nodes_in, used_in, stores_in, next_id_in, book_in, stores_of, next_id_of}
 use Rattle.model.specs.Sound.{EndsWithin, RunsBelow, PinInside}
 use Rattle.model.specs.Store.{Store, ranges, store_of, lay_book, lay_next, lay_counts, with_ranges, with_pins, with_next}
@@ -127,41 +127,6 @@ module _ (j k m : ℕ) (st : State) (h : Cuttable j k st) (new : st.tree.nodes �
 
 -- ---- the loop
 
--- the columns of the one are as long as those of the other
-pub record AsLong (c₀ : Ranges) (p₀ : Pins) (ms₀ l₀ : List ℕ) (c : Ranges) (p : Pins) (ms l : List ℕ) : Type 0 where
-  pub node : length c.node ≡ length c₀.node
-  pub start : length c.start ≡ length c₀.start
-  pub end : length c.end ≡ length c₀.end
-  pub id : length c.id ≡ length c₀.id
-  pub stamp : length c.stamp ≡ length c₀.stamp
-  pub touched : length c.touched ≡ length c₀.touched
-  pub write : length c.write ≡ length c₀.write
-  pub pin_node : length p.node ≡ length p₀.node
-  pub pin_start : length p.start ≡ length p₀.start
-  pub pin_end : length p.end ≡ length p₀.end
-  pub pin_count : length p.count ≡ length p₀.count
-  pub marks : length ms ≡ length ms₀
-  pub books : length l ≡ length l₀
-
-long_then : {c₀ c c' : Ranges} {p₀ p p' : Pins} {ms₀ ms ms' l₀ l l' : List ℕ} → AsLong c₀ p₀ ms₀ l₀ c p ms l → AsLong c p ms l c' p' ms' l'
-    → AsLong c₀ p₀ ms₀ l₀ c' p' ms' l'
-long_then a b =
-    record {
-      node = b.node ∙ a.node;
-      start = b.start ∙ a.start;
-      end = b.end ∙ a.end;
-      id = b.id ∙ a.id;
-      stamp = b.stamp ∙ a.stamp;
-      touched = b.touched ∙ a.touched;
-      write = b.write ∙ a.write;
-      pin_node = b.pin_node ∙ a.pin_node;
-      pin_start = b.pin_start ∙ a.pin_start;
-      pin_end = b.pin_end ∙ a.pin_end;
-      pin_count = b.pin_count ∙ a.pin_count;
-      marks = b.marks ∙ a.marks;
-      books = b.books ∙ a.books;
-    }
-
 -- the tree's counts are none of the stores'
 stores_same : (j k m : ℕ) (c : Ranges) (p : Pins) (ms l : List ℕ) (h : StoresCuttable j k m c p ms l) → stores_in l ≡ stores_in h.old
 unfolding lay_counts
@@ -175,12 +140,10 @@ stores-long j k m c p ms l h =
 
 -- the invariant: what is left to cut gives what was to be cut, and the state is on its way
 pub record Turning (j k m : ℕ) (c₀ : Ranges) (p₀ : Pins) (ms₀ l₀ : List ℕ) (s : ℕ) (c : Ranges) (p : Pins) (ms l : List ℕ) : Type 0 where
-  pub most : s ≤ stores_in l₀
   pub left : (t : Tree) (bytes : List ℕ)
       → cut_stores j k m s (stores_in l₀ - s) (state_of t c p ms bytes l) ≡ cut_stores j k m 0 (stores_in l₀) (state_of t c₀ p₀ ms₀ bytes l₀)
   pub way : (h : StoresCuttable j k m c₀ p₀ ms₀ l₀)
       → Cutting j k (state_of h.tree c₀ p₀ ms₀ h.bytes h.old) (cut_tree j k h.tree) s (state_of (cut_tree j k h.tree) c p ms h.bytes l)
-  pub long : AsLong c₀ p₀ ms₀ l₀ c p ms l
 
 module _ (j k m : ℕ) (c₀ : Ranges) (p₀ : Pins) (ms₀ l₀ : List ℕ) where
   at_first : (h : StoresCuttable j k m c₀ p₀ ms₀ l₀)
@@ -194,24 +157,8 @@ module _ (j k m : ℕ) (c₀ : Ranges) (p₀ : Pins) (ms₀ l₀ : List ℕ) whe
   pub turning_start : Turning j k m c₀ p₀ ms₀ l₀ 0 c₀ p₀ ms₀ l₀
   turning_start =
       record {
-        most = zero-le;
         left = λ t bytes. ap (λ (n : ℕ). cut_stores j k m 0 n (state_of t c₀ p₀ ms₀ bytes l₀)) (sub-zero (stores_in l₀));
         way = at_first;
-        long = record {
-          node = refl;
-          start = refl;
-          end = refl;
-          id = refl;
-          stamp = refl;
-          touched = refl;
-          write = refl;
-          pin_node = refl;
-          pin_start = refl;
-          pin_end = refl;
-          pin_count = refl;
-          marks = refl;
-          books = refl;
-        };
       }
 
   one-cut : (s n : ℕ) (st : State) → cut_stores j k m s (suc n) st ≡ cut_stores j k m (suc s) n (cut_store_in j k m s st)
@@ -230,18 +177,16 @@ module _ (j k m : ℕ) (c₀ : Ranges) (p₀ : Pins) (ms₀ l₀ : List ℕ) whe
 
     pub turning_turn : (c' : Ranges) (p' : Pins) (ms' l' : List ℕ) → s < stores_in l₀
         → ((t : Tree) (bytes : List ℕ) → state_of t c' p' ms' bytes l' ≡ cut_store_in j k m s (state_of t c p ms bytes l))
-        → AsLong c p ms l c' p' ms' l' → Turning j k m c₀ p₀ ms₀ l₀ (s + 1) c' p' ms' l'
-    turning_turn c' p' ms' l' less e g =
+        → Turning j k m c₀ p₀ ms₀ l₀ (s + 1) c' p' ms' l'
+    turning_turn c' p' ms' l' less e =
         rw (add-one s)
         (record {
-          most = less;
           left = λ t bytes. ap (cut_stores j k m (suc s) (stores_in l₀ - suc s)) (e t bytes) ∙ sym (one-cut s (stores_in l₀ - suc s) (state_of t c p ms bytes l))
               ∙ ap (λ (n : ℕ). cut_stores j k m s n (state_of t c p ms bytes l)) (one_less (stores_in l₀) s less) ∙ w.left t bytes;
           way = λ h. let u = cut_tree j k h.tree in
               let st = state_of h.tree c₀ p₀ ms₀ h.bytes h.old in
               subst (Cutting j k st u (suc s)) (ap (λ (n : ℕ). cut_store_in j k n s (state_of u c p ms h.bytes l)) h.new ∙ sym (e u h.bytes))
               (go_on j k st h.whole s (state_of u c p ms h.bytes l) (w.way h) (rw (← stores_same j k m c₀ p₀ ms₀ l₀ h) less));
-          long = long_then w.long g;
         })
       where
         one_less : (n i : ℕ) → i < n → suc (n - suc i) ≡ n - i
@@ -255,9 +200,6 @@ module _ (j k m : ℕ) (c₀ : Ranges) (p₀ : Pins) (ms₀ l₀ : List ℕ) whe
         none_left : (n i : ℕ) → n ≤ i → 0 ≡ n - i
         none_left n i l = omega arith
 
-pub turn-fits : (j k m : ℕ) (c : Ranges) (p : Pins) (ms l : List ℕ) → StoresCuttable j k m c p ms l → (s : ℕ) → s < stores_in l → s + 1 < 2 ^ 64
-turn-fits j k m c p ms l h s less = omega (arith, stores_same j k m c p ms l h, h.whole.sound.counts.stores)
-
 -- ---- the tree first, then the stores
 
 -- what the tree's half asks
@@ -270,15 +212,6 @@ tree_asks j k st h =
     let ends = h.sound.ends j h.not_root h.in_use in
     let runs = h.sound.runs_below j h.not_root h.in_use in
     (omega (arith, h.in_use), omega (arith, h.room, l.parent), omega (arith, h.room, l.depth), omega (arith, h.room, l.len), omega (arith, h.room, l.run), h.in_use, omega arith, omega arith, omega (arith, h.sound.counts.used))
-
-pub number_fits : (n : ℕ) → n < max_nodes → n + 1 < 2 ^ 64
-number_fits n l = omega arith
-
--- the counts that are written are those of the tree that is cut
-pub counts-written : (j k : ℕ) (t : Tree) (l l₁ : List ℕ) → l₁ ≡ lay_counts (t.nodes + 1) t.used l
-    → l₁ ≡ lay_counts (cut_tree j k t).nodes (cut_tree j k t).used l
-unfolding cut_tree
-counts-written j k t l l₁ e = e ∙ ap (λ (n : ℕ). lay_counts n t.used l) (add-one t.nodes)
 
 -- the cut of a store leaves them
 store-counts : (j k m s : ℕ) (st : State) → (nodes_in (cut_store_in j k m s st).books ≡ nodes_in st.books) × (used_in (cut_store_in j k m s st).books ≡ used_in st.books)

@@ -1,14 +1,12 @@
--- A path copied element by element; and the number of the first condition of an insert that holds, from the tests that the code makes.
+-- The number of the first condition of an insert that holds, from the tests that the code makes.
 use mathlib.Core.Path.{◌≡◌, refl, sym, ap, ap₂, subst, ◌∙◌}
 use mathlib.Core.Bool.{Bool, true, false, ◌&&◌, ◌||◌}
 use mathlib.Core.List.{List}
 use Prim.Native.Nat.{ℕ, zero, suc, ◌+◌, ◌-◌, ◌*◌, ◌≤◌, ◌<◌, zero-le}
-use native.Mathlib.Numerals.{add-one}
 use native.Mathlib.Omega.{arith}
 use borrow.Author.Tests.{lt-ltb, le-ltb}
 use lib.Dec.{ltb}
-use lib.ListN.{length, get_or, take, set, length-set}
-use lib.Seq.{take-suc, length-take-le}
+use lib.ListN.{length}
 use Rattle.model.specs.Words.{any}
 use Rattle.model.specs.Sizes.{max_nodes, max_words, max_stores, max_numbers, max_stamp, store_records, store_pins}
 use Rattle.model.specs.State.{Ranges, Pins, State, at, nodes_in, used_in, stores_in, next_id_in, stores_of, next_id_of, records_of, entries_of}
@@ -17,48 +15,14 @@ use Rattle.model.specs.Tree.{Seg, resolve, blocks}
 use Rattle.model.specs.Store.{store_of, ranges, pins, plus}
 use Rattle.model.specs.Insert.{match_end, adds, ends_inside, ranges_across, pins_across}
 use Rattle.model.specs.Refusals.{node_need, new_blocks, cuts, cut_records, cut_entries, cut_ids}
-use Rattle.model.specs.Calls.{front}
 use Rattle.pool_book.specs.Books.{records_in, entries_in}
 use Rattle.pool_book.proofs.Laws.{records-at, entries_at}
 use Rattle.rule_resolve.specs.declared.Match.{Match}
-use Rattle.rule_grow.proofs.Laws.{Done, done-turn}
 use Rattle.call_cut.specs.Needs.{overfull, overpinned, ids_below}
 use Rattle.theory_calls.proofs.Cut.{records-counted, entries-counted}
 use Rattle.theory_calls.proofs.Parts.{sound-parts}
 use Rattle.theory_cut.proofs.Insert.{match-end}
 use Rattle.call_cut.specs.Refusal.{insert_refusal, cut_number, cut_refusal, Seen, Shown}
-
--- ---- the copy
-
--- the loop's invariant: the first i are copied
-pub record Copying (n : ℕ) (src l c : List ℕ) (i : ℕ) : Type 0 where
-  pub most : i ≤ n
-  pub room : n ≤ length l
-  pub from : n ≤ length src
-  pub done : Done l c (take i src) i
-  pub long : length c ≡ length l
-
-pub copy_start : (n : ℕ) (src l : List ℕ) → n ≤ length src → n ≤ length l → Copying n src l l 0
-copy_start n src l p q =
-    record { most = omega arith; room = q; from = p; done = record { front = refl; high = omega arith; is = refl }; long = refl }
-
-pub copy_turn : (n : ℕ) (src l c : List ℕ) (i : ℕ) → Copying n src l c i → i < n → Copying n src l (set c i (get_or src i 0)) (i + 1)
-copy_turn n src l c i w h =
-    let q : i < length src = omega (arith, w.from) in
-    record {
-      most = omega arith;
-      room = w.room;
-      from = w.from;
-      done = rw (add-one, take-suc src i 0 q, ← add-one i) (done-turn l c (take i src) i (get_or src i 0) w.done (omega (arith, w.room)));
-      long = length-set c _ _ ∙ w.long;
-    }
-
-pub copy_end : (n : ℕ) (src l c : List ℕ) (i : ℕ) → Copying n src l c i → n ≤ i → c ≡ front (take n src) l
-copy_end n src l c i w h =
-    let e : i ≡ n = omega (arith, w.most) in
-    rw (length-take-le n src w.from, ← e) w.done.is
-
--- ---- the conditions
 
 any_none : (n : ℕ) (t : ℕ → Bool) → ((s : ℕ) → s < n → t s ≡ false) → any n t ≡ false
 unfolding any
@@ -177,10 +141,6 @@ module _ (st : State) (hs : List ℕ) where
           (λ s l. ap (λ (n : ℕ). ltb store_pins (entries_of st s + n)) (entries-read s)
           ∙ ap (λ (n : ℕ). ltb store_pins (n + pins_across (match_end (resolve st.tree hs)).node (match_end (resolve st.tree hs)).len (pins st.pins (store_pins * s) n))) (sym (entries_at st.books s (omega arith))))
 
-pub plus-few : (b : Bool) → plus b 1 ≤ 2
-plus-few true = omega arith
-plus-few false = omega arith
-
 -- ---- the returns of the code: of a cut
 
 module _ (j k : ℕ) (over : Bool) (records : List ℕ) (stores next : ℕ) (node start end : List ℕ) (r : Bool)
@@ -221,9 +181,6 @@ module _ {ls ns ss es bs : List ℕ} {o : Bool} {m : Match} {n : ℕ} (st : Stat
 
   len_is : m.len ≡ (match_end (resolve st.tree hs)).len
   len_is = ap (λ a. a.len) w.match
-
-  pub few-nodes : nodes_in bs ≤ 256
-  few-nodes = omega (arith, w.nodes, w.sound.counts.nodes)
 
   pub long : max_numbers ≤ length bs
   long = rw w.books at w.sound.lent.books
@@ -309,13 +266,6 @@ module _ {ls ns ss es bs : List ℕ} {o : Bool} {m : Match} {n : ℕ} (st : Stat
 
 module _ {ls ns ss es pns pss pes bs : List ℕ} {m : Match} {n : ℕ} (st : State) (hs : List ℕ) (w : Shown ls ns ss es pns pss pes bs m n st hs)
     (entries : List ℕ) (are : entries ≡ entries_in bs) where
-  pub entries_asks : (stores_in bs ≤ 8) × ((s : ℕ) → s < stores_in bs → at entries s ≤ 32) × (256 ≤ length pns) × (256 ≤ length pss) × (256 ≤ length pes)
-  entries_asks =
-      let h = w.seen.sound in
-      let e : st.books ≡ bs = w.seen.books in
-      let each : (s : ℕ) → s < stores_of st → at (entries_in st.books) s ≤ 32 = λ s l. rw (entries_at st.books s (omega (arith, h.counts.stores))) (h.counts.each s zero-le l).entries in
-      (rw e at h.counts.stores, subst (λ (q : List ℕ). (s : ℕ) → s < stores_in bs → at q s ≤ 32) (sym are) (subst (λ (q : List ℕ). (s : ℕ) → s < stores_in q → at (entries_in q) s ≤ 32) e each), rw w.pin_node at h.lent.pins.node, rw w.pin_start at h.lent.pins.start, rw w.pin_end at h.lent.pins.end)
-
   pub with_over : (o : Bool)
       → ((c : Pins) → c.node ≡ pns → c.start ≡ pss → c.end ≡ pes → o ≡ any (stores_in bs) (overpinned m.node m.len c entries))
       → Seen ls ns ss es bs o m n st hs

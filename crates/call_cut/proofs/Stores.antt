@@ -114,23 +114,22 @@ abbrev pub PinsAre : List ℕ → List ℕ → List ℕ → Pins → Type 0
 PinsAre node start end c = (c.node ≡ node) × (c.start ≡ start) × (c.end ≡ end)
 
 -- the loop's invariant: of none of the stores below s the test t holds, whatever columns c are meant
-pub record NoneOver {X : Type 0} (Ok : X → Type 0) (t : X → ℕ → Bool) (stores s : ℕ) : Type 0 where
-  pub high : s ≤ stores
+pub record NoneOver {X : Type 0} (Ok : X → Type 0) (t : X → ℕ → Bool) (s : ℕ) : Type 0 where
   pub none : (c : X) → Ok c → any s (t c) ≡ false
 
-module _ {X : Type 0} (Ok : X → Type 0) (t : X → ℕ → Bool) (stores : ℕ) where
-  pub over-start : NoneOver Ok t stores 0
+module _ {X : Type 0} (Ok : X → Type 0) (t : X → ℕ → Bool) where
+  pub over-start : NoneOver Ok t 0
   unfolding any
-  over-start = record { high = omega arith; none = λ c a. refl }
+  over-start = record { none = λ c a. refl }
 
-  pub over-end : (s : ℕ) → NoneOver Ok t stores s → stores ≤ s → (c : X) → Ok c → false ≡ any stores (t c)
-  over-end s w h c a = let e : s ≡ stores = omega (arith, w.high) in sym (rw e at (w.none c a))
+  pub over-end : (stores s : ℕ) → NoneOver Ok t s → s ≡ stores → (c : X) → Ok c → false ≡ any stores (t c)
+  over-end stores s w e c a = sym (rw e at (w.none c a))
 
-  pub over-found : (s : ℕ) → s < stores → ((c : X) → Ok c → t c s ≡ true) → (c : X) → Ok c → true ≡ any stores (t c)
-  over-found s h f c a = sym (any_found stores s (t c) h (f c a))
+  pub over-found : (stores s : ℕ) → s < stores → ((c : X) → Ok c → t c s ≡ true) → (c : X) → Ok c → true ≡ any stores (t c)
+  over-found stores s h f c a = sym (any_found stores s (t c) h (f c a))
 
-  pub over-turn : (s : ℕ) → NoneOver Ok t stores s → s < stores → ((c : X) → Ok c → t c s ≡ false) → NoneOver Ok t stores (s + 1)
-  over-turn s w h f = record { high = omega arith; none = λ c a. any-more s (t c) (w.none c a) (f c a) }
+  pub over-turn : (s : ℕ) → NoneOver Ok t s → ((c : X) → Ok c → t c s ≡ false) → NoneOver Ok t (s + 1)
+  over-turn s w f = record { none = λ c a. any-more s (t c) (w.none c a) (f c a) }
 
 -- more than the limit, with the number that a callee gave
 pub is-over : (limit n r x : ℕ) → r ≡ x → limit < n + r → ltb limit (n + x) ≡ true
@@ -140,35 +139,31 @@ pub not_over : (limit n r x : ℕ) → r ≡ x → n + r ≤ limit → ltb limit
 not_over limit n r x e h = rw (← e) (le-ltb limit (n + r) h)
 
 -- the loop's invariant: the ids of the stores below s
-pub record Summed (node start end : List ℕ) (j k : ℕ) (records : List ℕ) (stores sum s : ℕ) : Type 0 where
-  pub high : s ≤ stores
+pub record Summed (node start end : List ℕ) (j k : ℕ) (records : List ℕ) (sum s : ℕ) : Type 0 where
   pub most : sum ≤ 128 * s
   pub is : (c : Ranges) → c.node ≡ node → c.start ≡ start → c.end ≡ end → sum ≡ ids_below j k c records s
 
-module _ (node start end : List ℕ) (j k : ℕ) (records : List ℕ) (stores : ℕ) where
-  pub sum-start : Summed node start end j k records stores 0 0
+module _ (node start end : List ℕ) (j k : ℕ) (records : List ℕ) where
+  pub sum-start : Summed node start end j k records 0 0
   unfolding ids_below
-  sum-start = record { high = omega arith; most = omega arith; is = λ c a b d. refl }
+  sum-start = record { most = omega arith; is = λ c a b d. refl }
 
   ids_suc : (c : Ranges) (s : ℕ) → ids_below j k c records (s + 1) ≡ ids_below j k c records s + across_of j k c records s
   unfolding ids_below
   ids_suc c s = rw add-one
 
-  pub sum-turn : (sum s r : ℕ) → Summed node start end j k records stores sum s → s < stores → at records s ≤ 128 → r ≤ at records s
+  pub sum-turn : (sum s r : ℕ) → Summed node start end j k records sum s → at records s ≤ 128 → r ≤ at records s
       → ((c : Ranges) → c.node ≡ node → c.start ≡ start → c.end ≡ end → r ≡ ranges_across j k (ranges c (128 * s) (at records s)))
-      → Summed node start end j k records stores (sum + r) (s + 1)
-  sum-turn sum s r w h few less is =
+      → Summed node start end j k records (sum + r) (s + 1)
+  sum-turn sum s r w few less is =
       record {
-        high = omega arith;
         most = omega (arith, w.most);
         is = λ c a b d. ap₂ (λ x y. x + y) (w.is c a b d) (is c a b d) ∙ sym (ids_suc c s);
       }
 
-  pub sum-end : (sum s : ℕ) → Summed node start end j k records stores sum s → stores ≤ s
+  pub sum-end : (sum s stores : ℕ) → Summed node start end j k records sum s → s ≡ stores
       → (sum ≤ 128 * stores) × ((c : Ranges) → c.node ≡ node → c.start ≡ start → c.end ≡ end → sum ≡ ids_below j k c records stores)
-  sum-end sum s w h =
-      let e : s ≡ stores = omega (arith, w.high) in
-      (omega (arith, w.most), λ c a b d. rw e at (w.is c a b d))
+  sum-end sum s stores w e = (omega (arith, w.most), λ c a b d. rw e at (w.is c a b d))
 
 -- ---- pins
 

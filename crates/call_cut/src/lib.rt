@@ -7,7 +7,9 @@ ghost use Rattle.model.specs.State.{Ranges, Pins, at, State, Tree, stalls_in, st
 ghost use Rattle.model.specs.Store.{lay, ranges, lay_ranges, pins, lay_pins, plus, lay_book, lay_next};
 ghost use Rattle.model.specs.Insert.{heads, tails, ranges_across, cut_marks, cut_pins, pins_across, cut_store_in, cut_stores, cut};
 ghost use Rattle.shape_state.specs.Lent.{ranges_of, pins_of, state_of};
-ghost use Rattle.rule_cut_pins.specs.Entries.{counts};
+ghost use Rattle.pool_range.specs.Part.{Sized};
+ghost use Rattle.rule_cut.specs.Cutting.{across_in, cut_ranges as cut_part};
+ghost use Rattle.rule_cut_pins.specs.Entries.{counts, pins_across_in, PinsSized, cut_entries};
 ghost use Rattle.model.specs.Words.{any};
 ghost use Rattle.call_cut.specs.Needs.{overfull, overpinned, ids_below};
 ghost use Rattle.model.specs.Calls.{front};
@@ -18,9 +20,46 @@ ghost use Rattle.call_cut.specs.Room.{Cuttable, StoresCuttable};
 
 use model::Book;
 use pool_book::{book_of, entries_of, put_book, put_counts, put_next, records_of};
+use pool_pin::PinsMut;
+use pool_range::RangesMut;
 use rule_cut::After;
 use rule_grow::cut_tree;
 use rule_resolve::Match;
+
+// The first n ranges of a part, cut. The columns stand one by one here and above: a slice of a slice put in a struct is lost to the check.
+fn cut_range_part(
+    node: &mut [usize],
+    start: &mut [usize],
+    end: &mut [usize],
+    id: &mut [u64],
+    stamp: &mut [u64],
+    touched: &mut [f64],
+    write: &mut [u32],
+    n: usize,
+    j: usize,
+    k: usize,
+    m: usize,
+    next: u64,
+) -> After
+    requires { (n + across_in j k n (ranges_of node.old start.old end.old id.old stamp.old touched.old write.old) ≤ 128)
+        × (next ≤ max_stamp)
+        × Sized 128 (ranges_of node.old start.old end.old id.old stamp.old touched.old write.old) }
+    ensures columns { ranges_of node.new start.new end.new id.new stamp.new touched.new write.new
+        ≡ cut_part j k m next n (ranges_of node.old start.old end.old id.old stamp.old touched.old write.old) }
+    ensures count { result.n ≡ n + across_in j k n (ranges_of node.old start.old end.old id.old stamp.old touched.old write.old) }
+    ensures ids { result.next ≡ next + across_in j k n (ranges_of node.old start.old end.old id.old stamp.old touched.old write.old) }
+{
+    let mut ranges = RangesMut {
+        node,
+        start,
+        end,
+        id,
+        stamp,
+        touched,
+        write,
+    };
+    rule_cut::cut_ranges(&mut ranges, n, j, k, m, next)
+}
 
 // The ranges of store s, cut: its part of each column is lent on.
 pub fn cut_ranges(
@@ -79,7 +118,7 @@ pub fn cut_ranges(
 {
     let a = 128 * s;
     let e = a + 128;
-    rule_cut::cut_ranges(
+    cut_range_part(
         &mut node[a..e],
         &mut start[a..e],
         &mut end[a..e],
@@ -162,13 +201,11 @@ pub fn records_over(
         → c.end ≡ end.now
         → result ≡ any stores (overfull j k c records) }
 {
-    let mut s: usize = 0;
-    while s < stores {
+    for s in 0..stores {
         let n = records[s];
         if 128 < n + ranges_across(node, start, end, s, n, j, k) {
             return true;
         }
-        s += 1;
     }
     false
 }
@@ -196,12 +233,36 @@ pub fn ids_needed(
         → result ≡ ids_below j k c records stores) }
 {
     let mut sum: usize = 0;
-    let mut s: usize = 0;
-    while s < stores {
+    for s in 0..stores {
         sum += ranges_across(node, start, end, s, records[s], j, k);
-        s += 1;
     }
     sum
+}
+
+// The first n pin entries of a part, cut; the columns as above.
+fn cut_pin_part(
+    node: &mut [usize],
+    start: &mut [usize],
+    end: &mut [usize],
+    count: &mut [u64],
+    n: usize,
+    j: usize,
+    k: usize,
+    m: usize,
+) -> usize
+    requires { (n + pins_across_in j k n (pins_of node.old start.old end.old count.old) ≤ 32)
+        × (counts (pins (pins_of node.old start.old end.old count.old) 0 n) ≤ max_pinned)
+        × PinsSized 32 (pins_of node.old start.old end.old count.old) }
+    ensures columns { pins_of node.new start.new end.new count.new ≡ cut_entries j k m n (pins_of node.old start.old end.old count.old) }
+    ensures entries { result ≡ length (cut_pins j k m (pins (pins_of node.old start.old end.old count.old) 0 n)) }
+{
+    let mut part = PinsMut {
+        node,
+        start,
+        end,
+        count,
+    };
+    rule_cut_pins::cut_pins(&mut part, n, j, k, m)
 }
 
 // The pin entries of store s, cut: its part of each column is lent on.
@@ -228,7 +289,7 @@ pub fn cut_pins(
 {
     let a = 32 * s;
     let e = a + 32;
-    rule_cut_pins::cut_pins(
+    cut_pin_part(
         &mut node[a..e],
         &mut start[a..e],
         &mut end[a..e],
@@ -284,13 +345,11 @@ pub fn entries_over(
         → c.end ≡ end.now
         → result ≡ any stores (overpinned j k c entries) }
 {
-    let mut s: usize = 0;
-    while s < stores {
+    for s in 0..stores {
         let n = entries[s];
         if 32 < n + pins_across(node, start, end, s, n, j, k) {
             return true;
         }
-        s += 1;
     }
     false
 }
@@ -300,11 +359,7 @@ pub fn copy_front(dst: &mut [usize], src: &[usize], n: usize)
     requires { (n ≤ length src.now) × (n ≤ length dst.old) }
     ensures { dst.new ≡ front (take n src.now) dst.old }
 {
-    let mut i: usize = 0;
-    while i < n {
-        dst[i] = src[i];
-        i += 1;
-    }
+    dst[..n].copy_from_slice(&src[..n]);
 }
 
 // What a cut of node j at k is refused for: 8, 9, 11 or nothing, 0. `over` says whether some store has too few pin entries left.
@@ -348,10 +403,7 @@ fn cut_refusal(
 fn node_need(inside: bool) -> usize
     ensures { result ≡ plus inside 1 }
 {
-    if inside {
-        return 2;
-    }
-    1
+    if inside { 2 } else { 1 }
 }
 
 // What an insert is refused for once the state is sound and no list is too short or too long: 6, 7, 8, 9, 11 or nothing, 0. It writes nothing.
@@ -446,22 +498,9 @@ fn cut_range_half(
         marks.new result }
 {
     let cut = cut_ranges(
-        &mut *node,
-        &mut *start,
-        &mut *end,
-        &mut *id,
-        &mut *stamp,
-        &mut *touched,
-        &mut *write,
-        s,
-        n,
-        j,
-        k,
-        m,
-        next,
+        node, start, end, id, stamp, touched, write, s, n, j, k, m, next,
     );
-    let count = cut.n;
-    cut_marks(&*node, marks, s, count, j, k, m);
+    cut_marks(node, marks, s, cut.n, j, k, m);
     cut
 }
 
@@ -470,11 +509,16 @@ fn cut_books(books: &mut [u64], s: usize, b: Book, cut: After, entries: usize)
     requires { (s < max_stores) × (max_numbers ≤ length books.old) }
     ensures { books.new ≡ lay_next cut.next (stalls_in books.old) (lay_book s (cut_book b cut.n entries) books.old) }
 {
-    let mut new = b;
-    new.records = cut.n;
-    new.entries = entries;
     let stalls = books[4];
-    put_book(books, s, new);
+    put_book(
+        books,
+        s,
+        Book {
+            records: cut.n,
+            entries,
+            ..b
+        },
+    );
     put_next(books, cut.next, stalls);
 }
 
@@ -556,28 +600,11 @@ fn cut_stores(
         bytes books.old) }
 {
     let stores = books[2] as usize;
-    let mut s: usize = 0;
-    while s < stores {
+    for s in 0..stores {
         cut_store(
-            &mut *node,
-            &mut *start,
-            &mut *end,
-            &mut *id,
-            &mut *stamp,
-            &mut *touched,
-            &mut *write,
-            &mut *pin_node,
-            &mut *pin_start,
-            &mut *pin_end,
-            &mut *pin_count,
-            &mut *marks,
-            &mut *books,
-            s,
-            j,
-            k,
-            m,
+            node, start, end, id, stamp, touched, write, pin_node, pin_start, pin_end, pin_count,
+            marks, books, s, j, k, m,
         );
-        s += 1;
     }
 }
 

@@ -9,6 +9,7 @@ use native.Mathlib.Omega.{arith}
 use lib.ListN.{length}
 use lib.Ieee.{Float}
 use Rattle.model.specs.declared.Book.{Book}
+use Rattle.model.specs.declared.ExpireAnswer.{ExpireAnswer}
 use Rattle.model.specs.Words.{Says}
 use Rattle.model.specs.Sizes.{max_stores, max_numbers}
 use Rattle.model.specs.State.{Tree, Ranges, Pins, Range, State, nodes_in, used_in, book_in, stores_of, next_id_of, book_of, records_of, held_of, version_of}
@@ -17,7 +18,7 @@ use Rattle.model.specs.Store.{ranges, store_of, lay_ranges, lay_book, ranged, to
 use Rattle.model.specs.Trim.{Trimmed}
 use Rattle.model.specs.Expire.{expire}
 use Rattle.model.specs.Refusals.{First, first_of, OutList, OutFits, no_store, bad_times, store_expire_refusals}
-use Rattle.model.specs.Calls.{refused, done, store_expire}
+use Rattle.model.specs.Calls.{Answer, Outcome, refused, done, store_expire}
 use Rattle.theory_refuse.proofs.Says.{says_yes, says_no}
 use Rattle.theory_refuse.proofs.Refusals.{first-is, store_expire_exact}
 use Rattle.theory_refuse.proofs.Refused.{store_expire-kept}
@@ -161,3 +162,8 @@ module _ (T : ℕ → ℕ → Tree) (rs : Ranges) (ps : Pins) (ms table ns : Lis
     call-done {c} {ks} {lʹ} {r} u new d =
         (λ j. outcome (state_of (T (nodes_in (d j)) (used_in (d j))) c ps ks table (d j)) lʹ (done (record { outs = r.outs })))
         ∙ call-laid here l s time seconds h fits n number zero b is {r = r} (given_in here l s time seconds h fits n number zero b is {r = r} u)
+
+-- ---- the lent columns are the lender's again
+
+pub came_back : {st : State} {a : Answer ExpireAnswer} {x : Outcome OutList ExpireAnswer} {l lʹ : OutList} → l ≡ lʹ → outcome st l a ≡ x → outcome st lʹ a ≡ x
+came_back e g = rw (← e) g

@@ -7,8 +7,8 @@ use native.Mathlib.Omega.{arith}
 use borrow.Author.Tests.{lt-ltb, le-ltb, ltb-true, le-leb}
 use lib.ListN.{length, take, drop, set, length-append, length-take, length-drop}
 use lib.Seq.{length-take-le, take_at}
-use Rattle.model.specs.declared.Split.{Split}
-use Rattle.model.specs.declared.Split.TheVariants as S
+use Rattle.std.specs.Prelude.{Option, Some, None}
+use Rattle.model.specs.declared.Cut.{Cut}
 use Rattle.model.specs.declared.InsertAnswer.{InsertAnswer}
 use Rattle.model.specs.Words.{Each}
 use Rattle.model.specs.Sizes.{max_nodes, max_words, max_hashes, max_numbers, max_stamp, store_records, store_pins, path_places}
@@ -229,7 +229,7 @@ counts-read parent depth len run words c p marks bytes n i l l₁ e =
     ap (λ (q : List ℕ). state_of (tree_of parent depth len run words (nodes_in q) (used_in q)) c p marks bytes q) e
 
 -- what `add_leaf`, the counts that are written and the lists' functions leave is the model's
-pub leafed : (ss : List Seg) (split : Split) (t : Tree) (parent depth len run words : List ℕ) (c : Ranges) (p : Pins) (marks bytes l l₁ : List ℕ)
+pub leafed : (ss : List Seg) (split : Option Cut) (t : Tree) (parent depth len run words : List ℕ) (c : Ranges) (p : Pins) (marks bytes l l₁ : List ℕ)
     (hs : List ℕ) (m : Match) (k k' found : PathList) → Found ss m found
     → tree_of parent depth len run words (t.nodes + 1) (t.used + (length hs - m.blocks)) ≡ add_leaf m.node m.blocks (drop m.blocks hs) t
     → l₁ ≡ lay_counts (t.nodes + 1) (t.used + (length hs - m.blocks)) l
@@ -259,7 +259,7 @@ leafed ss split t parent depth len run words c p marks bytes l l₁ hs m k k' fo
     put : Tree → State
     put u = state_of u c p marks bytes (lay_counts u.nodes u.used l)
 
-leaf_path : (ss : List Seg) (hs : List ℕ) (split : Split) (st : State) → blocks ss ≤ length hs
+leaf_path : (ss : List Seg) (hs : List ℕ) (split : Option Cut) (st : State) → blocks ss ≤ length hs
     → record { segs = length ss + 1; blocks = length hs } ≡ path_of (with_leaf hs ss split st).path
 unfolding with_leaf
 leaf_path ss hs split st within =
@@ -327,7 +327,7 @@ module _ {st : State} {l : PathList} {hs : List ℕ} {m : Match} {found : PathLi
   -- nothing is new
   pub nothing-new : (l' : PathList) → length hs ≤ m.blocks
       → l' ≡ path_list_of (front (take m.segs found.node) l.node) (front (take m.segs found.len) l.len)
-      → outcome st l' (inserted_of (I.Done (record { path = record { segs = m.segs; blocks = m.blocks }; split = S.No }))) ≡ insert st l hs
+      → outcome st l' (inserted_of (I.Done (record { path = record { segs = m.segs; blocks = m.blocks }; split = None }))) ≡ insert st l hs
   unfolding insert_path
   nothing-new l' all e =
       let none : adds hs (resolve st.tree hs) ≡ false = le-ltb (blocks (resolve st.tree hs)) (length hs) (omega (arith, blocks_is)) in
@@ -375,13 +375,13 @@ module _ {st : State} {l : PathList} {hs : List ℕ} {m : Match} {found : PathLi
           leaf_room (resolve st.tree hs) st.tree st.books l hs m found h.path h.fits h.sound.lent.tree h.sound.lent.books nodes-one (omega arith) words_fit
           (omega (arith, few-segs, nodes-one))
 
-      pub leaf_new : (st' : State) (l' : PathList) → Left (with_leaf hs (resolve st.tree hs) S.No st) l st' l'
-          → outcome st' l' (inserted_of (I.Done (record { path = record { segs = m.segs + 1; blocks = length hs }; split = S.No }))) ≡ insert st l hs
+      pub leaf_new : (st' : State) (l' : PathList) → Left (with_leaf hs (resolve st.tree hs) None st) l st' l'
+          → outcome st' l' (inserted_of (I.Done (record { path = record { segs = m.segs + 1; blocks = length hs }; split = None }))) ≡ insert st l hs
       unfolding insert_path with_leaf
       leaf_new st' l' w =
           let path = resolve st.tree hs in
-          left-taken (with_leaf hs path S.No st) l l' st' (m.segs + 1) (length hs) w
-          (ap (λ (n : ℕ). record { segs = n + 1; blocks = length hs }) (segs-are h.path) ∙ leaf_path path hs S.No st (omega (arith, blocks_is)))
+          left-taken (with_leaf hs path None st) l l' st' (m.segs + 1) (length hs) w
+          (ap (λ (n : ℕ). record { segs = n + 1; blocks = length hs }) (segs-are h.path) ∙ leaf_path path hs None st (omega (arith, blocks_is)))
           ∙ ap (λ b. taken (cut_first b hs path st) l) (sym not_inside) ∙ ap (λ b. taken (grow b hs path st) l) (sym added) ∙ accepted
 
     -- it ends inside a node
@@ -418,8 +418,8 @@ module _ {st : State} {l : PathList} {hs : List ℕ} {m : Match} {found : PathLi
       cut_asks = rw (node-is, len_is) cut-here
 
       -- the cut that is made
-      abbrev pub made : Split
-      made = S.At (record { node = m.node; at = m.len; new = st.tree.nodes })
+      abbrev pub made : Option Cut
+      made = Some (record { node = m.node; at = m.len; new = st.tree.nodes })
 
       module _ (st₁ : State) (e : st₁ ≡ cut m.node m.len st) where
         tree_is : st₁.tree ≡ cut_tree m.node m.len st.tree
@@ -443,6 +443,6 @@ module _ {st : State} {l : PathList} {hs : List ℕ} {m : Match} {found : PathLi
             (ap (λ (n : ℕ). record { segs = n + 1; blocks = length hs }) (segs-are h.path)
             ∙ leaf_path path hs made st₁ (omega (arith, blocks_is)))
             ∙ ap (λ (s : State). taken (with_leaf hs path made s) l) e
-            ∙ ap (λ (a : Match). taken (with_leaf hs path (S.At (record { node = a.node; at = a.len; new = st.tree.nodes })) (cut a.node a.len st)) l) h.path.match
+            ∙ ap (λ (a : Match). taken (with_leaf hs path (Some (record { node = a.node; at = a.len; new = st.tree.nodes })) (cut a.node a.len st)) l) h.path.match
             ∙ ap (λ b. taken (cut_first b hs path st) l) (sym inside)
             ∙ ap (λ b. taken (grow b hs path st) l) (sym added) ∙ accepted

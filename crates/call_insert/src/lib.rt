@@ -1,7 +1,7 @@
 #![tactic(auto)]
-
-ghost use Rattle.std.specs.Prelude.{◌≡◌, List, [], ◌∷◌, ◌++◌, ℕ, ◌≤◌, ◌<◌, length, take};
-ghost use Rattle.model.specs.declared.Split.{Split};
+// A list inserted in a sound state: the path that is there, and below it one leaf with the rest.
+ghost use Rattle.std.specs.Prelude.{◌≡◌, Option, List, [], ◌∷◌, ◌++◌, ℕ, ◌≤◌, ◌<◌, length, take};
+ghost use Rattle.model.specs.declared.Cut.{Cut};
 ghost use Rattle.model.specs.State.{Ranges, Pins, nodes_in, used_in};
 ghost use Rattle.model.specs.Sound.{Sound};
 ghost use Rattle.model.specs.Tree.{Seg};
@@ -14,7 +14,7 @@ ghost use Rattle.shape_answer.specs.Answers.{state_from, outcome, inserted_of};
 ghost use Rattle.call_insert.specs.Found.{Found, Passed, LeafRoom, Left};
 
 use call_cut::{copy_front, cut_all, refusal};
-use model::{Cut, InsertAnswer, Path, Split};
+use model::{Cut, InsertAnswer, Path};
 use pool_book::put_counts;
 use rule_grow::add_leaf;
 use rule_resolve::{Match, resolve};
@@ -52,7 +52,7 @@ fn lay_longer(
         ≡ path_list_of (front (take n found_node.now ++ (node ∷ [])) path_node.old)
         (front (take n found_len.now ++ (len ∷ [])) path_len.old) }
 {
-    lay_path(&mut *path_node, &mut *path_len, found_node, found_len, n);
+    lay_path(path_node, path_len, found_node, found_len, n);
     path_node[n] = node;
     path_len[n] = len;
 }
@@ -75,7 +75,7 @@ fn add_rest(
     requires { (ss : List Seg)
         × LeafRoom ss (tree_of parent.old depth.old len.old run.old words.old (nodes_in books.old) (used_in books.old)) books.old
         (path_list_of path_node.old path_len.old) hashes.now m (path_list_of found_node.now found_len.now) }
-    ensures { (ss : List Seg) (split : Split) (c : Ranges) (p : Pins) (marks bytes : List ℕ)
+    ensures { (ss : List Seg) (split : Option Cut) (c : Ranges) (p : Pins) (marks bytes : List ℕ)
         → Found ss m (path_list_of found_node.now found_len.now)
         → Left
         (with_leaf hashes.now ss split
@@ -154,7 +154,7 @@ fn insert_found(
                 segs: m.segs,
                 blocks: m.blocks,
             },
-            split: Split::No,
+            split: None,
         });
     }
     let j = m.node;
@@ -170,32 +170,13 @@ fn insert_found(
                 segs,
                 blocks: count,
             },
-            split: Split::No,
+            split: None,
         });
     }
     let new = books[0] as usize;
     cut_all(
-        &mut *parent,
-        &mut *depth,
-        &mut *len,
-        &mut *run,
-        &*words,
-        &mut *node,
-        &mut *start,
-        &mut *end,
-        &mut *id,
-        &mut *stamp,
-        &mut *touched,
-        &mut *write,
-        &mut *pin_node,
-        &mut *pin_start,
-        &mut *pin_end,
-        &mut *pin_count,
-        &mut *marks,
-        bytes,
-        &mut *books,
-        j,
-        k,
+        parent, depth, len, run, words, node, start, end, id, stamp, touched, write, pin_node,
+        pin_start, pin_end, pin_count, marks, bytes, books, j, k,
     );
     add_rest(
         parent, depth, len, run, words, books, path_node, path_len, hashes, m, found_node,
@@ -206,7 +187,7 @@ fn insert_found(
             segs,
             blocks: count,
         },
-        split: Split::At(Cut {
+        split: Some(Cut {
             node: j,
             at: k,
             new,
@@ -263,26 +244,17 @@ pub fn insert(
     let mut found_node = [0usize; 255];
     let mut found_len = [0usize; 255];
     let m = resolve(
-        &*parent,
-        &*len,
-        &*run,
-        &*words,
+        parent,
+        len,
+        run,
+        words,
         nodes,
         hashes,
         &mut found_node,
         &mut found_len,
     );
     let number = refusal(
-        &*len,
-        &*node,
-        &*start,
-        &*end,
-        &*pin_node,
-        &*pin_start,
-        &*pin_end,
-        books,
-        m,
-        count,
+        len, node, start, end, pin_node, pin_start, pin_end, books, m, count,
     );
     if number != 0 {
         return Inserted::Refused(number);

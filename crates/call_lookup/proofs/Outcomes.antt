@@ -63,7 +63,7 @@ module _ (st : State) (l : LookupLists) (ts hs : List ℕ) (sound : Sound st) (p
 pub seen-is : (st : State) (ts hs : List ℕ) (before after : PathList) (m : Match) {rs : List ℕ} → Sound st
     → (Some (length ts) (λ i. stores_of st ≤ at ts i) → ⊥) → length hs ≤ 1024 → (max_tiers < length ts → ⊥) → Resolved st.tree hs before after m
     → Each 0 8 (λ s. at rs s ≡ records_of st s)
-    → Seen st.tree.depth st.ranges.node st.ranges.start st.ranges.end st.bytes rs after m.segs ts st hs
+    → Seen st.tree.depth st.ranges st.bytes rs after m.segs ts st hs
 seen-is st ts hs before after m sound stores few less r records =
     record {
       sound = sound;

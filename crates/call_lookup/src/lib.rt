@@ -12,34 +12,29 @@ ghost use Rattle.shape_answer.specs.Lists.{tier_list_of, lists_of};
 ghost use Rattle.shape_answer.specs.Answers.{state_from, outcome, looked_of};
 
 use model::{EachTier, LookupAnswer, Path};
+use pool_range::RangesRef;
 use shape_answer::Looked;
 
 // Is some tier no store?
 fn no_tier(tiers: &[usize], stores: usize) -> bool
     ensures { Says result (Some (length tiers.now) (λ (i : ℕ). stores ≤ at tiers.now i)) }
 {
-    let mut i = 0;
-    while i < tiers.len() {
-        if stores <= tiers[i] {
-            return true;
-        }
-        i += 1;
-    }
-    false
+    tiers.iter().any(|&t| stores <= t)
 }
 
 fn each_tier(x: [u64; 8]) -> EachTier
     ensures { result ≡ each_tier x }
 {
+    let [first, second, third, fourth, fifth, sixth, seventh, eighth] = x;
     EachTier {
-        first: x[0],
-        second: x[1],
-        third: x[2],
-        fourth: x[3],
-        fifth: x[4],
-        sixth: x[5],
-        seventh: x[6],
-        eighth: x[7],
+        first,
+        second,
+        third,
+        fourth,
+        fifth,
+        sixth,
+        seventh,
+        eighth,
     }
 }
 
@@ -98,10 +93,7 @@ pub fn lookup(
     if no_tier(tiers, books[2] as usize) {
         return Looked::Refused(2);
     }
-    if 1024 < hashes.len() {
-        return Looked::Refused(3);
-    }
-    if test_arguments::many_tiers(tiers.len()) {
+    if 1024 < hashes.len() || test_arguments::many_tiers(tiers.len()) {
         return Looked::Refused(3);
     }
     let m = rule_resolve::resolve(
@@ -111,35 +103,30 @@ pub fn lookup(
         words,
         books[0] as usize,
         hashes,
-        &mut *path_node,
-        &mut *path_len,
+        path_node,
+        path_len,
     );
     let records = pool_book::records_of(books);
-    let w = rule_lookup::lookup_resolved(
-        depth,
+    let ranges = RangesRef {
         node,
         start,
         end,
-        bytes,
-        &*path_node,
-        &*path_len,
-        span_tier,
-        span_node,
-        span_start,
-        span_end,
-        records,
-        m.segs,
-        tiers,
+        id,
+        stamp,
+        touched,
+        write,
+    };
+    let w = rule_lookup::lookup_resolved(
+        depth, ranges, bytes, path_node, path_len, span_tier, span_node, span_start, span_end,
+        records, m.segs, tiers,
     );
-    let blocks = w.blocks;
-    let sums = w.bytes;
     Looked::Done(LookupAnswer {
         path: Path {
             segs: m.segs,
             blocks: m.blocks,
         },
         spans: w.spans,
-        blocks: each_tier(blocks),
-        bytes: each_tier(sums),
+        blocks: each_tier(w.blocks),
+        bytes: each_tier(w.bytes),
     })
 }

@@ -9,11 +9,8 @@ use native.Mathlib.Omega.{arith}
 use lib.Dec.{ltb, leb}
 use lib.ListN.{length, get_or}
 use borrow.Author.Tests.{le-leb, lt-leb, ltb-true, not-false}
-use mir.Val.{Fits}
-use mir.Syntax.{w64}
 use Rattle.model.specs.declared.Span.{Span}
 use Rattle.model.specs.declared.Book.{Book}
-use Rattle.model.specs.Sizes.{max_stores, max_numbers}
 use Rattle.model.specs.State.{Tree, Ranges, Pins, Pin, State, at, stores_of, entries_of, pinned_of, nodes_in, used_in, stores_in, next_id_in, book_in}
 use Rattle.model.specs.Sound.{Sound, PinInside}
 use Rattle.model.specs.SoundTest.{sound}
@@ -32,9 +29,9 @@ use Rattle.theory_sound.specs.StoreSound.{StoreSound}
 use Rattle.theory_bring.proofs.Facts.{all_map}
 use Rattle.theory_cut.proofs.Pins.{add-pinned, take_pinned}
 use Rattle.theory_calls.proofs.Stores.{store-sound}
-use Rattle.pool_pin.specs.declared.EntryPlace.{EntryPlace}
-use Rattle.pool_pin.specs.EntryPlace.{PinsFrom, Placed}
-use Rattle.call_pin.proofs.Laws.{has_is, part-lent, fits_in}
+use Rattle.std.specs.Prelude.{Result, Ok, Err, is_ok, is_err, IfOk}
+use Rattle.pool_pin.specs.EntryPlace.{PinsFrom, Placed, spans_from}
+use Rattle.call_pin.proofs.Laws.{has_is, not-ok, part-lent, fits_in}
 
 -- ---- the first test that holds
 
@@ -153,9 +150,6 @@ module _ (T : ℕ → ℕ → Tree) (rs : Ranges) (c : Pins) (ms bs ns : List �
     pub within : (b.entries ≤ 32) × (b.pinned ≤ 1000000)
     within = rw is ((h.counts.each s zero-le less).entries, (h.counts.each s zero-le less).pinned)
 
-    pub to_place : (32 * s + b.entries ≤ length c.node) × (32 * s + b.entries ≤ length c.start) × (32 * s + b.entries ≤ length c.end)
-    to_place = (omega (arith, part.node, within.0), omega (arith, part.start, within.0), omega (arith, part.end, within.0))
-
     own : StoreSound tree (next_id_in ns) (store_of (left c ns) s)
     own = store-sound (left c ns) s h less
 
@@ -176,65 +170,71 @@ module _ (T : ℕ → ℕ → Tree) (rs : Ranges) (c : Pins) (ms bs ns : List �
         ap (λ (z : List ℕ). left c' z) (w ∙ (λ i. lay_book s (pinning (is i) n v) ns))
         ∙ (λ i. state_of tree rs (laid i) ms bs (lay_book s (pinning (book_in ns s) (f i) (g i)) ns))
 
-    module _ (r : Bool) (good-is : r ≡ span_in tree sp) (good : not r ≡ false) (p : EntryPlace)
-        (place : Placed c.node c.start c.end (32 * s) b.entries sp p) where
-      has : has_pin (pin_of sp 1) (store_of (left c ns) s).pins ≡ p.there
+    module _ (r : Bool) (good-is : r ≡ span_in tree sp) (good : not r ≡ false) (p : Result ℕ ℕ)
+        (place : Placed (spans_from c (32 * s)) b.entries sp p) where
+      has : has_pin (pin_of sp 1) (store_of (left c ns) s).pins ≡ is_ok p
       has = rw listed (has_is (32 * s) b.entries c sp p place (rw (← listed) own.pins.sorted))
 
-      need : pin_need (store_of (left c ns) s) sp ≡ plus (not p.there) 0
+      need : pin_need (store_of (left c ns) s) sp ≡ plus (is_err p) 0
       unfolding pin_need
-      need = ap (λ (x : Bool). plus (not x) 0) has
+      need = ap (λ (x : Bool). plus (not x) 0) has ∙ ap (λ (x : Bool). plus x 0) (not-ok p)
 
       -- the count of an entry that is there can be raised
-      count_low : p.there ≡ true → at c.count (32 * s + p.at) + 1 < 2 ^ 64
-      count_low e =
+      entry_low : (i : ℕ) → i < b.entries → at c.count (32 * s + i) + 1 < 2 ^ 64
+      entry_low i l =
           let ps = pins c (32 * s) b.entries in
-          let l : p.at < b.entries = (place.found e).0 in
           let most : b.pinned ≡ pinned_in ps = rw (← listed) sum in
           omega (
             arith,
             within.1,
             most,
-            ap (λ (q : Pin). q.count) (pins-at c (32 * s) b.entries p.at (pin_of sp 1) l),
-            count_most tree ps p.at (pin_of sp 1) (rw (← listed) own.pins.inside) (rw pins_length l),
+            ap (λ (q : Pin). q.count) (pins-at c (32 * s) b.entries i (pin_of sp 1) l),
+            count_most tree ps i (pin_of sp 1) (rw (← listed) own.pins.inside) (rw pins_length l),
           )
 
+      count_low : IfOk p (λ i. at c.count (32 * s + i) + 1 < 2 ^ 64)
+      count_low = go p place
+        where
+          go : (r : Result ℕ ℕ) → Placed (spans_from c (32 * s)) b.entries sp r → IfOk r (λ i. at c.count (32 * s + i) + 1 < 2 ^ 64)
+          go (Ok i) here = entry_low i here.high
+          go (Err i) new = tt
+
       -- an unpin takes no more off than is pinned
-      taken-off : p.there ≡ true → b.pinned ≡ pinned_in (take_pin (pin_of sp 1) (store_of (left c ns) s).pins) + (sp.end - sp.start)
+      taken-off : is_ok p ≡ true → b.pinned ≡ pinned_in (take_pin (pin_of sp 1) (store_of (left c ns) s).pins) + (sp.end - sp.start)
       taken-off e =
           let ps = (store_of (left c ns) s).pins in
           sum ∙ sym (take_pinned (pin_of sp 1) ps (all_map (λ q w. w.counted) ps own.pins.inside) (has ∙ e))
 
       -- ---- 9
 
-      module _ (o : Bool) (over : o ≡ (ltb 32 (b.entries + plus (not p.there) 0) || ltb 1000000 (b.pinned + (sp.end - sp.start)))) where
+      module _ (o : Bool) (over : o ≡ (ltb 32 (b.entries + plus (is_err p) 0) || ltb 1000000 (b.pinned + (sp.end - sp.start)))) where
         tested : (x : Bool) → o ≡ x → full (left c ns) s sp ≡ x
         tested x e =
-            let tests : o ≡ (ltb 32 ((book_in ns s).entries + plus (not p.there) 0) || ltb 1000000 ((book_in ns s).pinned + (sp.end - sp.start))) = rw (← is) over in
+            let tests : o ≡ (ltb 32 ((book_in ns s).entries + plus (is_err p) 0) || ltb 1000000 ((book_in ns s).pinned + (sp.end - sp.start))) = rw (← is) over in
             ap (λ (k : ℕ). ltb 32 ((book_in ns s).entries + k) || ltb 1000000 ((book_in ns s).pinned + (sp.end - sp.start))) need ∙ sym tests ∙ e
 
         -- what `add_pin` asks, and the sum that is recorded
         pub to_pin : o ≡ false
-            → (b.entries + plus (not p.there) 0 ≤ 32) × Placed c.node c.start c.end (32 * s) b.entries sp p
-            × (p.there ≡ true → at c.count (32 * s + p.at) + 1 < 2 ^ 64) × PinsFrom (32 * s) c
-        to_pin e = ((fits_in p.there b.entries b.pinned (sp.end - sp.start) o over e).0, place, count_low, part)
+            → (b.entries + plus (is_err p) 0 ≤ 32) × Placed (spans_from c (32 * s)) b.entries sp p
+            × IfOk p (λ i. at c.count (32 * s + i) + 1 < 2 ^ 64) × PinsFrom (32 * s) c
+        to_pin e = ((fits_in (is_err p) b.entries b.pinned (sp.end - sp.start) o over e).0, place, count_low, part)
 
         pub sum_fits : o ≡ false → b.pinned + (sp.end - sp.start) ≤ 1000000
-        sum_fits e = (fits_in p.there b.entries b.pinned (sp.end - sp.start) o over e).1
+        sum_fits e = (fits_in (is_err p) b.entries b.pinned (sp.end - sp.start) o over e).1
 
         pub too_much : o ≡ true → outcome (left c ns) tt (refused 9) ≡ pin_source (left c ns) s sp
         too_much e =
             pin-stops (left c ns) s sp h 8 (at_last (left c ns) s sp h 9 (full (left c ns) s sp) less (span_test tree sp r good-is good) (tested true e))
 
         pub pin-ends : o ≡ false → (c' : Pins) (l : List ℕ) (n : ℕ)
-            → (c' ≡ lay_pins (32 * s) (b.entries + plus (not p.there) 0) (add_pin (pin_of sp 1) (pins c (32 * s) b.entries)) c)
+            → (c' ≡ lay_pins (32 * s) (b.entries + plus (is_err p) 0) (add_pin (pin_of sp 1) (pins c (32 * s) b.entries)) c)
             × (n ≡ length (add_pin (pin_of sp 1) (pins c (32 * s) b.entries)))
             → l ≡ lay_book s (pinning b n (b.pinned + (sp.end - sp.start))) ns
             → outcome (left c' l) tt (done tt) ≡ pin_source (left c ns) s sp
         unfolding pin
         pin-ends e c' l n k w =
             let ps = add_pin (pin_of sp 1) (store_of (left c ns) s).pins in
-            let k' : (c' ≡ lay_pins (32 * s) (b.entries + plus (not p.there) 0) ps c) × (n ≡ length ps) = rw listed k in
+            let k' : (c' ≡ lay_pins (32 * s) (b.entries + plus (is_err p) 0) ps c) × (n ≡ length ps) = rw listed k in
             let laid = k'.0 ∙ ap (λ (m : ℕ). lay_pins (32 * s) (b.entries + m) ps c) (sym need) in
             let more : b.pinned + (sp.end - sp.start) ≡ pinned_in ps = omega (arith, add-pinned (pin_of sp 1) (store_of (left c ns) s).pins, sum) in
             ap (λ (st : State). outcome {L = NoList} {A = NoValue} st tt (done tt)) (laid-state (pin_need (store_of (left c ns) s) sp) ps c' l n _ laid k'.1 w more)
@@ -242,19 +242,14 @@ module _ (T : ℕ → ℕ → Tree) (rs : Ranges) (c : Pins) (ms bs ns : List �
 
       -- ---- 10
 
-      -- what `take_pin` asks, and the difference that is recorded
-      pub to_unpin : not p.there ≡ false
-          → (b.entries ≤ 32) × (p.there ≡ true) × Placed c.node c.start c.end (32 * s) b.entries sp p × PinsFrom (32 * s) c
-      to_unpin e = (within.0, not-false p.there e, place, part)
+      pub off-fits : is_ok p ≡ true → sp.end - sp.start ≤ b.pinned
+      off-fits e = omega (arith, taken-off e)
 
-      pub off-fits : not p.there ≡ false → sp.end - sp.start ≤ b.pinned
-      off-fits e = omega (arith, taken-off (not-false p.there e))
-
-      pub no_entry_lem : not p.there ≡ true → outcome (left c ns) tt (refused 10) ≡ unpin_source (left c ns) s sp
+      pub no_entry_lem : is_ok p ≡ false → outcome (left c ns) tt (refused 10) ≡ unpin_source (left c ns) s sp
       no_entry_lem e =
-          unpin-stops (left c ns) s sp h 9 (at_last (left c ns) s sp h 10 (absent (left c ns) s sp) less (span_test tree sp r good-is good) (ap not has ∙ e))
+          unpin-stops (left c ns) s sp h 9 (at_last (left c ns) s sp h 10 (absent (left c ns) s sp) less (span_test tree sp r good-is good) (ap not (has ∙ e)))
 
-      pub unpin-ends : not p.there ≡ false → (c' : Pins) (l : List ℕ) (n : ℕ)
+      pub unpin-ends : is_ok p ≡ true → (c' : Pins) (l : List ℕ) (n : ℕ)
           → (c' ≡ lay_pins (32 * s) b.entries (take_pin (pin_of sp 1) (pins c (32 * s) b.entries)) c)
           × (n ≡ length (take_pin (pin_of sp 1) (pins c (32 * s) b.entries)))
           → l ≡ lay_book s (pinning b n (b.pinned - (sp.end - sp.start))) ns
@@ -265,19 +260,6 @@ module _ (T : ℕ → ℕ → Tree) (rs : Ranges) (c : Pins) (ms bs ns : List �
           let k' : (c' ≡ lay_pins (32 * s) b.entries ps c) × (n ≡ length ps) = rw listed k in
           let zero_more : b.entries ≡ b.entries + 0 = omega arith in
           let laid = k'.0 ∙ ap (λ (m : ℕ). lay_pins (32 * s) m ps c) zero_more in
-          let less_by : b.pinned - (sp.end - sp.start) ≡ pinned_in ps = omega (arith, taken-off (not-false p.there e)) in
+          let less_by : b.pinned - (sp.end - sp.start) ≡ pinned_in ps = omega (arith, taken-off e) in
           ap (λ (st : State). outcome {L = NoList} {A = NoValue} st tt (done tt)) (laid-state 0 ps c' l n _ laid k'.1 w less_by)
-          ∙ unpin_goes (left c ns) s sp h (at_none (left c ns) s sp h 10 (absent (left c ns) s sp) less (span_test tree sp r good-is good) (ap not has ∙ e))
-
--- ---- what the tests ask
-
-module _ {st : State} (h : Sound st) where
-  pub nodes_in_lem : st.tree.nodes ≤ length st.tree.len
-  nodes_in_lem = omega (arith, h.counts.nodes, h.lent.tree.len)
-
-  pub in_books : {s : ℕ} → s < stores_of st → (s < max_stores) × (max_numbers ≤ length st.books)
-  in_books {s} less = (omega (arith, h.counts.stores), h.lent.books)
-
-  -- where a store's part begins
-  pub base_fits : {s : ℕ} → s < stores_of st → Fits w64 (32 * s)
-  base_fits less = omega (arith, h.counts.stores)
+          ∙ unpin_goes (left c ns) s sp h (at_none (left c ns) s sp h 10 (absent (left c ns) s sp) less (span_test tree sp r good-is good) (ap not (has ∙ e)))

@@ -1,11 +1,12 @@
 #![tactic(auto)]
-
+// A span pinned, and unpinned, in a sound state.
 ghost use Rattle.std.specs.Prelude.{◌≡◌};
 ghost use Rattle.model.specs.Sound.{Sound};
 ghost use Rattle.model.specs.Calls.{pin_source, unpin_source};
 ghost use Rattle.shape_answer.specs.Answers.{state_from, outcome, plain_of};
 
 use model::Span;
+use pool_pin::{PinsMut, place_of};
 use shape_answer::Plain;
 
 // Pin: 1 more on the entry of exactly that span of store s, held or not.
@@ -59,14 +60,19 @@ pub fn pin_source(
     let mut b = pool_book::book_of(books, s);
     let n = b.entries;
     let a = 32 * s;
-    let place = pool_pin::place_of(pin_node, pin_start, pin_end, a, n, sp);
-    let pinned = b.pinned;
+    let mut pins = PinsMut {
+        node: pin_node,
+        start: pin_start,
+        end: pin_end,
+        count: pin_count,
+    };
+    let place = place_of(pins.view(), a, n, sp);
     let blocks = sp.end - sp.start;
-    if test_arguments::too_many(place.there, n, pinned, blocks) {
+    if test_arguments::too_many(place.is_ok(), n, b.pinned, blocks) {
         return Plain::Refused(9);
     }
-    b.entries = pool_pin::add_pin(pin_node, pin_start, pin_end, pin_count, a, n, place, sp, 1);
-    b.pinned = pinned + blocks as u64;
+    b.entries = pins.add(a, n, place, sp, 1);
+    b.pinned += blocks as u64;
     pool_book::put_book(books, s, b);
     Plain::Done
 }
@@ -122,14 +128,17 @@ pub fn unpin_source(
     let mut b = pool_book::book_of(books, s);
     let n = b.entries;
     let a = 32 * s;
-    let place = pool_pin::place_of(pin_node, pin_start, pin_end, a, n, sp);
-    let pinned = b.pinned;
-    let blocks = sp.end - sp.start;
-    if !place.there {
+    let mut pins = PinsMut {
+        node: pin_node,
+        start: pin_start,
+        end: pin_end,
+        count: pin_count,
+    };
+    let Ok(at) = place_of(pins.view(), a, n, sp) else {
         return Plain::Refused(10);
-    }
-    b.entries = pool_pin::take_pin(pin_node, pin_start, pin_end, pin_count, a, n, place, sp);
-    b.pinned = pinned - blocks as u64;
+    };
+    b.entries = pins.take(a, n, at, sp);
+    b.pinned -= (sp.end - sp.start) as u64;
     pool_book::put_book(books, s, b);
     Plain::Done
 }

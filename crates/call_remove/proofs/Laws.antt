@@ -17,7 +17,7 @@ use Rattle.model.specs.declared.RemoveAnswer.{RemoveAnswer}
 use Rattle.model.specs.Sizes.{max_stores, max_numbers, max_stamp, out_places, store_records}
 use Rattle.model.specs.Words.{pick}
 use Rattle.model.specs.State.{Tree, Ranges, Pins, State, at, nodes_in, used_in, next_id_in, stalls_in, book_in, stores_of, next_id_of, stalls_of, book_of, records_of, held_of, version_of}
-use Rattle.model.specs.Sound.{Sound, EndsWithin}
+use Rattle.model.specs.Sound.{Sound, EndsWithin, RangesLent}
 use Rattle.model.specs.Store.{Store, ranges, store_of, lay_book, lay_next, ranged, with_ranges, with_next}
 use Rattle.model.specs.Remove.{version_past, Removed, remove}
 use Rattle.model.specs.Refusals.{First, first_of, SpanIn, span_in, no_store, bad_span, few_records, late_id, store_remove_refusals}
@@ -119,36 +119,34 @@ module _ (st : State) (l : List ℕ) (s : ℕ) (sp : Span) (h : Sound st) (long 
   refused-store k = number 2 (inl (k, refl))
 
 pub seen : (st : State) (s : ℕ) → Sound st → s < stores_of st → (b : Book) → b ≡ book_of st s
-    → Seen st.tree.len st.ranges.node st.ranges.start st.ranges.end st.tree.nodes (next_id_of st) s b.records st
+    → Seen st.tree.len st.ranges st.tree.nodes (next_id_of st) s b.records st
 seen st s h less b is =
     record {
       sound = h;
       lens = refl;
       count = refl;
-      nodes = refl;
-      starts = refl;
-      ends = refl;
+      ranges = refl;
       next_id = refl;
       store = less;
       records = sym (ap (λ (k : Book). k.records) is);
     }
 
-module _ {len node start end : List ℕ} {k i s n : ℕ} {st : State} (v : Seen len node start end k i s n st) where
+module _ {len : List ℕ} {c : Ranges} {k i s n : ℕ} {st : State} (v : Seen len c k i s n st) where
   pub nodes_fit : k ≤ length len
   nodes_fit = omega (arith, v.sound.counts.nodes, v.sound.lent.tree.len, v.count, ap (λ (q : List ℕ). length q) v.lens)
 
-  pub placed_in : Placed s n node start end
-  placed_in = rw (v.records, v.nodes, v.starts, v.ends) at (placed st s v.sound v.store)
+  pub placed_in : Placed s n c.node c.start c.end × RangesLent c
+  placed_in = (rw (v.records, v.ranges) at (placed st s v.sound v.store), rw v.ranges at v.sound.lent.ranges)
 
   pub need-asked : (n ≤ store_records) × (0 ≤ max_stamp) × (i ≤ max_stamp)
   need-asked = (omega (arith, few st s v.sound v.store, v.records), zero-le, omega (arith, v.sound.counts.next_id, v.next_id))
 
   module _ (sp : Span) where
-    needs_in : (r : ℕ) → NeedsAt s n node start end sp r → NeedsAt s (records_of st s) st.ranges.node st.ranges.start st.ranges.end sp r
-    needs_in r f = rw (v.records, v.nodes, v.starts, v.ends) f
+    needs_in : (r : ℕ) → NeedsAt s n c.node c.start c.end sp r → NeedsAt s (records_of st s) st.ranges.node st.ranges.start st.ranges.end sp r
+    needs_in r f = rw (v.records, v.ranges) f
 
     -- the need is the definition's
-    need-is : (r : ℕ) → NeedsAt s n node start end sp r → r ≡ (removed_by st s sp).need
+    need-is : (r : ℕ) → NeedsAt s n c.node c.start c.end sp r → r ≡ (removed_by st s sp).need
     need-is r f = needed st s v.sound v.store sp r (needs_in r f)
 
     -- what the test of 4 tells
@@ -167,7 +165,7 @@ module _ {len node start end : List ℕ} {k i s n : ℕ} {st : State} (v : Seen 
           → 4 ≡ first_of (store_remove_refusals st l s sp)
       refused-span f e = number st l s sp v.sound long 4 (inr (used, inl (span-bad f e, refl)))
 
-      module _ (inside : SpanIn st.tree sp) (r : ℕ) (needs : NeedsAt s n node start end sp r) where
+      module _ (inside : SpanIn st.tree sp) (r : ℕ) (needs : NeedsAt s n c.node c.start c.end sp r) where
         inside_in : (SpanIn st.tree sp → ⊥) → ⊥
         inside_in g = g inside
 

@@ -12,13 +12,11 @@ use Rattle.rule_overlap.specs.Overlap.{Ordered, RemoveNeeds, RemoveFits}
 use Rattle.rule_remove.specs.declared.Removing.{Removing}
 
 -- a sound state with these columns, k nodes and the next id i, and n records in its store s
-pub record Seen (len node start end : List ℕ) (k i s n : ℕ) (st : State) : Type 0 where
+pub record Seen (len : List ℕ) (c : Ranges) (k i s n : ℕ) (st : State) : Type 0 where
   pub sound : Sound st
   pub lens : st.tree.len ≡ len
   pub count : st.tree.nodes ≡ k
-  pub nodes : st.ranges.node ≡ node
-  pub starts : st.ranges.start ≡ start
-  pub ends : st.ranges.end ≡ end
+  pub ranges : st.ranges ≡ c
   pub next_id : next_id_of st ≡ i
   pub store : s < stores_of st
   pub records : records_of st s ≡ n

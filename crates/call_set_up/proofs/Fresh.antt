@@ -1,17 +1,17 @@
 -- The small numbers as set-up writes them, store by store: those of the first s stores, then what was lent. Assumes nothing.
 use Prim.Native.Nat.{ℕ, zero, suc, ◌+◌, ◌*◌, ◌≤◌, ◌<◌}
 use mathlib.Core.Path.{◌≡◌, refl, sym, ap, ◌∙◌}
-use mathlib.Core.Bool.{Bool, false}
-use mathlib.Core.List.{List, [], ◌∷◌, ◌++◌, append_assoc}
+use mathlib.Core.Bool.{Bool}
+use mathlib.Core.List.{List, ◌++◌, append_assoc}
 use native.Mathlib.Omega.{arith}
 use native.Mathlib.Nat.{add-zero, zero-add}
-use lib.ListN.{length, get_or, set, take, drop, length-append, get_or-eq_default}
+use lib.ListN.{length, set, take, drop, length-append}
 use lib.Seq.{take_at, drop_at, drop-drop}
 use Rattle.model.specs.declared.Book.{Book}
 use Rattle.model.specs.Sizes.{max_stores, store_numbers}
-use Rattle.model.specs.State.{at, whole, parts_in, numbers, book_from}
+use Rattle.model.specs.State.{whole, parts_in, numbers}
 use Rattle.model.specs.Store.{lay, lay_book, lay_counts, lay_next}
-use Rattle.model.specs.SetUp.{policy, new_book, new_numbers}
+use Rattle.model.specs.SetUp.{new_book, new_numbers}
 use Rattle.call_set_up.specs.Fresh.{fresh_books}
 
 -- d is the list that was lent, l has the numbers of the first s stores in it
@@ -22,13 +22,6 @@ pub record Filled (capacity : List ℕ) (refreshes : List Bool) (d : List ℕ) (
   pub so : parts_in l ≡ new_numbers capacity refreshes 0 s ++ drop (store_numbers * s) (parts_in d)
 
 module _ (capacity : List ℕ) (refreshes : List Bool) where
-  -- past the lists a store has nothing
-  pub new_none : (s : ℕ) → length capacity ≤ s → length refreshes ≡ length capacity → book_from (0 ∷ policy false ∷ []) ≡ new_book capacity refreshes s
-  new_none s h e =
-      let a : at capacity s ≡ 0 = get_or-eq_default capacity 0 h in
-      let b : get_or refreshes s false ≡ false = get_or-eq_default refreshes false (omega arith) in
-      λ i. book_from (sym a i ∷ policy (sym b i) ∷ [])
-
   new-last : (n r : ℕ) → new_numbers capacity refreshes r (n + 1) ≡ new_numbers capacity refreshes r n ++ numbers (new_book capacity refreshes (r + n))
   unfolding new_numbers
   new-last zero r = rw add-zero

@@ -20,35 +20,17 @@ fn tree_lent(parent: &[usize], depth: &[usize], len: &[usize], run: &[usize], wo
     ensures { (nodes used : ℕ)
         → Says result (TreeLent (tree_of parent.now depth.now len.now run.now words.now nodes used)) }
 {
-    if parent.len() < 256 {
-        return false;
-    }
-    if depth.len() < 256 {
-        return false;
-    }
-    if len.len() < 256 {
-        return false;
-    }
-    if run.len() < 256 {
-        return false;
-    }
-    if words.len() < 4096 {
-        return false;
-    }
-    true
+    parent.len() >= 256
+        && depth.len() >= 256
+        && len.len() >= 256
+        && run.len() >= 256
+        && words.len() >= 4096
 }
 
 fn capacities_fit(capacity: &[u64]) -> bool
     ensures { Says result (Each 0 (length capacity.now) (λ (s : ℕ). at capacity.now s ≤ 1000000)) }
 {
-    let mut s = 0;
-    while s < capacity.len() {
-        if 1000000 < capacity[s] {
-            return false;
-        }
-        s += 1;
-    }
-    true
+    capacity.iter().all(|&c| c <= 1000000)
 }
 
 // Whether sizes, capacities, byte table and pools are inside the rules, on any lists.
@@ -84,7 +66,8 @@ fn fits(
         bytes.now books.now)
         table.now capacity.now refreshes.now) }
 {
-    if capacity.len() < 1 {
+    // A ladder: of twelve tests joined by && the check does not find what the last one tells.
+    if capacity.is_empty() {
         return false;
     }
     if 8 < capacity.len() {
@@ -130,29 +113,14 @@ fn copy_in(to: &mut [u64], from: &[u64])
     requires { length from.now ≤ length to.old }
     ensures { to.new ≡ front from.now to.old }
 {
-    let mut i = 0;
-    while i < from.len() {
-        to[i] = from[i];
-        i += 1;
-    }
-}
-
-// A policy as its number.
-fn policy_of(refreshes: bool) -> u64
-    ensures { result ≡ policy refreshes }
-{
-    if refreshes {
-        return 1;
-    }
-    0
+    to[..from.len()].copy_from_slice(from);
 }
 
 // A store's own numbers: its capacity and its policy, everything else 0.
 fn new_book(capacity: u64, refreshes: bool) -> Book
     ensures { result ≡ book_from (capacity ∷ policy refreshes ∷ []) }
 {
-    let policy = policy_of(refreshes);
-    pool_book::new_book(capacity, policy)
+    pool_book::new_book(capacity, u64::from(refreshes))
 }
 
 // The same of store s; 0 past the lists.
@@ -160,10 +128,11 @@ fn book_at(capacity: &[u64], refreshes: &[bool], s: usize) -> Book
     requires { length refreshes.now ≡ length capacity.now }
     ensures { result ≡ new_book capacity.now refreshes.now s }
 {
-    if capacity.len() <= s {
-        return new_book(0, false);
+    if s < capacity.len() {
+        new_book(capacity[s], refreshes[s])
+    } else {
+        new_book(0, false)
     }
-    new_book(capacity[s], refreshes[s])
 }
 
 // The small numbers: the root only, the stores, next id 1, everything else 0; what stands past them stays.
@@ -171,11 +140,8 @@ fn fresh_books(books: &mut [u64], capacity: &[u64], refreshes: &[bool])
     requires { (max_numbers ≤ length books.old) × (length refreshes.now ≡ length capacity.now) }
     ensures { books.new ≡ fresh_books capacity.now refreshes.now books.old }
 {
-    let mut s = 0;
-    while s < 8 {
-        let b = book_at(capacity, refreshes, s);
-        pool_book::put_book(books, s, b);
-        s += 1;
+    for s in 0..8 {
+        pool_book::put_book(books, s, book_at(capacity, refreshes, s));
     }
     pool_book::put_counts(books, 1, 0);
     books[2] = capacity.len() as u64;

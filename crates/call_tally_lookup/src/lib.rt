@@ -93,7 +93,7 @@ fn late(
         hashes,
     );
     match r {
-        Looked::Refused(n) => false,
+        Looked::Refused(_) => false,
         Looked::Done(a) => {
             let blocks = pool_sums::all_tiers(a.blocks);
             let bytes = pool_sums::all_tiers(a.bytes);

@@ -60,30 +60,10 @@ fn near_remove(
     let next = books[3];
     let stalls = books[4];
     let old = pool_undo::keep(node, start, end, id, stamp, touched, write, marks, s);
-    let kept = pool_undo::copy_u32(list, 0);
+    let kept: [u32; 128] = pool_undo::copy(list, 0);
     let r = call_remove::store_remove(
-        parent,
-        depth,
-        len,
-        run,
-        words,
-        &mut *node,
-        &mut *start,
-        &mut *end,
-        &mut *id,
-        &mut *stamp,
-        &mut *touched,
-        &mut *write,
-        pin_node,
-        pin_start,
-        pin_end,
-        pin_count,
-        &mut *marks,
-        bytes,
-        &mut *books,
-        &mut *list,
-        s,
-        sp,
+        parent, depth, len, run, words, node, start, end, id, stamp, touched, write, pin_node,
+        pin_start, pin_end, pin_count, marks, bytes, books, list, s, sp,
     );
     match r {
         StoreRemoved::Refused(n) => StoreRemoved::Refused(n),
@@ -93,7 +73,7 @@ fn near_remove(
                     node, start, end, id, stamp, touched, write, marks, books, s, old, b, next,
                     stalls,
                 );
-                pool_undo::put_u32(list, 0, kept);
+                pool_undo::put(list, 0, &kept);
                 return StoreRemoved::Refused(21);
             }
             pool_sums::add_remove(sums, s, a.blocks);
@@ -157,28 +137,8 @@ pub fn tally_remove(
         );
     }
     let r = call_remove::store_remove(
-        parent,
-        depth,
-        len,
-        run,
-        words,
-        &mut *node,
-        &mut *start,
-        &mut *end,
-        &mut *id,
-        &mut *stamp,
-        &mut *touched,
-        &mut *write,
-        pin_node,
-        pin_start,
-        pin_end,
-        pin_count,
-        &mut *marks,
-        bytes,
-        &mut *books,
-        &mut *list,
-        s,
-        sp,
+        parent, depth, len, run, words, node, start, end, id, stamp, touched, write, pin_node,
+        pin_start, pin_end, pin_count, marks, bytes, books, list, s, sp,
     );
     match r {
         StoreRemoved::Refused(n) => StoreRemoved::Refused(n),

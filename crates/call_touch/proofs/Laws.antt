@@ -7,11 +7,9 @@ use mathlib.Core.List.{List, [], ◌∷◌}
 use native.Mathlib.Numerals.{add-one}
 use native.Mathlib.Omega.{arith}
 use lib.ListN.{length, take, drop, get_or, length-take}
-use lib.Seq.{drop-cons, drop-length, get_or-take}
+use lib.Seq.{drop-cons, drop-length}
 use lib.Dec.{ltb, leb, eqb}
 use lib.Ieee.{Float}
-use mir.Val.{Fits}
-use mir.Syntax.{w64}
 use borrow.Author.Tests.{ltb-false, leb-false}
 use Rattle.model.specs.declared.Span.{Span}
 use Rattle.model.specs.declared.TouchAnswer.{TouchAnswer}
@@ -529,26 +527,9 @@ module _ (o : Others) (depth bytes : List ℕ) (c₀ : Ranges) (ms₀ x : List �
 
 -- ---- the first spans of an array
 
-other_default : (l : List Span) (i : ℕ) (d e : Span) → i < length l → get_or l i d ≡ get_or l i e
-other_default [] i d e h = absurd (omega arith)
-other_default (x ∷ l) zero d e h = refl
-other_default (x ∷ l) (suc i) d e h = other_default l i d e (omega arith)
-
 module _ (l : List Span) (count : ℕ) (long : length l ≡ 64) (few : count ≤ 64) where
   pub array_long : length (take count l) ≡ count
   array_long = length-take count l ∙ omega arith
-
-  pub array_at : (i : ℕ) (d : Span) → i < count → get_or l i d ≡ get_or (take count l) i no_span
-  array_at i d h = other_default l i d no_span (omega arith) ∙ sym (get_or-take count l i no_span h)
-
-  pub array_in : {i : ℕ} → i < count → i < length (take count l)
-  array_in {i} h = omega (arith, array_long)
-
-  pub array_over : {i : ℕ} → count ≤ i → length (take count l) ≤ i
-  array_over {i} h = omega (arith, array_long)
-
-pub span_fits : {count i : ℕ} → count ≤ 64 → i < count → Fits w64 (i * 24)
-span_fits h l = omega arith
 
 abbrev pub others : List ℕ → List ℕ → List ℕ → List ℕ → List ℕ → List ℕ → List ℕ → List ℕ → Others
 others parent len run words pin_node pin_start pin_end pin_count =
@@ -577,9 +558,6 @@ module _ (sps : List Span) (depth bytes : List ℕ) (c₀ : Ranges) (ms₀ : Lis
       going_next o depth bytes c₀ ms₀ x s sps time counted i less c ms y g c' ms' r
       (f o (books_with s y.run x) (going-at o depth bytes c₀ ms₀ x s sps time counted i less c ms y g))
 
-pub list-start : (sps : List Span) (depth bytes : List ℕ) (c : Ranges) (ms : List ℕ) (y : Turn) → Turns sps depth bytes c ms y 0 c ms y
-list-start sps depth bytes c ms y o x s time counted g = g
-
 pub list-end : {sps : List Span} {depth bytes : List ℕ} {c₀ : Ranges} {ms₀ : List ℕ} {y₀ : Turn} {i : ℕ} {c : Ranges} {ms : List ℕ} {y : Turn} → i ≤ length sps → length sps ≤ i
     → Turns sps depth bytes c₀ ms₀ y₀ i c ms y → Turns sps depth bytes c₀ ms₀ y₀ (length sps) c ms y
 list-end {sps} {depth} {bytes} {c₀} {ms₀} {y₀} {i} {c} {ms} {y} a b t =
@@ -600,9 +578,6 @@ module _ (sps : List Span) (len : List ℕ) (y₀ : Turn) (i : ℕ) (y : Turn) (
 
 pub looks-start : (sps : List Span) (len : List ℕ) (y : Turn) → Looks sps len y 0 y
 looks-start sps len y t l n = look_start t sps y
-
-pub looks-end : {sps : List Span} {len : List ℕ} {y₀ : Turn} {i : ℕ} {y : Turn} → i ≤ length sps → length sps ≤ i → Looks sps len y₀ i y → Looks sps len y₀ (length sps) y
-looks-end {sps} {len} {y₀} {i} {y} a b v = let e : i ≡ length sps = omega arith in subst (λ (k : ℕ). Looks sps len y₀ k y) e v
 
 -- ---- the whole call: `begin`, `look_spans` and `touch_spans`, one after another
 

@@ -15,7 +15,7 @@ use Rattle.model.specs.declared.TouchAnswer.{TouchAnswer}
 use Rattle.model.specs.Sizes.{max_numbers}
 use Rattle.model.specs.Words.{any}
 use Rattle.model.specs.State.{Tree, Ranges, State, nodes_in, stores_in, next_id_in, book_in}
-use Rattle.model.specs.Sound.{Sound, RangesLent}
+use Rattle.model.specs.Sound.{Sound}
 use Rattle.model.specs.Refusals.{first_of, span_in, no_span, turn_refusals}
 use Rattle.model.specs.Calls.{Outcome, done, refused, touch_spans, bytes_touched, store_used}
 use Rattle.theory_refuse.proofs.Unless.{unless-some}
@@ -49,9 +49,6 @@ module _ (o : Others) (x : List ℕ) (sps : List Span) (depth bytes : List ℕ) 
 
   pub low : s < 8
   low = omega (arith, q.on.less, q.on.sound.counts.stores)
-
-  pub lends : (s < 8) × RangesLent c₀ × (2048 ≤ length ms₀)
-  lends = (low, q.on.sound.lent.ranges, q.on.sound.lent.marks)
 
   pub running_start : Running o x sps depth bytes c₀ ms₀ s refreshes time counted 0 c₀ ms₀ y
   running_start =

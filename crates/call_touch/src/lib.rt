@@ -23,10 +23,8 @@ pub fn look_spans(spans: &[Span], len: &[usize], x: Turn) -> Turn
     ensures { Looks spans.now len.now x (length spans.now) result }
 {
     let mut y = x;
-    let mut i: usize = 0;
-    while i < spans.len() {
-        y = call_touch_span::check_one(spans[i], len, y);
-        i += 1;
+    for &sp in spans {
+        y = call_touch_span::check_one(sp, len, y);
     }
     y
 }
@@ -55,23 +53,10 @@ pub fn touch_spans(
         marks.new result }
 {
     let mut y = x;
-    let mut i: usize = 0;
-    while i < spans.len() {
+    for &sp in spans {
         y = call_touch_span::one(
-            spans[i],
-            depth,
-            &mut *node,
-            &mut *start,
-            &mut *end,
-            &mut *id,
-            &mut *stamp,
-            &mut *touched,
-            &mut *write,
-            &mut *marks,
-            bytes,
-            y,
+            sp, depth, node, start, end, id, stamp, touched, write, marks, bytes, y,
         );
-        i += 1;
     }
     y
 }
@@ -93,13 +78,10 @@ fn first_refusal(
         → result ≡ refused_by (any (length (take count spans)) (bad t (take count spans))) (first_number stores s (length (take count spans)) time) }
 {
     let first = call_touch_span::first_number(stores, s, count, time);
-    let mut i = 0;
-    while i < count {
-        let sp = spans[i];
+    for &sp in &spans[..count] {
         if !test_arguments::span_in(len, nodes, sp) {
             return call_touch_span::four_first(first);
         }
-        i += 1;
     }
     first
 }
@@ -145,9 +127,7 @@ fn take_turns(
         result }
 {
     let mut z = y;
-    let mut j = 0;
-    while j < count {
-        let sp = spans[j];
+    for &sp in &spans[..count] {
         z = call_touch_span::one_turn(
             sp, depth, node, start, end, id, stamp, touched, write, marks, bytes, s, refreshes,
             time, counted, z,
@@ -155,7 +135,6 @@ fn take_turns(
         if z.number != 0 {
             return z;
         }
-        j += 1;
     }
     z
 }

@@ -1,27 +1,22 @@
--- The laws of one turn over variables: what a turn is refused for, a touch on the pools, the small numbers after it, and the turn as a whole; what is
--- read before the turns and written after them. Assumes nothing.
-use Prim.Native.Nat.{ℕ, zero, suc, ◌+◌, ◌*◌, ◌≤◌, ◌<◌, min, max}
+-- The laws of one turn over variables: what a turn is refused for, a touch on the pools, the small numbers after it, and the turn as a whole. Assumes
+-- nothing.
+use Prim.Native.Nat.{ℕ, suc, ◌+◌, ◌*◌, ◌≤◌, ◌<◌, min, max}
 use mathlib.Core.Path.{◌≡◌, refl, sym, ap, subst, ◌∙◌}
 use mathlib.Core.Bool.{Bool, true, false}
 use mathlib.Core.List.{List, [], ◌∷◌}
 use native.Mathlib.Nat.{min-le_left}
 use native.Mathlib.Omega.{arith}
 use lib.ListN.{length, length-set}
-use lib.Dec.{ltb, leb}
 use lib.Ieee.{Float}
-use borrow.Author.Tests.{lt-ltb, le-ltb, le-leb, lt-leb, eq-eqb, ne_eqb, leb-false}
 use Rattle.model.specs.declared.Span.{Span}
 use Rattle.model.specs.declared.Book.{Book}
 use Rattle.model.specs.Sizes.{max_stamp, max_bytes}
-use Rattle.model.specs.State.{Tree, Ranges, Pins, State, Range, nodes_in, stores_in, next_id_in, stalls_in, book_in, stores_of, next_id_of, records_of, stamp_of, refreshes as renews}
-use Rattle.model.specs.Words.{Says, pick}
-use Rattle.model.specs.Sound.{Sound, RangesLent, Finite}
-use Rattle.model.specs.SoundTest.{finite}
+use Rattle.model.specs.State.{Tree, Ranges, Pins, State, Range, next_id_in, stalls_in, book_in, stores_of, next_id_of, records_of, stamp_of, refreshes as renews}
+use Rattle.model.specs.Sound.{Sound}
 use Rattle.model.specs.Store.{Store, store_of, ranges, lay_book, lay_next, ranged, with_ranges, with_next, meets, put}
 use Rattle.model.specs.Touch.{Touched, overlapped, held_bytes, one_inside, mark_read, bytes_read, renew, split, refresh, touch_hits, touch}
 use Rattle.model.specs.Refusals.{SpanIn, touched_by, touch_span}
 use Rattle.test_arguments.specs.Need.{need_number}
-use Rattle.test_arguments.proofs.Laws.{finite-is}
 use Rattle.test_arguments.proofs.Need.{number_fits}
 use Rattle.pool_part.specs.Parts.{mid, back, mid_ranges, back_ranges}
 use Rattle.pool_part.proofs.Parts.{mid-long, ranges-part, ranges-back, ranges-sized, back_full}
@@ -39,11 +34,8 @@ use Rattle.rule_overlap.proofs.Places.{sound_ordered}
 use Rattle.rule_overlap.proofs.Laws.{bytes_small}
 use Rattle.rule_touch.specs.declared.Used.{Used}
 use Rattle.rule_touch.specs.Touch.{Touching}
-use Rattle.pool_undo.specs.declared.Old.{Old}
-use Rattle.pool_undo.specs.Old.{old_ranges, old_from}
-use Rattle.call_touch_span.specs.declared.Turn.{Turn}
 use Rattle.call_touch_span.specs.declared.Run.{Run}
-use Rattle.call_touch_span.specs.Turn.{Others, whole, renumbered, books_with, Stands, first_number, Fresh, Begun, four, stop_run, looked, refusing, Placed, Judged, PoolReady, TouchedAt, run_on, RunAt, Ran, kept_old, TurnAt, Turned}
+use Rattle.call_touch_span.specs.Turn.{Others, whole, renumbered, books_with, Stands, stop_run, Placed, Judged, PoolReady, TouchedAt, run_on, RunAt, Ran}
 
 -- ---- the small numbers
 
@@ -57,83 +49,6 @@ stands_read s x b e =
       stamp = ap (λ (q : Book). q.stamp) e;
       next = refl;
     }
-
--- the store's numbers written, then the next id
-pub run-laid : (s : ℕ) (y : Run) (x l r : List ℕ) (b : Book) → b ≡ book_in x s → l ≡ lay_book s (renumbered b y.n y.top) x
-    → r ≡ lay_next y.next (stalls_in x) l → r ≡ books_with s y x
-run-laid s y x l r b e f g = g ∙ ap (lay_next y.next (stalls_in x)) (f ∙ ap (λ (q : Book). lay_book s (renumbered q y.n y.top) x) e)
-
--- ---- before the turns
-
-module _ (stores s n : ℕ) (time : Float) where
-  pub first_store : stores ≤ s → 2 ≡ first_number stores s n time
-  first_store h = simp (le-leb stores s h)
-
-  pub first-many : s < stores → 64 < n → 3 ≡ first_number stores s n time
-  first-many h m = simp (lt-leb stores s h, lt-ltb 64 n m)
-
-  pub first_fine : s < stores → n ≤ 64 → (b : Bool) → Says b (Finite time) → b ≡ true → 0 ≡ first_number stores s n time
-  first_fine h m b says e =
-      let f : finite time ≡ true = sym (finite-is time b says) ∙ e in
-      simp (lt-leb stores s h, le-ltb 64 n m, f)
-
-  pub first-time : s < stores → n ≤ 64 → (b : Bool) → Says b (Finite time) → b ≡ false → 5 ≡ first_number stores s n time
-  first-time h m b says e =
-      let f : finite time ≡ false = sym (finite-is time b says) ∙ e in
-      simp (lt-leb stores s h, le-ltb 64 n m, f)
-
--- nothing was refused: there is such a store
-pub first-less : (stores s n : ℕ) (time : Float) (r : ℕ) → r ≡ first_number stores s n time → r ≡ 0 → s < stores
-first-less stores s n time r e z = go (leb stores s) refl (sym e ∙ z)
-  where
-    go : (b : Bool) → leb stores s ≡ b → pick {A = ℕ} b 2 (pick (ltb 64 n) 3 (pick (finite time) 0 5)) ≡ 0 → s < stores
-    go true f g = absurd (omega arith)
-    go false f g = leb-false stores s f
-
-module _ (x : List ℕ) (s n : ℕ) (time : Float) (counted : Bool) (y : Turn) where
-  pub begun-refused : (k : ℕ) → k ≡ first_number (stores_in x) s n time → (k ≡ 0 → ⊥)
-      → Fresh (nodes_in x) false (record { n = 0; top = 0; next = 0; sum = 0; number = k }) s time counted y → Begun x s n time counted y
-  begun-refused k e some f =
-      record {
-        nodes = f.nodes;
-        store = f.store;
-        when = f.when;
-        counts = f.counts;
-        turns = f.turns;
-        sum = ap (λ (z : Run). z.sum) f.run;
-        number = ap (λ (z : Run). z.number) f.run ∙ e;
-        stands = λ z. absurd (some (sym (ap (λ (q : Run). q.number) f.run) ∙ z));
-      }
-
-  pub begun-read : (k : ℕ) → k ≡ first_number (stores_in x) s n time → k ≡ 0 → (b : Book) → b ≡ book_in x s
-      → Fresh (nodes_in x) (renews b) (record { n = b.records; top = b.stamp; next = next_id_in x; sum = 0; number = 0 }) s time counted y
-      → Begun x s n time counted y
-  begun-read k e none b is f =
-      record {
-        nodes = f.nodes;
-        store = f.store;
-        when = f.when;
-        counts = f.counts;
-        turns = f.turns;
-        sum = ap (λ (z : Run). z.sum) f.run;
-        number = ap (λ (z : Run). z.number) f.run ∙ sym none ∙ e;
-        stands = λ z. subst (λ (r : Bool). Stands s r x y.run) (sym f.on) (subst (λ (q : Run). Stands s (renews b) x q) (sym f.run) (stands_read s x b is));
-      }
-
-pub four-none : (n : ℕ) → n ≡ 0 → 4 ≡ four n
-four-none n e = simp (eq-eqb n 0 e)
-
-pub four-five : (n : ℕ) → (n ≡ 0 → ⊥) → n ≡ 5 → 4 ≡ four n
-four-five n o e = simp (ne_eqb n 0 o, eq-eqb n 5 e)
-
-pub four_else : (n : ℕ) → (n ≡ 0 → ⊥) → (n ≡ 5 → ⊥) → n ≡ four n
-four_else n o e = simp (ne_eqb n 0 o, ne_eqb n 5 e)
-
-pub looked_good : (y : Turn) (r s : Bool) → r ≡ s → r ≡ true → y ≡ looked s y
-looked_good y r s e t = ap (λ (b : Bool). looked b y) (sym t ∙ e)
-
-pub looked-bad : (y : Turn) (r s : Bool) (n : ℕ) → r ≡ s → r ≡ false → n ≡ four y.run.number → refusing n y ≡ looked s y
-looked-bad y r s n e t h = ap (λ (k : ℕ). refusing k y) h ∙ ap (λ (b : Bool). looked b y) (sym t ∙ e)
 
 -- ---- the parts of store s
 
@@ -193,15 +108,6 @@ module _ {depth bytes : List ℕ} {s n : ℕ} {c : Ranges} {ms : List ℕ} {sp :
         rw (ea, eb) (touched-at (touch t bytes x next sp time counted) (room_for t bytes x time counted rs re)
         (subst (λ (k : ℕ). Touching (touch t bytes x next sp time counted) (mid_ranges (128 * s) k c) q ms₂ n r) ea
         (v t x d (rw ea (rs ∙ sym (ranges-part c (128 * s) 128 n p.few))) st re (rw eb m))))
-
--- ---- the part that is kept
-
-pub kept-first : (n : ℕ) (r old : Old) (s : ℕ) (c : Ranges) (ms : List ℕ) → n ≡ 0 → r ≡ old_from s c ms → r ≡ kept_old n old s c ms
-kept-first n r old s c ms e h = h ∙ ap (λ (k : ℕ). kept_old k old s c ms) (sym e)
-
-pub kept_later : (n : ℕ) (old : Old) (s : ℕ) (c : Ranges) (ms : List ℕ) → (n ≡ 0 → ⊥) → old ≡ kept_old n old s c ms
-kept_later zero old s c ms o = absurd (o refl)
-kept_later (suc n) old s c ms o = refl
 
 -- ---- the marks and the bytes of a touch
 
@@ -462,89 +368,3 @@ module _ (o : Others) (x : List ℕ) (sp : Span) (depth bytes : List ℕ) (c : R
         taken = λ z. state-here used c' ms' u;
         sum = λ z. ap (λ (b : ℕ). y.sum + b) u.bytes;
       })
-
--- ---- a turn of a touch that keeps the store's part
-
--- the columns, as long as they were
-pub record AsLong (c₀ : Ranges) (ms₀ : List ℕ) (c : Ranges) (ms : List ℕ) : Type 0 where
-  pub node : length c.node ≡ length c₀.node
-  pub start : length c.start ≡ length c₀.start
-  pub end : length c.end ≡ length c₀.end
-  pub id : length c.id ≡ length c₀.id
-  pub stamp : length c.stamp ≡ length c₀.stamp
-  pub touched : length c.touched ≡ length c₀.touched
-  pub write : length c.write ≡ length c₀.write
-  pub marks : length ms ≡ length ms₀
-
-pub as_long : (c : Ranges) (ms : List ℕ) → AsLong c ms c ms
-as_long c ms = record { node = refl; start = refl; end = refl; id = refl; stamp = refl; touched = refl; write = refl; marks = refl }
-
-pub lent_still : {s : ℕ} {c₀ c : Ranges} {ms₀ ms : List ℕ} → AsLong c₀ ms₀ c ms → (s < 8) × RangesLent c₀ × (2048 ≤ length ms₀)
-    → (s < 8) × RangesLent c × (2048 ≤ length ms)
-lent_still a l = (
-  l.0,
-  record {
-    node = omega (arith, a.node, l.1.node);
-    start = omega (arith, a.start, l.1.start);
-    end = omega (arith, a.end, l.1.end);
-    id = omega (arith, a.id, l.1.id);
-    stamp = omega (arith, a.stamp, l.1.stamp);
-    touched = omega (arith, a.touched, l.1.touched);
-    write = omega (arith, a.write, l.1.write);
-  },
-  omega (arith, a.marks, l.2),
-)
-
-pub turn_asks : {o : Others} {x : List ℕ} {sp : Span} {depth bytes : List ℕ} {c : Ranges} {ms : List ℕ} {y : Turn} → TurnAt o x sp depth bytes c ms y
-    → (y.s < 8) × RangesLent c × (2048 ≤ length ms)
-turn_asks h = (omega (arith, h.run.store, h.run.sound.counts.stores), h.run.sound.lent.ranges, h.run.sound.lent.marks)
-
-module _ (o : Others) (x : List ℕ) (sp : Span) (depth bytes : List ℕ) (c : Ranges) (ms : List ℕ) (y : Turn) where
-  abbrev after : Old → Run → Turn
-  after old r =
-      record { nodes = y.nodes; refreshes = y.refreshes; run = r; old = old; s = y.s; time = y.time; counted = y.counted; turns = y.turns + 1 }
-
-  pub idle-turn : (y.run.number ≡ 0 → ⊥) → Turned sp (whole o depth bytes c ms x) y (whole o depth bytes c ms (books_with y.s y.run x)) y
-  idle-turn n = record { idle = λ l. (refl, refl, refl); gone = λ e. absurd (n e) }
-
-  module _ (go : y.run.number ≡ 0) (old : Old) (kept : old ≡ kept_old y.turns y.old y.s c ms) (c₁ : Ranges) (ms₁ : List ℕ) (r : Run)
-      (ran : Ran sp y.s y.time y.counted (whole o depth bytes c ms x) y.run (whole o depth bytes c₁ ms₁ (books_with y.s r x)) r) where
-    pub taken-turn : r.number ≡ 0 → Turned sp (whole o depth bytes c ms x) y (whole o depth bytes c₁ ms₁ (books_with y.s r x)) (after old r)
-    taken-turn none =
-        record {
-          idle = λ l. absurd (omega arith);
-          gone = λ e.
-              record {
-                on = refl;
-                store = refl;
-                when = refl;
-                counts = refl;
-                turns = refl;
-                old = kept;
-                number = ran.number;
-                stopped = λ l. absurd (omega arith);
-                taken = ran.taken;
-                sum = ran.sum;
-              };
-        }
-
-    pub refused-turn : (r.number ≡ 0 → ⊥) → (c' : Ranges) (ms' : List ℕ) → c' ≡ back_ranges (128 * y.s) 128 (old_ranges old) c₁ → ms' ≡ back (256 * y.s) 256 old.marks ms₁
-        → Turned sp (whole o depth bytes c ms x) y (whole o depth bytes c' ms' (books_with y.s r x)) (after old r)
-    refused-turn some c' ms' ec em =
-        record {
-          idle = λ l. absurd (omega arith);
-          gone = λ e.
-              record {
-                on = refl;
-                store = refl;
-                when = refl;
-                counts = refl;
-                turns = refl;
-                old = kept;
-                number = ran.number;
-                stopped = λ l.
-                    (ec ∙ ap (back_ranges (128 * y.s) 128 (old_ranges old)) (ran.stopped l).0, em ∙ ap (back (256 * y.s) 256 old.marks) (ran.stopped l).1);
-                taken = λ z. absurd (some z);
-                sum = λ z. absurd (some z);
-              };
-        }

@@ -8,11 +8,17 @@ ghost use Rattle.model.specs.Store.{Store, ranges};
 ghost use Rattle.model.specs.Touch.{touch as touch_of};
 ghost use Rattle.model.specs.Refusals.{span_in};
 ghost use Rattle.shape_state.specs.Lent.{ranges_of};
+ghost use Rattle.pool_range.specs.Lent.{seen};
+ghost use Rattle.pool_range.specs.Part.{Sized};
 ghost use Rattle.pool_part.specs.Parts.{mid};
+ghost use Rattle.rule_resolve.specs.Span.{Priced};
+ghost use Rattle.rule_overlap.specs.Overlap.{Ordered, TouchFits};
+ghost use Rattle.rule_touch.specs.Touch.{Touching};
 ghost use Rattle.call_touch_span.specs.Turn.{Others, whole, first_number, Fresh, Begun, four, looked, Placed, Judged, PoolReady, TouchedAt, kept_old};
 ghost use Rattle.call_touch_span.specs.Turn.{books_with, run_on, RunAt, RunReady, Ran, TurnAt, Ready, Turned, Writes, Finished};
 
 use model::{Span, TouchAnswer};
+use pool_range::{RangesMut, RangesRef};
 use pool_undo::Old;
 use rule_touch::Used;
 use shape_answer::StoreUsed;
@@ -49,15 +55,14 @@ pub fn first_number(stores: usize, s: usize, n: usize, time: f64) -> u8
     ensures { result ≡ first_number stores s n time }
 {
     if stores <= s {
-        return 2;
+        2
+    } else if 64 < n {
+        3
+    } else if test_arguments::finite(time) {
+        0
+    } else {
+        5
     }
-    if 64 < n {
-        return 3;
-    }
-    if test_arguments::finite(time) {
-        return 0;
-    }
-    5
 }
 
 // A touch of store s before its first turn, with nothing kept.
@@ -65,14 +70,14 @@ pub fn fresh(nodes: usize, refreshes: bool, run: Run, s: usize, time: f64, count
     ensures { Fresh nodes refreshes run s time counted result }
 {
     let old = Old {
-        node: [0usize; 128],
-        start: [0usize; 128],
-        end: [0usize; 128],
-        id: [0u64; 128],
-        stamp: [0u64; 128],
+        node: [0; 128],
+        start: [0; 128],
+        end: [0; 128],
+        id: [0; 128],
+        stamp: [0; 128],
         touched: [0.0; 128],
-        write: [0u32; 128],
-        marks: [0usize; 256],
+        write: [0; 128],
+        marks: [0; 256],
     };
     Turn {
         nodes,
@@ -119,13 +124,10 @@ pub fn begin(books: &[u64], s: usize, n: usize, time: f64, counted: bool) -> Tur
 pub fn four_first(n: u8) -> u8
     ensures { result ≡ four n }
 {
-    if n == 0 {
-        return 4;
+    match n {
+        0 | 5 => 4,
+        _ => n,
     }
-    if n == 5 {
-        return 4;
-    }
-    n
 }
 
 // One span looked at: 4, unless it is one of the tree.
@@ -136,11 +138,13 @@ pub fn check_one(sp: Span, len: &[usize], y: Turn) -> Turn
     if test_arguments::span_in(len, y.nodes, sp) {
         return y;
     }
-    let mut run = y.run;
-    run.number = four_first(run.number);
-    let mut z = y;
-    z.run = run;
-    z
+    Turn {
+        run: Run {
+            number: four_first(y.run.number),
+            ..y.run
+        },
+        ..y
+    }
 }
 
 // ---- one turn
@@ -165,16 +169,15 @@ fn keep_first(
         marks.now }
 {
     if y.turns == 0 {
-        return pool_undo::keep(node, start, end, id, stamp, touched, write, marks, y.s);
+        pool_undo::keep(node, start, end, id, stamp, touched, write, marks, y.s)
+    } else {
+        y.old
     }
-    y.old
 }
 
 // What a turn is refused for: 8, 11 or nothing, 0.
 fn turn_number(
-    node: &[usize],
-    start: &[usize],
-    end: &[usize],
+    ranges: RangesRef,
     s: usize,
     n: usize,
     sp: Span,
@@ -182,16 +185,82 @@ fn turn_number(
     top: u64,
     next: u64,
 ) -> u8
-    requires { Placed s n node.now start.now end.now × (n ≤ 128) × (top ≤ max_stamp) × (next ≤ max_stamp) }
-    ensures { Judged s n node.now start.now end.now sp refreshes top next result }
+    requires lent { RangesLent (seen ranges) }
+    requires placed { Placed s n ranges.node.now ranges.start.now ranges.end.now × (n ≤ 128) × (top ≤ max_stamp) × (next ≤ max_stamp) }
+    ensures { Judged s n ranges.entry.node.now ranges.entry.start.now ranges.entry.end.now sp refreshes top next result }
 {
     let a = 128 * s;
     let e = a + 128;
-    let w = rule_overlap::touch_need(&node[a..e], &start[a..e], &end[a..e], n, sp, refreshes);
+    let part = RangesRef {
+        node: &ranges.node[a..e],
+        start: &ranges.start[a..e],
+        end: &ranges.end[a..e],
+        id: &ranges.id[a..e],
+        stamp: &ranges.stamp[a..e],
+        touched: &ranges.touched[a..e],
+        write: &ranges.write[a..e],
+    };
+    let w = rule_overlap::touch_need(part, n, sp, refreshes);
     test_arguments::need_number(n, w.records, top, w.stamps, next)
 }
 
-// The span touched in the parts of store s, of the whole pools.
+// The span touched in store s, of which the parts are lent.
+fn touch_part(
+    depth: &[usize],
+    node: &mut [usize],
+    start: &mut [usize],
+    end: &mut [usize],
+    id: &mut [u64],
+    stamp: &mut [u64],
+    touched: &mut [f64],
+    write: &mut [u32],
+    marks: &mut [usize],
+    bytes: &[u64],
+    n: usize,
+    sp: Span,
+    time: f64,
+    counted: bool,
+    refreshes: bool,
+    top: u64,
+    next: u64,
+) -> Used
+    requires n_bound { (n ≤ 128)
+        × Sized 128 (ranges_of node.old start.old end.old id.old stamp.old touched.old write.old)
+        × Ordered node.old start.old end.old n }
+    requires start_lt_end { (sp.start < sp.end) × (sp.node < length marks.old) × Priced depth.now bytes.now sp }
+    requires touch_fits { TouchFits node.old start.old end.old n sp refreshes top next }
+    ensures { (t : Tree) (x : Store)
+        → t.depth ≡ depth.now
+        → x.ranges
+        ≡ ranges
+        (ranges_of node.old start.old end.old id.old stamp.old touched.old
+        write.old)
+        0 n
+        → x.book.stamp ≡ top
+        → eqb x.book.policy 1 ≡ refreshes
+        → x.marks ≡ marks.old
+        → Touching (touch_of t bytes.now x next sp time counted)
+        (ranges_of node.old start.old end.old id.old stamp.old touched.old
+        write.old)
+        (ranges_of node.new start.new end.new id.new stamp.new touched.new write.new)
+        marks.new n result }
+{
+    let mut part = RangesMut {
+        node,
+        start,
+        end,
+        id,
+        stamp,
+        touched,
+        write,
+    };
+    rule_touch::store_used(
+        depth, &mut part, marks, bytes, n, sp, time, counted, refreshes, top, next,
+    )
+}
+
+// The span touched in the parts of store s, of the whole pools. The parts are lent column by column, since a slice of a slice put in a struct is lost to
+// the check.
 fn touch_pools(
     depth: &[usize],
     node: &mut [usize],
@@ -235,7 +304,7 @@ fn touch_pools(
     let e = a + 128;
     let b = 256 * s;
     let f = b + 256;
-    rule_touch::store_used(
+    touch_part(
         depth,
         &mut node[a..e],
         &mut start[a..e],
@@ -307,11 +376,18 @@ pub fn one_turn(
         marks.new (books_with s result x))
         result }
 {
-    let number = turn_number(node, start, end, s, y.n, sp, refreshes, y.top, y.next);
+    let ranges = RangesRef {
+        node,
+        start,
+        end,
+        id,
+        stamp,
+        touched,
+        write,
+    };
+    let number = turn_number(ranges, s, y.n, sp, refreshes, y.top, y.next);
     if number != 0 {
-        let mut z = y;
-        z.number = number;
-        return z;
+        return Run { number, ..y };
     }
     let used = touch_pools(
         depth, node, start, end, id, stamp, touched, write, marks, bytes, s, y.n, sp, time,
@@ -356,8 +432,7 @@ pub fn one(
         marks.new (books_with y.s result.run x))
         result }
 {
-    let was = y.run;
-    if was.number != 0 {
+    if y.run.number != 0 {
         return y;
     }
     let s = y.s;
@@ -378,23 +453,17 @@ pub fn one(
         y.refreshes,
         y.time,
         y.counted,
-        was,
+        y.run,
     );
-    let z = Turn {
-        nodes: y.nodes,
-        refreshes: y.refreshes,
+    if run.number != 0 {
+        pool_undo::undo(node, start, end, id, stamp, touched, write, marks, s, old);
+    }
+    Turn {
         run,
         old,
-        s,
-        time: y.time,
-        counted: y.counted,
         turns: y.turns + 1,
-    };
-    if run.number == 0 {
-        return z;
+        ..y
     }
-    pool_undo::undo(node, start, end, id, stamp, touched, write, marks, s, old);
-    z
 }
 
 // ---- after the turns

@@ -16,7 +16,7 @@ pub use call_set_up::set_up;
 pub use call_touch::store_used_array;
 pub use model::{
     BringAnswer, Cut, EachTier, ExpireAnswer, InsertAnswer, LookupAnswer, Path, RemoveAnswer,
-    ResolveAnswer, Span, Split, TouchAnswer,
+    ResolveAnswer, Span, TouchAnswer,
 };
 pub use pool_book::books_size;
 pub use shape_answer::{

@@ -4,7 +4,7 @@ use Prim.Native.Nat.{ℕ, zero, suc, ◌+◌, ◌-◌, min}
 use mathlib.Core.Bool.{Bool, true, false}
 use mathlib.Core.Path.{◌≡◌, refl}
 use mathlib.Core.List.{List, [], ◌∷◌}
-use mathlib.Core.Option.{Option, none, some}
+use Rattle.std.specs.Prelude.{Option, None, Some}
 use native.Mathlib.Omega.{arith}
 use lib.ListN.{length}
 use lib.Dec.{leb}
@@ -33,8 +33,8 @@ trim_by-total : (asks : ℕ → ℕ) (t : Tree) (table : List ℕ) (ps : List Pi
     → total (trim_by asks t table ps n e c rs ms).ranges + out_blocks (trim_by asks t table ps n e c rs ms).outs ≡ total rs
 unfolding trim_by out_blocks
 trim_by-total asks t table ps zero e c rs ms = omega arith
-trim_by-total asks t table ps (suc n) e none rs ms = omega arith
-trim_by-total asks t table ps (suc n) e (some i) rs ms =
+trim_by-total asks t table ps (suc n) e None rs ms = omega arith
+trim_by-total asks t table ps (suc n) e (Some i) rs ms =
     let r = nth rs i in
     let k = amount asks e r in
     let rest = evict rs i k in
@@ -50,8 +50,8 @@ expire_by-total : (t : Tree) (table : List ℕ) (now seconds : Float) (n : ℕ) 
     → total (expire_by t table now seconds n c rs ms).ranges + out_blocks (expire_by t table now seconds n c rs ms).outs ≡ total rs
 unfolding expire_by out_blocks
 expire_by-total t table now seconds zero c rs ms = omega arith
-expire_by-total t table now seconds (suc n) none rs ms = omega arith
-expire_by-total t table now seconds (suc n) (some i) rs ms =
+expire_by-total t table now seconds (suc n) None rs ms = omega arith
+expire_by-total t table now seconds (suc n) (Some i) rs ms =
     let r = nth rs i in
     let rest = evict rs i (length_of r) in
     omega (arith, expire_by-total t table now seconds n (oldest now seconds rest) rest (unmark r.node rest ms), evict-total rs i (length_of r))

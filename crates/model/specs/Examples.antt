@@ -1,11 +1,10 @@
 -- Document 01, "Examples to be kept": each run on the public calls, as numbers, beside what 01 prints. `proofs/Table.antt` has the one statement.
 -- Assumes nothing.
-use Rattle.std.specs.Prelude.{ℕ, zero, suc, ◌+◌, true, false, List, [], ◌∷◌, ◌++◌, map, ◌≡◌, take, replicate, pos, Float}
+use Rattle.std.specs.Prelude.{ℕ, zero, suc, ◌+◌, true, false, List, [], ◌∷◌, ◌++◌, map, ◌≡◌, take, replicate, pos, Float, Option, None, Some}
 use Rattle.std.specs.Float.{binary64}
 use Rattle.std.specs.Float.Ieee.{of_int}
 use Rattle.model.specs.declared.Span.{Span}
-use Rattle.model.specs.declared.Split.{Split}
-use Rattle.model.specs.declared.Split.TheVariants as S
+use Rattle.model.specs.declared.Cut.{Cut}
 use Rattle.model.specs.declared.ResolveAnswer.{ResolveAnswer}
 use Rattle.model.specs.declared.InsertAnswer.{InsertAnswer}
 use Rattle.model.specs.declared.BringAnswer.{BringAnswer}
@@ -203,9 +202,9 @@ abbrev pub path_says : Outcome PathList ResolveAnswer → List (List ℕ)
 path_says o = elim o.answer [ refused n ↦ refusal n | done a ↦ (a.path.blocks ∷ []) ∷ segs_of a.path.segs o.lists.node o.lists.len ]
 
 -- node, k and the new number of a cut
-abbrev pub cut_says : Split → List (List ℕ)
-cut_says S.No = []
-cut_says (S.At c) = (c.node ∷ c.at ∷ c.new ∷ []) ∷ []
+abbrev pub cut_says : Option Cut → List (List ℕ)
+cut_says None = []
+cut_says (Some c) = (c.node ∷ c.at ∷ c.new ∷ []) ∷ []
 
 abbrev pub insert_says : Outcome PathList InsertAnswer → List (List ℕ)
 insert_says o =

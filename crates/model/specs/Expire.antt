@@ -1,6 +1,5 @@
 -- Document 01, "Expire". Assumes nothing.
-use Rattle.std.specs.Prelude.{ℕ, zero, suc, Bool, true, false, List, [], length, Float}
-use Rattle.std.proofs.Math.Option.{Option, none, some}
+use Rattle.std.specs.Prelude.{ℕ, zero, suc, Bool, true, false, List, [], length, Float, Option, None, Some}
 use Rattle.std.specs.Float.{binary64}
 use Rattle.std.specs.Float.Ieee.{sub, lt}
 use Rattle.model.specs.State.{Tree, Range}
@@ -13,8 +12,8 @@ aged now seconds r = lt seconds (sub binary64 now r.touched)
 
 -- the range at the place found, if it is aged
 abbrev pub if_aged : Float → Float → List Range → Option ℕ → Option ℕ
-if_aged now seconds rs none = none
-if_aged now seconds rs (some i) = elim (aged now seconds (nth rs i)) [ true ↦ some i | false ↦ none ]
+if_aged now seconds rs None = None
+if_aged now seconds rs (Some i) = elim (aged now seconds (nth rs i)) [ true ↦ Some i | false ↦ None ]
 
 -- "the first range by stamp and id", pinned or not
 unfoldable pub oldest : Float → Float → List Range → Option ℕ
@@ -25,8 +24,8 @@ oldest now seconds rs = if_aged now seconds rs (first (λ r. true) rs)
 unfoldable pub expire_by : Tree → List ℕ → Float → Float → ℕ → Option ℕ → List Range → List ℕ → Trimmed
 unfolding oldest evict
 expire_by t table now seconds zero c rs ms = record { ranges = rs; marks = ms; outs = []; stalled = false }
-expire_by t table now seconds (suc n) none rs ms = record { ranges = rs; marks = ms; outs = []; stalled = false }
-expire_by t table now seconds (suc n) (some i) rs ms =
+expire_by t table now seconds (suc n) None rs ms = record { ranges = rs; marks = ms; outs = []; stalled = false }
+expire_by t table now seconds (suc n) (Some i) rs ms =
     let r = nth rs i in
     let rest = evict rs i (length_of r) in
     also (told t table ms r r.start r.end) (expire_by t table now seconds n (oldest now seconds rest) rest (unmark r.node rest ms))

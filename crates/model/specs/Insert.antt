@@ -1,7 +1,6 @@
 -- Document 01, "Insert" and "Cut at k". Assumes nothing.
-use Rattle.std.specs.Prelude.{ℕ, zero, suc, ◌+◌, ◌-◌, min, Bool, true, false, not, ◌&&◌, ◌||◌, List, [], ◌∷◌, ◌++◌, map, length, take, drop, set, ltb, eqb}
-use Rattle.model.specs.declared.Split.{Split}
-use Rattle.model.specs.declared.Split.TheVariants as S
+use Rattle.std.specs.Prelude.{ℕ, zero, suc, ◌+◌, ◌-◌, min, Bool, true, false, not, ◌&&◌, ◌||◌, List, [], ◌∷◌, ◌++◌, map, length, take, drop, set, ltb, eqb, Option, None, Some}
+use Rattle.model.specs.declared.Cut.{Cut}
 use Rattle.model.specs.State.{Tree, State, Range, Pin, at, changed, stores_of, next_id_of, stalls_of}
 use Rattle.model.specs.Tree.{Seg, blocks}
 use Rattle.model.specs.Store.{Store, store_of, with_ranges, with_pins, with_next, lay_counts, ranged, lay, part, put, plus, on_node}
@@ -205,10 +204,10 @@ ends_inside t path = ltb (match_end path).len (at t.len (match_end path).node)
 pub record Inserted : Type 0 where
   pub state : State
   pub path : List Seg
-  pub split : Split
+  pub split : Option Cut
 
 -- the state with the leaf under the match's end, and the path that goes on to it
-unfoldable pub with_leaf : List ℕ → List Seg → Split → State → Inserted
+unfoldable pub with_leaf : List ℕ → List Seg → Option Cut → State → Inserted
 unfolding add_leaf blocks last_seg with_tree
 with_leaf hs path split st =
     let rest = drop (blocks path) hs in
@@ -222,13 +221,13 @@ with_leaf hs path split st =
 abbrev pub cut_first : Bool → List ℕ → List Seg → State → Inserted
 cut_first true hs path st =
     let e = match_end path in
-    with_leaf hs path (S.At (record { node = e.node; at = e.len; new = next_node st.tree })) (cut e.node e.len st)
-cut_first false hs path st = with_leaf hs path S.No st
+    with_leaf hs path (Some (record { node = e.node; at = e.len; new = next_node st.tree })) (cut e.node e.len st)
+cut_first false hs path st = with_leaf hs path None st
 
 -- "nothing changes if all matched, the empty list included"
 abbrev pub grow : Bool → List ℕ → List Seg → State → Inserted
 grow true hs path st = cut_first (ends_inside st.tree path) hs path st
-grow false hs path st = record { state = st; path = path; split = S.No }
+grow false hs path st = record { state = st; path = path; split = None }
 
 unfoldable pub insert_path : List ℕ → List Seg → State → Inserted
 unfolding with_leaf cut blocks last_seg

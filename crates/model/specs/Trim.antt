@@ -1,6 +1,5 @@
 -- Document 01, "Rules of a store": bytes, what is dead, one eviction, trim. Assumes nothing.
-use Rattle.std.specs.Prelude.{ℕ, zero, suc, ◌+◌, ◌-◌, ◌%◌, min, max, Bool, true, false, not, ◌&&◌, ◌||◌, List, [], ◌∷◌, length, get_or, ltb, leb, eqb}
-use Rattle.std.proofs.Math.Option.{Option, none, some}
+use Rattle.std.specs.Prelude.{ℕ, zero, suc, ◌+◌, ◌-◌, ◌%◌, min, max, Bool, true, false, not, ◌&&◌, ◌||◌, List, [], ◌∷◌, length, get_or, ltb, leb, eqb, Option, None, Some}
 use Rattle.model.specs.Sizes.{max_stalls, versions}
 use Rattle.model.specs.State.{Tree, Range, Pin, at}
 use Rattle.model.specs.Store.{length_of, total, unmark, part, no_time}
@@ -66,14 +65,14 @@ nth rs i = get_or rs i no_range
 
 -- the place of the sooner of r, if it may go, and of the range at the place found behind it
 abbrev pub better : Bool → Range → List Range → Option ℕ → Option ℕ
-better true r rs none = some 0
-better true r rs (some i) = elim (sooner (nth rs i) r) [ true ↦ some (suc i) | false ↦ some 0 ]
-better false r rs none = none
-better false r rs (some i) = some (suc i)
+better true r rs None = Some 0
+better true r rs (Some i) = elim (sooner (nth rs i) r) [ true ↦ Some (suc i) | false ↦ Some 0 ]
+better false r rs None = None
+better false r rs (Some i) = Some (suc i)
 
 -- the place of the first, by stamp, then id, of the ranges that may go
 unfoldable pub first : (Range → Bool) → List Range → Option ℕ
-first may [] = none
+first may [] = None
 first may (r ∷ rs) = better (may r) r rs (first may rs)
 
 -- ---- one eviction: "its last .. blocks are given out"
@@ -108,7 +107,7 @@ also o t = record { ranges = t.ranges; marks = t.marks; outs = o ∷ t.outs; sta
 -- where there is an excess, the range that goes next
 unfoldable pub chosen : List Pin → ℕ → List Range → Option ℕ
 unfolding first is_pinned
-chosen ps zero rs = none
+chosen ps zero rs = None
 chosen ps (suc e) rs = first (λ r. not (is_pinned ps r)) rs
 
 -- "its last min(length, excess) blocks"
@@ -119,8 +118,8 @@ amount asks e r = min (length_of r) (asks e)
 unfoldable pub trim_by : (ℕ → ℕ) → Tree → List ℕ → List Pin → ℕ → ℕ → Option ℕ → List Range → List ℕ → Trimmed
 unfolding chosen evict
 trim_by asks t table ps zero e c rs ms = record { ranges = rs; marks = ms; outs = []; stalled = ltb 0 e }
-trim_by asks t table ps (suc n) e none rs ms = record { ranges = rs; marks = ms; outs = []; stalled = ltb 0 e }
-trim_by asks t table ps (suc n) e (some i) rs ms =
+trim_by asks t table ps (suc n) e None rs ms = record { ranges = rs; marks = ms; outs = []; stalled = ltb 0 e }
+trim_by asks t table ps (suc n) e (Some i) rs ms =
     let r = nth rs i in
     let k = amount asks e r in
     let rest = evict rs i k in

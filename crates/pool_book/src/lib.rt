@@ -11,6 +11,7 @@ ghost use Rattle.model.specs.Remove.{version_past};
 ghost use Rattle.pool_book.specs.Books.{records_in, entries_in};
 
 use model::Book;
+use std::array;
 
 // How many numbers there are in all.
 pub fn books_size() -> usize
@@ -23,10 +24,7 @@ pub fn books_size() -> usize
 pub fn long_enough(books: &[u64]) -> bool
     ensures { Says result (max_numbers ≤ length books.now) }
 {
-    if books.len() < books_size() {
-        return false;
-    }
-    true
+    books_size() <= books.len()
 }
 
 // ---- a store's own numbers in their order, and the place of its part
@@ -46,8 +44,9 @@ fn row_of(b: Book) -> [u64; 8]
     ]
 }
 
-fn book_from(row: [u64; 8]) -> Book
-    ensures { result ≡ book_from row }
+fn book_from(row: &[u64]) -> Book
+    requires { length row.now ≡ store_numbers }
+    ensures { result ≡ book_from row.now }
 {
     Book {
         capacity: row[0],
@@ -65,10 +64,7 @@ fn book_from(row: [u64; 8]) -> Book
 pub fn new_book(capacity: u64, policy: u64) -> Book
     ensures { result ≡ book_from (capacity ∷ policy ∷ []) }
 {
-    let mut row = [0u64; 8];
-    row[0] = capacity;
-    row[1] = policy;
-    book_from(row)
+    book_from(&[capacity, policy, 0, 0, 0, 0, 0, 0])
 }
 
 fn first_of(s: usize) -> usize
@@ -80,37 +76,12 @@ fn first_of(s: usize) -> usize
 
 // ---- read and written
 
-fn row_at(books: &[u64], a: usize) -> [u64; 8]
-    requires { a + store_numbers ≤ length books.now }
-    ensures { result ≡ take store_numbers (drop a books.now) }
-{
-    let mut row = [0u64; 8];
-    let mut i = 0;
-    while i < row.len() {
-        row[i] = books[a + i];
-        i += 1;
-    }
-    row
-}
-
-fn put_row(books: &mut [u64], a: usize, row: [u64; 8])
-    requires { a + store_numbers ≤ length books.old }
-    ensures { books.new ≡ paste books.old a row store_numbers }
-{
-    let mut i = 0;
-    while i < row.len() {
-        books[a + i] = row[i];
-        i += 1;
-    }
-}
-
 pub fn book_of(books: &[u64], s: usize) -> Book
     requires { (s < max_stores) × (max_numbers ≤ length books.now) }
     ensures { result ≡ book_in books.now s }
 {
     let a = first_of(s);
-    let row = row_at(books, a);
-    book_from(row)
+    book_from(&books[a..a + 8])
 }
 
 // b for store s.
@@ -119,8 +90,7 @@ pub fn put_book(books: &mut [u64], s: usize, b: Book)
     ensures { books.new ≡ lay_book s b books.old }
 {
     let a = first_of(s);
-    let row = row_of(b);
-    put_row(books, a, row);
+    books[a..a + 8].copy_from_slice(&row_of(b));
 }
 
 // b for store s after a rule on its ranges: these four are new, the rest stays.
@@ -136,11 +106,13 @@ pub fn put_ranged(
     requires { (s < max_stores) × (max_numbers ≤ length books.old) }
     ensures { books.new ≡ lay_book s (ranged b records held stamp version) books.old }
 {
-    let mut new = b;
-    new.records = records;
-    new.held = held;
-    new.stamp = stamp;
-    new.version = version;
+    let new = Book {
+        records,
+        held,
+        stamp,
+        version,
+        ..b
+    };
     put_book(books, s, new);
 }
 
@@ -167,17 +139,7 @@ pub fn records_of(books: &[u64]) -> [usize; 8]
     requires { max_numbers ≤ length books.now }
     ensures { result ≡ records_in books.now }
 {
-    let a = book_of(books, 0);
-    let b = book_of(books, 1);
-    let c = book_of(books, 2);
-    let d = book_of(books, 3);
-    let e = book_of(books, 4);
-    let f = book_of(books, 5);
-    let g = book_of(books, 6);
-    let h = book_of(books, 7);
-    [
-        a.records, b.records, c.records, d.records, e.records, f.records, g.records, h.records,
-    ]
+    array::from_fn(|s| book_of(books, s).records)
 }
 
 // Each store's used pin entries.
@@ -185,17 +147,7 @@ pub fn entries_of(books: &[u64]) -> [usize; 8]
     requires { max_numbers ≤ length books.now }
     ensures { result ≡ entries_in books.now }
 {
-    let a = book_of(books, 0);
-    let b = book_of(books, 1);
-    let c = book_of(books, 2);
-    let d = book_of(books, 3);
-    let e = book_of(books, 4);
-    let f = book_of(books, 5);
-    let g = book_of(books, 6);
-    let h = book_of(books, 7);
-    [
-        a.entries, b.entries, c.entries, d.entries, e.entries, f.entries, g.entries, h.entries,
-    ]
+    array::from_fn(|s| book_of(books, s).entries)
 }
 
 // The version, one higher if a block went.
@@ -203,7 +155,8 @@ pub fn version_past(removed: u64, version: u64) -> u64
     ensures { result ≡ version_past removed version }
 {
     if removed == 0 {
-        return version;
+        version
+    } else {
+        version.wrapping_add(1)
     }
-    std::num::wrapping_add_u64(version, 1)
 }

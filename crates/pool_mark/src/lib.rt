@@ -1,10 +1,10 @@
 #![tactic(auto)]
 // A node's mark, which is 0 where the store holds no range of the node: at set-up, where ranges go, in a cut. Of the ranges only the node column is lent:
 // the other columns do not matter.
-ghost use Rattle.std.specs.Prelude.{◌≡◌, ◌-◌, ◌≤◌, ◌<◌, min, length, replicate};
+ghost use Rattle.std.specs.Prelude.{◌≡◌, ◌≤◌, ◌<◌, length, replicate};
 ghost use Rattle.model.specs.State.{Ranges};
 ghost use Rattle.model.specs.Store.{ranges, on_node, unmark as unmarked};
-ghost use Rattle.model.specs.Insert.{if_held, cut_marks};
+ghost use Rattle.model.specs.Insert.{cut_marks};
 ghost use Rattle.model.specs.Calls.{front};
 
 // Is any of the first n ranges on node v?
@@ -12,14 +12,7 @@ pub fn on_node(node: &[usize], n: usize, v: usize) -> bool
     requires { n ≤ length node.now }
     ensures { (c : Ranges) → c.node ≡ node.now → result ≡ on_node v (ranges c 0 n) }
 {
-    let mut i = 0;
-    while i < n {
-        if node[i] == v {
-            return true;
-        }
-        i += 1;
-    }
-    false
+    node[..n].contains(&v)
 }
 
 // Where none of the first n ranges is on node v, its mark becomes 0.
@@ -27,35 +20,9 @@ pub fn unmark(node: &[usize], marks: &mut [usize], n: usize, v: usize)
     requires { (n ≤ length node.now) × (v < length marks.old) }
     ensures { (c : Ranges) → c.node ≡ node.now → marks.new ≡ unmarked v (ranges c 0 n) marks.old }
 {
-    if on_node(node, n, v) {
-        return;
+    if !on_node(node, n, v) {
+        marks[v] = 0;
     }
-    marks[v] = 0;
-}
-
-// What becomes of a read mark on the node that is cut, and on the new one: 0 where nothing is held.
-fn head_mark(held: bool, mark: usize, k: usize) -> usize
-    ensures { result ≡ if_held held (min mark k) }
-{
-    if held {
-        if mark < k {
-            return mark;
-        }
-        return k;
-    }
-    0
-}
-
-fn tail_mark(held: bool, mark: usize, k: usize) -> usize
-    ensures { result ≡ if_held held (mark - k) }
-{
-    if held {
-        if mark < k {
-            return 0;
-        }
-        return mark - k;
-    }
-    0
 }
 
 // The store's read marks, cut; `node` and `n` are those after the cut of the ranges.
@@ -64,8 +31,12 @@ pub fn cut_marks(node: &[usize], marks: &mut [usize], n: usize, j: usize, k: usi
     ensures { (c : Ranges) → c.node ≡ node.now → marks.new ≡ cut_marks j k m (ranges c 0 n) marks.old }
 {
     let mark = marks[j];
-    let head = head_mark(on_node(node, n, j), mark, k);
-    let tail = tail_mark(on_node(node, n, m), mark, k);
+    let head = if on_node(node, n, j) { mark.min(k) } else { 0 };
+    let tail = if on_node(node, n, m) {
+        mark.saturating_sub(k)
+    } else {
+        0
+    };
     marks[j] = head;
     marks[m] = tail;
 }
@@ -75,9 +46,5 @@ pub fn clear_marks(marks: &mut [usize])
     requires { 2048 ≤ length marks.old }
     ensures { marks.new ≡ front (replicate 2048 0) marks.old }
 {
-    let mut i = 0;
-    while i < 2048 {
-        marks[i] = 0;
-        i += 1;
-    }
+    marks[..2048].fill(0);
 }

@@ -12,7 +12,6 @@ use Rattle.model.specs.Calls.{front, lay_outs}
 use Rattle.pool_out.specs.Evicted.{write_number, write_of, set_out}
 use Rattle.shape_answer.specs.Lists.{out_list}
 use Rattle.pool_out.specs.declared.WriteId.{WriteId}
-use Rattle.pool_out.specs.declared.WriteId.TheVariants.{NoWrite, Write}
 
 map_snoc : {A B : Type 0} (f : A → B) (xs : List A) (x : A) → map f (xs ++ (x ∷ [])) ≡ map f xs ++ (f x ∷ [])
 map_snoc f [] x = refl
@@ -51,11 +50,3 @@ number_of (suc n) = refl
 -- the column's number of a write that stands for n is n
 pub carries : (n : ℕ) (w : WriteId) → w ≡ write_of n → write_number w ≡ n
 carries n w e = ap write_number e ∙ number_of n
-
-pub no_write : (n : ℕ) → n ≡ 0 → NoWrite ≡ write_of n
-no_write zero e = refl
-no_write (suc n) e = absurd (omega arith)
-
-pub some-write : (n : ℕ) → (n ≡ 0 → ⊥) → Write n ≡ write_of n
-some-write zero e = absurd (e refl)
-some-write (suc n) e = refl

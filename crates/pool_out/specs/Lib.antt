@@ -1,1 +1,2 @@
 pub mod Evicted
+pub mod Outs

@@ -155,9 +155,3 @@ module _ (a n : ℕ) (c : Pins) (few : n ≤ 32) (lent : PinsFrom a c) where
 
 pub width : (a : ℕ) → (a + 32) - a ≡ 32
 width a = omega arith
-
-pub part_room : (a w n k : ℕ) (l : List ℕ) → w ≡ 32 → a + 32 ≤ length l → k ≤ n → n < 32 → (k ≤ n) × (n < length (mid a w l))
-part_room a w n k l e long le room = rw e (le, omega (arith, mid-long a 32 l long))
-
-pub part_in : (a w n k : ℕ) (l : List ℕ) → w ≡ 32 → a + 32 ≤ length l → k < n → n ≤ 32 → (k < n) × (n ≤ length (mid a w l))
-part_in a w n k l e long le room = rw e (le, omega (arith, mid-long a 32 l long))

@@ -1,2 +1,3 @@
 pub mod Cols
+pub mod Lent
 pub mod Part

@@ -1,6 +1,6 @@
 -- Adding place after place: where what is to be added passes nowhere, there is room at the first place, and what is left passes nowhere once that is
 -- added, since the places differ. Assumes nothing.
-use Prim.Native.Nat.{ℕ, zero, suc, ◌+◌, ◌-◌, ◌≤◌, ◌<◌}
+use Prim.Native.Nat.{ℕ, zero, suc, ◌+◌, ◌≤◌, ◌<◌}
 use mathlib.Core.Path.{◌≡◌, refl, sym, ap, ◌∙◌}
 use mathlib.Core.Bool.{Bool, true, false, ◌||◌, true≢false, false≢true}
 use mathlib.Core.Logic.{◌≢◌}
@@ -9,7 +9,7 @@ use native.Mathlib.Omega.{arith}
 use lib.ListN.{set}
 use lib.Seq.{get_or-set_other}
 use lib.Dec.{ltb}
-use borrow.Author.Tests.{lt-ltb, le-ltb, ltb-false}
+use borrow.Author.Tests.{ltb-false}
 use Rattle.model.specs.State.{at}
 use Rattle.model_sums.specs.Sums.{More, more, add, passes, max_sum, brought_at, gave_at}
 use Rattle.theory_sums.proofs.Places.{NotAt}
@@ -25,6 +25,10 @@ or_here false b e = absurd (false≢true e)
 or_next : (a b : Bool) → a ≡ false → b ≡ (a || b)
 or_next true b e = absurd (true≢false e)
 or_next false b e = refl
+
+or_none : (a : Bool) → a ≡ (a || false)
+or_none true = refl
+or_none false = refl
 
 or_first : (a b : Bool) → (a || b) ≡ false → a ≡ false
 or_first true b e = e
@@ -52,10 +56,10 @@ module _ (p n : ℕ) (ms : List More) (v : List ℕ) where
   unfolding passes
   room-rest e = or_second (ltb max_sum (at v p + n)) (passes ms v) e
 
--- nothing is left
-pub pass_none : (v : List ℕ) → false ≡ passes [] v
+-- it is the last
+pub pass_last : (p n : ℕ) (v : List ℕ) {r : Bool} → r ≡ ltb max_sum (at v p + n) → r ≡ passes (more p n ∷ []) v
 unfolding passes
-pass_none v = refl
+pass_last p n v e = e ∙ or_none (ltb max_sum (at v p + n))
 
 -- ---- adding, place after place
 
@@ -80,17 +84,6 @@ added_next p n ms v a b = b ∙ ap (add ms) a
 
 -- ---- places
 
-pub first-place : (v : List ℕ) (s : ℕ) → at v s ≡ at v (brought_at s)
-first-place v s = ap (at v) (let e : s ≡ brought_at s = omega arith in e)
-
-pub gave_zero : (c s : ℕ) → c ≡ 0 → 24 + s ≡ gave_at c s
-gave_zero zero s e = refl
-gave_zero (suc c) s e = absurd (omega arith)
-
-pub gave_some : (c s : ℕ) → (c ≡ 0 → ⊥) → 8 + s ≡ gave_at c s
-gave_some zero s e = absurd (e refl)
-gave_some (suc c) s e = refl
-
 pub gave_low : (c s : ℕ) → s < 8 → gave_at c s < 40
 gave_low zero s l = omega arith
 gave_low (suc c) s l = omega arith
@@ -109,15 +102,8 @@ module _ (p q r a b d : ℕ) (v : List ℕ) where
     pub pass_second : y ≡ true → true ≡ passes (more p a ∷ more q b ∷ more r d ∷ []) v
     pass_second t = pass_here q b (more r d ∷ []) v f t ∙ pass_next p a (more q b ∷ more r d ∷ []) v e n
 
-    module _ {z : Bool} (m : y ≡ false) (g : z ≡ ltb max_sum (at v r + d)) where
-      to_third : passes (more r d ∷ []) v ≡ passes (more p a ∷ more q b ∷ more r d ∷ []) v
-      to_third = pass_next q b (more r d ∷ []) v f m ∙ pass_next p a (more q b ∷ more r d ∷ []) v e n
-
-      pub pass_third : z ≡ true → true ≡ passes (more p a ∷ more q b ∷ more r d ∷ []) v
-      pass_third t = pass_here r d [] v g t ∙ to_third
-
-      pub pass_nowhere : z ≡ false → false ≡ passes (more p a ∷ more q b ∷ more r d ∷ []) v
-      pass_nowhere t = pass_none v ∙ pass_next r d [] v g t ∙ to_third
+    pub pass_third : {z : Bool} → y ≡ false → z ≡ ltb max_sum (at v r + d) → z ≡ passes (more p a ∷ more q b ∷ more r d ∷ []) v
+    pass_third m g = pass_last r d v g ∙ pass_next q b (more r d ∷ []) v f m ∙ pass_next p a (more q b ∷ more r d ∷ []) v e n
 
 module _ (p q r a b d : ℕ) (v w : List ℕ) where
   pub second-room : passes (more p a ∷ more q b ∷ more r d ∷ []) v ≡ false → w ≡ add (more p a ∷ []) v → p ≢ q → p ≢ r → at w q + b ≤ max_sum
@@ -171,15 +157,3 @@ module _ (capacity s blocks : ℕ) (o : OutSums) (v : List ℕ) where
   bring-added place {w} {y} g f h =
       added_next s blocks (out_more (gave_at capacity s) s o) v f (h ∙ ap (λ (k : ℕ). add (out_more k s o) w) g)
       ∙ ap (λ (k : ℕ). add (more k blocks ∷ out_more (gave_at capacity s) s o) v) first-is
-
--- ---- one place, by a difference
-
-module _ (v : List ℕ) (p n : ℕ) where
-  pub past-here : max_sum < n → true ≡ ltb max_sum (at v p + n)
-  past-here l = sym (lt-ltb max_sum (at v p + n) (omega arith))
-
-  pub past_more : n ≤ max_sum → max_sum - n < at v p → true ≡ ltb max_sum (at v p + n)
-  past_more m l = sym (lt-ltb max_sum (at v p + n) (omega arith))
-
-  pub past_not : n ≤ max_sum → at v p ≤ max_sum - n → false ≡ ltb max_sum (at v p + n)
-  past_not m l = sym (le-ltb max_sum (at v p + n) (omega arith))

@@ -3,7 +3,13 @@
 use Prim.Native.Nat.{ℕ, suc, ◌+◌, ◌≤◌, ◌<◌}
 use mathlib.Core.Path.{◌≡◌, refl, sym, ap, subst, ◌∙◌}
 use native.Mathlib.Omega.{arith}
-use lib.ListN.{length}
+use mathlib.Core.List.{List, [], ◌∷◌}
+use lib.ListN.{length, take}
+use Rattle.std.specs.List.{sum}
+use Rattle.std.proofs.lemmas.List.Sums.{sum_by-cons}
+use Rattle.theory_room.specs.Room.{sum_of}
+use Rattle.model_sums.specs.Sums.{listed_sum}
+use Rattle.theory_sums.proofs.Answers.{sum-list}
 use Rattle.model.specs.Words.{sum_to}
 use Rattle.model.specs.Refusals.{OutList, OutFits}
 use Rattle.model.specs.Calls.{Outcome}
@@ -33,6 +39,16 @@ sum-turn {f} {n} {sum} {i} h l =
 
 pub sum-end : {f : ℕ → ℕ} {n sum i : ℕ} → Summing f n sum i → n ≤ i → sum ≡ sum_to f n
 sum-end {f} {n} {sum} {i} h l = let e : i ≡ n = omega (arith, h.high) in h.is ∙ ap (sum_to f) e
+
+-- ---- of a column
+
+sum_same : (l : List ℕ) → sum_of l ≡ sum l
+unfolding sum_of
+sum_same [] = refl
+sum_same (x ∷ l) = ap (λ (k : ℕ). x + k) (sum_same l) ∙ sym (sum_by-cons (λ k. k) x l)
+
+pub sum-is : (n : ℕ) (l : List ℕ) → listed_sum n l ≡ sum (take n l)
+sum-is n l = sum-list n l ∙ sum_same (take n l)
 
 -- ---- the lists that a call left
 

@@ -1,10 +1,10 @@
 #![tactic(auto)]
 // The running sums of request P1, on plain numbers: what a call's answer adds, whether that passes 2^63 - 1, and the adding.
-ghost use Rattle.std.specs.Prelude.{◌≡◌, false, [], ◌∷◌, ◌+◌, ◌-◌, ◌≤◌, ◌<◌, length, ltb};
+ghost use Rattle.std.specs.Prelude.{◌≡◌, false, [], ◌∷◌, ◌+◌, ◌≤◌, ◌<◌, length, ltb, sum};
 ghost use Rattle.model.specs.Sizes.{max_stores};
 ghost use Rattle.model.specs.Words.{Says};
 ghost use Rattle.model.specs.State.{at};
-ghost use Rattle.model_sums.specs.Sums.{more, add, passes, max_sum, sum_places, removed_at, gave_at, all_tiers, listed_sum, listed_blocks};
+ghost use Rattle.model_sums.specs.Sums.{more, add, passes, max_sum, sum_places, removed_at, gave_at, all_tiers, listed_blocks};
 ghost use Rattle.theory_sums.specs.Bounds.{Far, FarOver};
 ghost use Rattle.pool_sums.specs.Amounts.{Listed, only_sums, out_sums, out_more, bring_more, expire_more, look_more};
 
@@ -20,28 +20,12 @@ pub struct OutSums {
 
 // ---- what a call's answer adds
 
-// The sum of the first n numbers of a column.
-fn column_sum(col: &[u64], n: usize) -> u64
-    requires { (n ≤ length col.now) × (listed_sum n col.now ≤ max_sum) }
-    ensures { result ≡ listed_sum n col.now }
+// The sum of a column.
+fn column_sum(col: &[u64]) -> u64
+    requires { sum col.now ≤ max_sum }
+    ensures { result ≡ sum col.now }
 {
-    let mut sum: u64 = 0;
-    let mut i = 0;
-    while i < n {
-        sum += col[i];
-        i += 1;
-    }
-    sum
-}
-
-// The blocks from a start up to an end.
-fn blocks_between(start: usize, end: usize) -> usize
-    ensures { result ≡ end - start }
-{
-    if end < start {
-        return 0;
-    }
-    end - start
+    col.iter().sum()
 }
 
 // The blocks of the first n given-out spans.
@@ -50,10 +34,8 @@ fn block_sum(start: &[usize], end: &[usize], n: usize) -> u64
     ensures { result ≡ listed_blocks n (only_sums start.now end.now [] []) }
 {
     let mut sum: u64 = 0;
-    let mut i = 0;
-    while i < n {
-        sum += blocks_between(start[i], end[i]) as u64;
-        i += 1;
+    for i in 0..n {
+        sum += end[i].saturating_sub(start[i]) as u64;
     }
     sum
 }
@@ -71,8 +53,8 @@ pub fn out_sums(
 {
     OutSums {
         blocks: block_sum(out_start, out_end, n),
-        bytes: column_sum(out_bytes, n),
-        dead: column_sum(out_dead, n),
+        bytes: column_sum(&out_bytes[..n]),
+        dead: column_sum(&out_dead[..n]),
     }
 }
 
@@ -89,26 +71,17 @@ fn gave_at(capacity: u64, s: usize) -> usize
     requires { s < max_stores }
     ensures { result ≡ gave_at capacity s }
 {
-    if capacity == 0 {
-        return 24 + s;
-    }
-    8 + s
+    if capacity == 0 { 24 + s } else { 8 + s }
 }
 
 // ---- does it pass the limit?
 
-// Would so much more at a place pass 2^63 - 1? By a difference, so that no sum can wrap.
+// Would so much more at a place pass 2^63 - 1? A sum that would wrap is the largest number here, which passes too.
 fn past(sums: &[u64], place: usize, amount: u64) -> bool
     requires { place < length sums.now }
     ensures { result ≡ ltb max_sum (at sums.now place + amount) }
 {
-    if 9223372036854775807 < amount {
-        return true;
-    }
-    if 9223372036854775807 - amount < sums[place] {
-        return true;
-    }
-    false
+    9223372036854775807 < sums[place].saturating_add(amount)
 }
 
 // Of given-out spans of store s, whose blocks count at the place.
@@ -116,16 +89,7 @@ fn outs_pass(sums: &[u64], place: usize, s: usize, o: OutSums) -> bool
     requires { (s < max_stores) × (place < sum_places) × (sum_places ≤ length sums.now) }
     ensures { result ≡ passes (out_more place s o) sums.now }
 {
-    if past(sums, place, o.blocks) {
-        return true;
-    }
-    if past(sums, 40 + s, o.bytes) {
-        return true;
-    }
-    if past(sums, 48 + s, o.dead) {
-        return true;
-    }
-    false
+    past(sums, place, o.blocks) || past(sums, 40 + s, o.bytes) || past(sums, 48 + s, o.dead)
 }
 
 // Of a bring-in.
@@ -133,11 +97,7 @@ pub fn bring_passes(sums: &[u64], capacity: u64, s: usize, blocks: u64, o: OutSu
     requires { (s < max_stores) × (sum_places ≤ length sums.now) }
     ensures { result ≡ passes (bring_more capacity s blocks o) sums.now }
 {
-    if past(sums, s, blocks) {
-        return true;
-    }
-    let place = gave_at(capacity, s);
-    outs_pass(sums, place, s, o)
+    past(sums, s, blocks) || outs_pass(sums, gave_at(capacity, s), s, o)
 }
 
 // Of an expiry.
@@ -153,10 +113,7 @@ pub fn remove_passes(sums: &[u64], s: usize, blocks: u64) -> bool
     requires { (s < max_stores) × (sum_places ≤ length sums.now) }
     ensures { result ≡ passes (more (removed_at s) blocks ∷ []) sums.now }
 {
-    if past(sums, 32 + s, blocks) {
-        return true;
-    }
-    false
+    past(sums, 32 + s, blocks)
 }
 
 // Of a lookup.
@@ -164,16 +121,7 @@ pub fn look_passes(sums: &[u64], blocks: u64, bytes: u64) -> bool
     requires { sum_places ≤ length sums.now }
     ensures { result ≡ passes (look_more blocks bytes) sums.now }
 {
-    if past(sums, 56, 1) {
-        return true;
-    }
-    if past(sums, 57, blocks) {
-        return true;
-    }
-    if past(sums, 58, bytes) {
-        return true;
-    }
-    false
+    past(sums, 56, 1) || past(sums, 57, blocks) || past(sums, 58, bytes)
 }
 
 // ---- far from the limit
@@ -183,28 +131,13 @@ pub fn far(sums: &[u64], s: usize) -> bool
     requires { (s < max_stores) × (sum_places ≤ length sums.now) }
     ensures { Says result (Far s sums.now) }
 {
-    if 4611686018427387904 < sums[s] {
-        return false;
-    }
-    if 4611686018427387904 < sums[8 + s] {
-        return false;
-    }
-    if 4611686018427387904 < sums[16 + s] {
-        return false;
-    }
-    if 4611686018427387904 < sums[24 + s] {
-        return false;
-    }
-    if 4611686018427387904 < sums[32 + s] {
-        return false;
-    }
-    if 4611686018427387904 < sums[40 + s] {
-        return false;
-    }
-    if 4611686018427387904 < sums[48 + s] {
-        return false;
-    }
-    true
+    sums[s] <= 4611686018427387904
+        && sums[8 + s] <= 4611686018427387904
+        && sums[16 + s] <= 4611686018427387904
+        && sums[24 + s] <= 4611686018427387904
+        && sums[32 + s] <= 4611686018427387904
+        && sums[40 + s] <= 4611686018427387904
+        && sums[48 + s] <= 4611686018427387904
 }
 
 // The same of the three over all.
@@ -212,16 +145,9 @@ pub fn far_over(sums: &[u64]) -> bool
     requires { sum_places ≤ length sums.now }
     ensures { Says result (FarOver sums.now) }
 {
-    if 4611686018427387904 < sums[56] {
-        return false;
-    }
-    if 4611686018427387904 < sums[57] {
-        return false;
-    }
-    if 4611686018427387904 < sums[58] {
-        return false;
-    }
-    true
+    sums[56] <= 4611686018427387904
+        && sums[57] <= 4611686018427387904
+        && sums[58] <= 4611686018427387904
 }
 
 // ---- adding
@@ -238,8 +164,8 @@ fn add_outs(sums: &mut [u64], place: usize, s: usize, o: OutSums)
     requires { (s < max_stores) × (place < 40) × (sum_places ≤ length sums.old) × (passes (out_more place s o) sums.old ≡ false) }
     ensures { sums.new ≡ add (out_more place s o) sums.old }
 {
-    add_at(&mut *sums, place, o.blocks);
-    add_at(&mut *sums, 40 + s, o.bytes);
+    add_at(sums, place, o.blocks);
+    add_at(sums, 40 + s, o.bytes);
     add_at(sums, 48 + s, o.dead);
 }
 
@@ -248,9 +174,8 @@ pub fn add_bring(sums: &mut [u64], capacity: u64, s: usize, blocks: u64, o: OutS
     requires { (s < max_stores) × (sum_places ≤ length sums.old) × (passes (bring_more capacity s blocks o) sums.old ≡ false) }
     ensures { sums.new ≡ add (bring_more capacity s blocks o) sums.old }
 {
-    add_at(&mut *sums, s, blocks);
-    let place = gave_at(capacity, s);
-    add_outs(sums, place, s, o);
+    add_at(sums, s, blocks);
+    add_outs(sums, gave_at(capacity, s), s, o);
 }
 
 // An expiry.
@@ -274,7 +199,7 @@ pub fn add_look(sums: &mut [u64], blocks: u64, bytes: u64)
     requires { (sum_places ≤ length sums.old) × (passes (look_more blocks bytes) sums.old ≡ false) }
     ensures { sums.new ≡ add (look_more blocks bytes) sums.old }
 {
-    add_at(&mut *sums, 56, 1);
-    add_at(&mut *sums, 57, blocks);
+    add_at(sums, 56, 1);
+    add_at(sums, 57, blocks);
     add_at(sums, 58, bytes);
 }

@@ -36,126 +36,22 @@ pub struct OldOuts {
     pub dead: [u64; 128],
 }
 
-// ---- a column's part copied, and put back: the same for each type and width
+// ---- N places of a column from a on, copied, and put back
 
-fn copy_usize(col: &[usize], a: usize) -> [usize; 128]
-    requires { a + 128 ≤ length col.now }
-    ensures { result ≡ mid a 128 col.now }
+pub fn copy<T: Copy + Default, const N: usize>(col: &[T], a: usize) -> [T; N]
+    requires { a + N ≤ length col.now }
+    ensures { result ≡ mid a N col.now }
 {
-    let mut out = [0usize; 128];
-    let mut i = 0;
-    while i < 128 {
-        out[i] = col[a + i];
-        i += 1;
-    }
+    let mut out = [T::default(); N];
+    out.copy_from_slice(&col[a..a + N]);
     out
 }
 
-fn put_usize(col: &mut [usize], a: usize, from: [usize; 128])
-    requires { a + 128 ≤ length col.old }
-    ensures { col.new ≡ back a 128 from col.old }
+pub fn put<T: Copy, const N: usize>(col: &mut [T], a: usize, from: &[T; N])
+    requires { a + N ≤ length col.old }
+    ensures { col.new ≡ back a N from.now col.old }
 {
-    let mut i = 0;
-    while i < 128 {
-        col[a + i] = from[i];
-        i += 1;
-    }
-}
-
-fn copy_u64(col: &[u64], a: usize) -> [u64; 128]
-    requires { a + 128 ≤ length col.now }
-    ensures { result ≡ mid a 128 col.now }
-{
-    let mut out = [0u64; 128];
-    let mut i = 0;
-    while i < 128 {
-        out[i] = col[a + i];
-        i += 1;
-    }
-    out
-}
-
-fn put_u64(col: &mut [u64], a: usize, from: [u64; 128])
-    requires { a + 128 ≤ length col.old }
-    ensures { col.new ≡ back a 128 from col.old }
-{
-    let mut i = 0;
-    while i < 128 {
-        col[a + i] = from[i];
-        i += 1;
-    }
-}
-
-fn copy_f64(col: &[f64], a: usize) -> [f64; 128]
-    requires { a + 128 ≤ length col.now }
-    ensures { result ≡ mid a 128 col.now }
-{
-    let mut out = [0.0; 128];
-    let mut i = 0;
-    while i < 128 {
-        out[i] = col[a + i];
-        i += 1;
-    }
-    out
-}
-
-fn put_f64(col: &mut [f64], a: usize, from: [f64; 128])
-    requires { a + 128 ≤ length col.old }
-    ensures { col.new ≡ back a 128 from col.old }
-{
-    let mut i = 0;
-    while i < 128 {
-        col[a + i] = from[i];
-        i += 1;
-    }
-}
-
-pub fn copy_u32(col: &[u32], a: usize) -> [u32; 128]
-    requires { a + 128 ≤ length col.now }
-    ensures { result ≡ mid a 128 col.now }
-{
-    let mut out = [0u32; 128];
-    let mut i = 0;
-    while i < 128 {
-        out[i] = col[a + i];
-        i += 1;
-    }
-    out
-}
-
-pub fn put_u32(col: &mut [u32], a: usize, from: [u32; 128])
-    requires { a + 128 ≤ length col.old }
-    ensures { col.new ≡ back a 128 from col.old }
-{
-    let mut i = 0;
-    while i < 128 {
-        col[a + i] = from[i];
-        i += 1;
-    }
-}
-
-fn copy_marks(col: &[usize], a: usize) -> [usize; 256]
-    requires { a + 256 ≤ length col.now }
-    ensures { result ≡ mid a 256 col.now }
-{
-    let mut out = [0usize; 256];
-    let mut i = 0;
-    while i < 256 {
-        out[i] = col[a + i];
-        i += 1;
-    }
-    out
-}
-
-fn put_marks(col: &mut [usize], a: usize, from: [usize; 256])
-    requires { a + 256 ≤ length col.old }
-    ensures { col.new ≡ back a 256 from col.old }
-{
-    let mut i = 0;
-    while i < 256 {
-        col[a + i] = from[i];
-        i += 1;
-    }
+    col[a..a + N].copy_from_slice(from);
 }
 
 // ---- a store's part, kept and put back
@@ -182,14 +78,14 @@ pub fn keep(
 {
     let a = 128 * s;
     Old {
-        node: copy_usize(node, a),
-        start: copy_usize(start, a),
-        end: copy_usize(end, a),
-        id: copy_u64(id, a),
-        stamp: copy_u64(stamp, a),
-        touched: copy_f64(touched, a),
-        write: copy_u32(write, a),
-        marks: copy_marks(marks, 256 * s),
+        node: copy(node, a),
+        start: copy(start, a),
+        end: copy(end, a),
+        id: copy(id, a),
+        stamp: copy(stamp, a),
+        touched: copy(touched, a),
+        write: copy(write, a),
+        marks: copy(marks, 256 * s),
     }
 }
 
@@ -217,22 +113,14 @@ pub fn undo(
         × (marks.new ≡ back (256 * s) 256 old.marks marks.old) }
 {
     let a = 128 * s;
-    let old_node = old.node;
-    put_usize(node, a, old_node);
-    let old_start = old.start;
-    put_usize(start, a, old_start);
-    let old_end = old.end;
-    put_usize(end, a, old_end);
-    let old_id = old.id;
-    put_u64(id, a, old_id);
-    let old_stamp = old.stamp;
-    put_u64(stamp, a, old_stamp);
-    let old_touched = old.touched;
-    put_f64(touched, a, old_touched);
-    let old_write = old.write;
-    put_u32(write, a, old_write);
-    let old_marks = old.marks;
-    put_marks(marks, 256 * s, old_marks);
+    put(node, a, &old.node);
+    put(start, a, &old.start);
+    put(end, a, &old.end);
+    put(id, a, &old.id);
+    put(stamp, a, &old.stamp);
+    put(touched, a, &old.touched);
+    put(write, a, &old.write);
+    put(marks, 256 * s, &old.marks);
 }
 
 // The same with the store's own numbers, the next id and the stalls.
@@ -265,7 +153,7 @@ pub fn undo_store(
         × (books.new ≡ lay_next next stalls (lay_book s b books.old)) }
 {
     undo(node, start, end, id, stamp, touched, write, marks, s, old);
-    pool_book::put_book(&mut *books, s, b);
+    pool_book::put_book(books, s, b);
     pool_book::put_next(books, next, stalls);
 }
 
@@ -286,12 +174,12 @@ pub fn keep_outs(
         out_dead.now) }
 {
     OldOuts {
-        node: copy_usize(out_node, 0),
-        start: copy_usize(out_start, 0),
-        end: copy_usize(out_end, 0),
-        write: copy_u32(out_write, 0),
-        bytes: copy_u64(out_bytes, 0),
-        dead: copy_u64(out_dead, 0),
+        node: copy(out_node, 0),
+        start: copy(out_start, 0),
+        end: copy(out_end, 0),
+        write: copy(out_write, 0),
+        bytes: copy(out_bytes, 0),
+        dead: copy(out_dead, 0),
     }
 }
 
@@ -312,16 +200,10 @@ pub fn undo_outs(
         (out_list out_node.old out_start.old out_end.old out_write.old out_bytes.old
         out_dead.old) }
 {
-    let old_node = old.node;
-    put_usize(out_node, 0, old_node);
-    let old_start = old.start;
-    put_usize(out_start, 0, old_start);
-    let old_end = old.end;
-    put_usize(out_end, 0, old_end);
-    let old_write = old.write;
-    put_u32(out_write, 0, old_write);
-    let old_bytes = old.bytes;
-    put_u64(out_bytes, 0, old_bytes);
-    let old_dead = old.dead;
-    put_u64(out_dead, 0, old_dead);
+    put(out_node, 0, &old.node);
+    put(out_start, 0, &old.start);
+    put(out_end, 0, &old.end);
+    put(out_write, 0, &old.write);
+    put(out_bytes, 0, &old.bytes);
+    put(out_dead, 0, &old.dead);
 }

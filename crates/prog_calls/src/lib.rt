@@ -1,8 +1,8 @@
 #![tactic(auto)]
-// One line's operation: its call is made on the pools, and its answer written into a buffer that the caller lends.
+// One line's operation: its call is made on the pools, and its answer written on a page.
 //
 // The state is 19 arrays. Once a set-up was accepted it is sound, and each operation keeps it so.
-ghost use Rattle.std.specs.Prelude.{◌≤◌};
+ghost use Rattle.std.specs.Prelude.{◌≤◌, length};
 ghost use Rattle.model.specs.Sound.{Sound};
 ghost use Rattle.text_lines.specs.Lines.{Filled};
 ghost use Rattle.shape_answer.specs.Answers.{state_from};
@@ -10,17 +10,17 @@ ghost use Rattle.prog_tree.specs.Between.{SoundIfSetUp};
 
 use known::NUMBERS;
 use text_lines::Op;
+use text_page::{Page, ROOM};
 
 // A line before the first accepted set-up that is no set-up.
-fn before_set_up(out: &mut [u8; 1048576], at: usize, op: Op) -> usize
-    requires { at ≤ 500000 }
-    ensures { result ≤ 1048576 }
+fn before_set_up(page: &mut Page<ROOM>, op: Op)
+    requires { length page.old ≤ 500000 }
 {
     match op {
-        Op::Blank => at,
-        Op::Unreadable => text_answer::put_line(out, at, b"unreadable"),
-        Op::State => text_answer::put_line(out, at, b"state none"),
-        _ => text_answer::put_refused(out, at, 1),
+        Op::Blank => {}
+        Op::Unreadable => text_answer::put_line(page, b"unreadable"),
+        Op::State => text_answer::put_line(page, b"state none"),
+        _ => text_answer::put_refused(page, 1),
     }
 }
 
@@ -45,38 +45,74 @@ fn read(
     marks: &[usize; 2048],
     bytes: &[u64; 1025],
     books: &[u64; NUMBERS],
-    out: &mut [u8; 1048576],
-    at: usize,
+    page: &mut Page<ROOM>,
     list: &[u64; 1026],
     tiers: &[usize; 9],
     op: Op,
-) -> usize
+)
     requires { Filled op
         × Sound
         (state_from parent.now depth.now len.now run.now words.now node.now start.now end.now id.now stamp.now touched.now write.now
         pin_node.now pin_start.now pin_end.now pin_count.now marks.now bytes.now books.now)
-        × (at ≤ 500000) }
-    ensures { result ≤ 1048576 }
+        × (length page.old ≤ 500000) }
 {
     match op {
         Op::Resolve(n) => prog_tree::resolve(
-            parent, depth, len, run, words, node, start, end, id, stamp, touched, write, pin_node,
-            pin_start, pin_end, pin_count, marks, bytes, books, out, at, list, n,
+            parent,
+            depth,
+            len,
+            run,
+            words,
+            node,
+            start,
+            end,
+            id,
+            stamp,
+            touched,
+            write,
+            pin_node,
+            pin_start,
+            pin_end,
+            pin_count,
+            marks,
+            bytes,
+            books,
+            page,
+            &list[..n],
         ),
         Op::Lookup(k, n) => prog_tree::lookup(
-            parent, depth, len, run, words, node, start, end, id, stamp, touched, write, pin_node,
-            pin_start, pin_end, pin_count, marks, bytes, books, out, at, list, tiers, k, n,
+            parent,
+            depth,
+            len,
+            run,
+            words,
+            node,
+            start,
+            end,
+            id,
+            stamp,
+            touched,
+            write,
+            pin_node,
+            pin_start,
+            pin_end,
+            pin_count,
+            marks,
+            bytes,
+            books,
+            page,
+            &list[..n],
+            &tiers[..k],
         ),
         Op::State => prog_tree::state(
             parent, depth, len, run, words, node, start, end, id, stamp, touched, write, pin_node,
-            pin_start, pin_end, pin_count, marks, bytes, books, out, at,
+            pin_start, pin_end, pin_count, marks, bytes, books, page,
         ),
-        Op::Unreadable => text_answer::put_line(out, at, b"unreadable"),
-        _ => at,
+        Op::Unreadable => text_answer::put_line(page, b"unreadable"),
+        _ => {}
     }
 }
 
-// The answer is written from `at` on, and the place past it is given back.
 pub fn call(
     parent: &mut [usize; 256],
     depth: &mut [usize; 256],
@@ -97,28 +133,26 @@ pub fn call(
     marks: &mut [usize; 2048],
     bytes: &mut [u64; 1025],
     books: &mut [u64; NUMBERS],
-    out: &mut [u8; 1048576],
-    at: usize,
+    page: &mut Page<ROOM>,
     list: &[u64; 1026],
     spans: &[usize; 192],
     tiers: &[usize; 9],
     capacity: &[u64; 9],
     refreshes: &[bool; 9],
     op: Op,
-) -> usize
+)
     requires { Filled op
         × SoundIfSetUp
         (state_from parent.old depth.old len.old run.old words.old node.old start.old end.old id.old stamp.old touched.old write.old
         pin_node.old pin_start.old pin_end.old pin_count.old marks.old bytes.old books.old)
-        × (at ≤ 500000) }
+        × (length page.old ≤ 500000) }
     ensures { SoundIfSetUp
         (state_from parent.new depth.new len.new run.new words.new node.new start.new
         end.new id.new stamp.new touched.new write.new pin_node.new
-        pin_start.new pin_end.new pin_count.new marks.new bytes.new books.new)
-        × (result ≤ 1048576) }
+        pin_start.new pin_end.new pin_count.new marks.new bytes.new books.new) }
 {
-    if let Op::SetUp(k, n) = op {
-        return prog_tree::set_up(
+    match op {
+        Op::SetUp(k, n) => prog_tree::set_up(
             parent,
             depth,
             len,
@@ -138,23 +172,35 @@ pub fn call(
             marks,
             bytes,
             books,
-            out,
-            at,
-            list,
-            capacity,
-            refreshes,
-            k,
-            n,
-        );
-    }
-    // no node, not even the root: nothing was set up
-    if books[0] == 0 {
-        return before_set_up(out, at, op);
-    }
-    match op {
+            page,
+            &list[..k],
+            &capacity[..n],
+            &refreshes[..n],
+        ),
+        // no node, not even the root: nothing was set up
+        _ if books[0] == 0 => before_set_up(page, op),
         Op::Insert(n) => prog_tree::insert(
-            parent, depth, len, run, words, node, start, end, id, stamp, touched, write, pin_node,
-            pin_start, pin_end, pin_count, marks, &*bytes, books, out, at, list, n,
+            parent,
+            depth,
+            len,
+            run,
+            words,
+            node,
+            start,
+            end,
+            id,
+            stamp,
+            touched,
+            write,
+            pin_node,
+            pin_start,
+            pin_end,
+            pin_count,
+            marks,
+            &*bytes,
+            books,
+            page,
+            &list[..n],
         ),
         Op::Bring(s, sp, time, w) => prog_store::bring(
             &*parent,
@@ -176,8 +222,7 @@ pub fn call(
             marks,
             &*bytes,
             books,
-            out,
-            at,
+            page,
             s,
             sp,
             time,
@@ -203,8 +248,7 @@ pub fn call(
             marks,
             &*bytes,
             books,
-            out,
-            at,
+            page,
             spans,
             s,
             time,
@@ -231,8 +275,7 @@ pub fn call(
             marks,
             &*bytes,
             books,
-            out,
-            at,
+            page,
             s,
             sp,
         ),
@@ -256,8 +299,7 @@ pub fn call(
             marks,
             &*bytes,
             books,
-            out,
-            at,
+            page,
             s,
             time,
             seconds,
@@ -265,12 +307,12 @@ pub fn call(
         Op::Pin(s, sp) => prog_store::pin(
             &*parent, &*depth, &*len, &*run, &*words, &*node, &*start, &*end, &*id, &*stamp,
             &*touched, &*write, pin_node, pin_start, pin_end, pin_count, &*marks, &*bytes, books,
-            out, at, s, sp,
+            page, s, sp,
         ),
         Op::Unpin(s, sp) => prog_store::unpin(
             &*parent, &*depth, &*len, &*run, &*words, &*node, &*start, &*end, &*id, &*stamp,
             &*touched, &*write, pin_node, pin_start, pin_end, pin_count, &*marks, &*bytes, books,
-            out, at, s, sp,
+            page, s, sp,
         ),
         _ => read(
             &*parent,
@@ -292,8 +334,7 @@ pub fn call(
             &*marks,
             &*bytes,
             &*books,
-            out,
-            at,
+            page,
             list,
             tiers,
             op,

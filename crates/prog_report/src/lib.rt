@@ -10,6 +10,7 @@ ghost use Rattle.prog_report.specs.Kept.{InOrder, Begun, one_more, count_one, co
 use known::{
     Inserted, Looked, NUMBERS, Plain, StoreExpired, StoreInserted, StoreRemoved, StoreUsed,
 };
+use text_answer::{Outs, Segments, TierSpans};
 use text_lines::Op;
 
 // A count stays at 2^63 - 1.
@@ -17,18 +18,18 @@ fn one_more(times: u64) -> u64
     ensures { result ≡ one_more times }
 {
     if times < 9223372036854775807 {
-        return times + 1;
+        times + 1
+    } else {
+        times
     }
-    times
 }
 
 // One more of number n.
 fn count(counts: &mut [u64; 256], n: u8)
     ensures { counts.new ≡ count_one n counts.old }
 {
-    let i = n as usize;
-    let times = counts[i];
-    counts[i] = one_more(times);
+    let n = n as usize;
+    counts[n] = one_more(counts[n]);
 }
 
 fn count_inserted(counts: &mut [u64; 256], a: Inserted)
@@ -79,7 +80,7 @@ fn count_looked_up(counts: &mut [u64; 256], a: Looked)
     }
 }
 
-// The set-up: k numbers of the byte table, n stores. Where it is accepted the sums begin at 0.
+// The set-up. Where it is accepted the sums begin at 0.
 pub fn begin(
     parent: &mut [usize; 256],
     depth: &mut [usize; 256],
@@ -100,44 +101,18 @@ pub fn begin(
     marks: &mut [usize; 2048],
     bytes: &mut [u64; 1025],
     books: &mut [u64; NUMBERS],
-    list: &[u64; 1026],
-    capacity: &[u64; 9],
-    refreshes: &[bool; 9],
-    k: usize,
-    n: usize,
+    table: &[u64],
+    capacity: &[u64],
+    refreshes: &[bool],
 ) -> Plain
-    requires { (k ≤ 1026) × (n ≤ 9) }
     ensures { Begun result
         (state_from parent.new depth.new len.new run.new words.now node.now start.now
         end.now id.now stamp.now touched.now write.now pin_node.now
         pin_start.now pin_end.now pin_count.now marks.new bytes.new books.new) }
 {
-    let table: &[u64] = list;
-    let capacities: &[u64] = capacity;
-    let policies: &[bool] = refreshes;
     known::set_up(
-        parent,
-        depth,
-        len,
-        run,
-        words,
-        node,
-        start,
-        end,
-        id,
-        stamp,
-        touched,
-        write,
-        pin_node,
-        pin_start,
-        pin_end,
-        pin_count,
-        marks,
-        bytes,
-        books,
-        &table[..k],
-        &capacities[..n],
-        &policies[..n],
+        parent, depth, len, run, words, node, start, end, id, stamp, touched, write, pin_node,
+        pin_start, pin_end, pin_count, marks, bytes, books, table, capacity, refreshes,
     )
 }
 
@@ -178,12 +153,7 @@ fn give_out(
 {
     match op {
         Op::Bring(s, sp, time, w) => {
-            let mut out_node = [0usize; 128];
-            let mut out_start = [0usize; 128];
-            let mut out_end = [0usize; 128];
-            let mut out_write = [0u32; 128];
-            let mut out_bytes = [0u64; 128];
-            let mut out_dead = [0u64; 128];
+            let mut outs = Outs::new();
             let r = call_tally_bring::tally_insert(
                 parent,
                 depth,
@@ -204,12 +174,12 @@ fn give_out(
                 marks,
                 bytes,
                 books,
-                &mut out_node,
-                &mut out_start,
-                &mut out_end,
-                &mut out_write,
-                &mut out_bytes,
-                &mut out_dead,
+                &mut outs.node,
+                &mut outs.start,
+                &mut outs.end,
+                &mut outs.write,
+                &mut outs.bytes,
+                &mut outs.dead,
                 sums,
                 s,
                 sp,
@@ -219,12 +189,7 @@ fn give_out(
             count_brought(counts, r)
         }
         Op::Expire(s, time, seconds) => {
-            let mut out_node = [0usize; 128];
-            let mut out_start = [0usize; 128];
-            let mut out_end = [0usize; 128];
-            let mut out_write = [0u32; 128];
-            let mut out_bytes = [0u64; 128];
-            let mut out_dead = [0u64; 128];
+            let mut outs = Outs::new();
             let r = call_tally_expire::tally_expire(
                 parent,
                 depth,
@@ -245,12 +210,12 @@ fn give_out(
                 marks,
                 bytes,
                 books,
-                &mut out_node,
-                &mut out_start,
-                &mut out_end,
-                &mut out_write,
-                &mut out_bytes,
-                &mut out_dead,
+                &mut outs.node,
+                &mut outs.start,
+                &mut outs.end,
+                &mut outs.write,
+                &mut outs.bytes,
+                &mut outs.dead,
                 sums,
                 s,
                 time,
@@ -303,8 +268,7 @@ fn touch_or_remove(
     match op {
         Op::Touch(s, time, counted, n) => {
             if 64 < n {
-                let stores = books[2] as usize;
-                return count(counts, prog_store::too_many(stores, s));
+                return count(counts, prog_store::too_many(books[2] as usize, s));
             }
             let sps = prog_store::spans_of(spans);
             let r = known::store_used_array(
@@ -391,9 +355,7 @@ pub fn call(
 {
     match op {
         Op::Insert(n) => {
-            let hashes: &[u64] = list;
-            let mut path_node = [0usize; 255];
-            let mut path_len = [0usize; 255];
+            let mut path = Segments::new();
             let r = known::insert(
                 parent,
                 depth,
@@ -414,21 +376,15 @@ pub fn call(
                 marks,
                 bytes,
                 books,
-                &mut path_node,
-                &mut path_len,
-                &hashes[..n],
+                &mut path.node,
+                &mut path.len,
+                &list[..n],
             );
             count_inserted(counts, r)
         }
         Op::Lookup(k, n) => {
-            let hashes: &[u64] = list;
-            let order: &[usize] = tiers;
-            let mut path_node = [0usize; 255];
-            let mut path_len = [0usize; 255];
-            let mut span_tier = [0usize; 1024];
-            let mut span_node = [0usize; 1024];
-            let mut span_start = [0usize; 1024];
-            let mut span_end = [0usize; 1024];
+            let mut path = Segments::new();
+            let mut spans = TierSpans::new();
             let r = call_tally_lookup::tally_lookup(
                 &*parent,
                 &*depth,
@@ -449,15 +405,15 @@ pub fn call(
                 &*marks,
                 bytes,
                 &*books,
-                &mut path_node,
-                &mut path_len,
-                &mut span_tier,
-                &mut span_node,
-                &mut span_start,
-                &mut span_end,
+                &mut path.node,
+                &mut path.len,
+                &mut spans.tier,
+                &mut spans.node,
+                &mut spans.start,
+                &mut spans.end,
                 sums,
-                &order[..k],
-                &hashes[..n],
+                &tiers[..k],
+                &list[..n],
             );
             count_looked_up(counts, r)
         }

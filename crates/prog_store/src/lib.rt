@@ -1,11 +1,13 @@
 #![tactic(auto)]
-// The calls of a store: each is made on the pools, and its answer written into a buffer that the caller lends. A sound state stays sound.
-ghost use Rattle.std.specs.Prelude.{◌≤◌};
+// The calls of a store: each is made on the pools, and its answer written on a page. A sound state stays sound.
+ghost use Rattle.std.specs.Prelude.{◌≤◌, length};
 ghost use Rattle.model.specs.Sound.{Sound};
 ghost use Rattle.shape_answer.specs.Answers.{state_from};
 
 use known::NUMBERS;
 use model::Span;
+use text_answer::Outs;
+use text_page::{Page, ROOM};
 
 // `bring`
 pub fn bring(
@@ -28,30 +30,23 @@ pub fn bring(
     marks: &mut [usize; 2048],
     bytes: &[u64; 1025],
     books: &mut [u64; NUMBERS],
-    out: &mut [u8; 1048576],
-    at: usize,
+    page: &mut Page<ROOM>,
     s: usize,
     sp: Span,
     time: f64,
     w: u32,
-) -> usize
+)
     requires { Sound
         (state_from parent.now depth.now len.now run.now words.now node.old start.old end.old id.old stamp.old touched.old write.old
         pin_node.now pin_start.now pin_end.now pin_count.now marks.old bytes.now books.old)
-        × (at ≤ 500000) }
+        × (length page.old ≤ 500000) }
     ensures { Sound
         (state_from parent.now depth.now len.now run.now words.now node.new
         start.new end.new id.new stamp.new touched.new write.new pin_node.now
         pin_start.now pin_end.now pin_count.now marks.new bytes.now
-        books.new)
-        × (result ≤ 1048576) }
+        books.new) }
 {
-    let mut out_node = [0usize; 128];
-    let mut out_start = [0usize; 128];
-    let mut out_end = [0usize; 128];
-    let mut out_write = [0u32; 128];
-    let mut out_bytes = [0u64; 128];
-    let mut out_dead = [0u64; 128];
+    let mut outs = Outs::new();
     let r = known::store_insert(
         parent,
         depth,
@@ -72,47 +67,32 @@ pub fn bring(
         marks,
         bytes,
         books,
-        &mut out_node,
-        &mut out_start,
-        &mut out_end,
-        &mut out_write,
-        &mut out_bytes,
-        &mut out_dead,
+        &mut outs.node,
+        &mut outs.start,
+        &mut outs.end,
+        &mut outs.write,
+        &mut outs.bytes,
+        &mut outs.dead,
         s,
         sp,
         time,
         w,
     );
-    text_answer::put_brought(
-        out, at, &out_node, &out_start, &out_end, &out_write, &out_bytes, &out_dead, r,
-    )
+    text_answer::put_brought(page, &outs, r);
 }
 
 // The refusal of a touch of more than 64 spans.
 pub fn too_many(stores: usize, s: usize) -> u8 {
-    if stores <= s {
-        return 2;
-    }
-    3
+    if stores <= s { 2 } else { 3 }
 }
 
 // The spans of a list, three places each.
 pub fn spans_of(spans: &[usize; 192]) -> [Span; 64] {
-    let mut sps = [Span {
-        node: 0,
-        start: 0,
-        end: 0,
-    }; 64];
-    let mut i = 0;
-    while i < 64 {
-        sps[i] = Span {
-            node: spans[3 * i],
-            start: spans[3 * i + 1],
-            end: spans[3 * i + 2],
-        };
-        i += 1;
-    }
-    sps
+    std::array::from_fn(|i| Span {
+        node: spans[3 * i],
+        start: spans[3 * i + 1],
+        end: spans[3 * i + 2],
+    })
 }
 
 // `touch`
@@ -136,36 +116,33 @@ pub fn touch(
     marks: &mut [usize; 2048],
     bytes: &[u64; 1025],
     books: &mut [u64; NUMBERS],
-    out: &mut [u8; 1048576],
-    at: usize,
+    page: &mut Page<ROOM>,
     spans: &[usize; 192],
     s: usize,
     time: f64,
     counted: bool,
     n: usize,
-) -> usize
+)
     requires { Sound
         (state_from parent.now depth.now len.now run.now words.now node.old start.old end.old id.old stamp.old touched.old write.old
         pin_node.now pin_start.now pin_end.now pin_count.now marks.old bytes.now books.old)
-        × (at ≤ 500000)
+        × (length page.old ≤ 500000)
         × (n ≤ 65) }
     ensures { Sound
         (state_from parent.now depth.now len.now run.now words.now node.new
         start.new end.new id.new stamp.new touched.new write.new pin_node.now
         pin_start.now pin_end.now pin_count.now marks.new bytes.now
-        books.new)
-        × (result ≤ 1048576) }
+        books.new) }
 {
     if 64 < n {
-        let stores = books[2] as usize;
-        return text_answer::put_refused(out, at, too_many(stores, s));
+        return text_answer::put_refused(page, too_many(books[2] as usize, s));
     }
     let sps = spans_of(spans);
     let r = known::store_used_array(
         parent, depth, len, run, words, node, start, end, id, stamp, touched, write, pin_node,
         pin_start, pin_end, pin_count, marks, bytes, books, s, sps, n, time, counted,
     );
-    text_answer::put_bytes_read(out, at, r)
+    text_answer::put_bytes_read(page, r);
 }
 
 // `remove`
@@ -189,21 +166,19 @@ pub fn remove(
     marks: &mut [usize; 2048],
     bytes: &[u64; 1025],
     books: &mut [u64; NUMBERS],
-    out: &mut [u8; 1048576],
-    at: usize,
+    page: &mut Page<ROOM>,
     s: usize,
     sp: Span,
-) -> usize
+)
     requires { Sound
         (state_from parent.now depth.now len.now run.now words.now node.old start.old end.old id.old stamp.old touched.old write.old
         pin_node.now pin_start.now pin_end.now pin_count.now marks.old bytes.now books.old)
-        × (at ≤ 500000) }
+        × (length page.old ≤ 500000) }
     ensures { Sound
         (state_from parent.now depth.now len.now run.now words.now node.new
         start.new end.new id.new stamp.new touched.new write.new pin_node.now
         pin_start.now pin_end.now pin_count.now marks.new bytes.now
-        books.new)
-        × (result ≤ 1048576) }
+        books.new) }
 {
     let mut writes = [0u32; 128];
     let r = known::store_remove(
@@ -230,7 +205,7 @@ pub fn remove(
         s,
         sp,
     );
-    text_answer::put_removed(out, at, &writes, r)
+    text_answer::put_removed(page, &writes, r);
 }
 
 // `expire`
@@ -254,29 +229,22 @@ pub fn expire(
     marks: &mut [usize; 2048],
     bytes: &[u64; 1025],
     books: &mut [u64; NUMBERS],
-    out: &mut [u8; 1048576],
-    at: usize,
+    page: &mut Page<ROOM>,
     s: usize,
     time: f64,
     seconds: f64,
-) -> usize
+)
     requires { Sound
         (state_from parent.now depth.now len.now run.now words.now node.old start.old end.old id.old stamp.old touched.old write.old
         pin_node.now pin_start.now pin_end.now pin_count.now marks.old bytes.now books.old)
-        × (at ≤ 500000) }
+        × (length page.old ≤ 500000) }
     ensures { Sound
         (state_from parent.now depth.now len.now run.now words.now node.new
         start.new end.new id.new stamp.new touched.new write.new pin_node.now
         pin_start.now pin_end.now pin_count.now marks.new bytes.now
-        books.new)
-        × (result ≤ 1048576) }
+        books.new) }
 {
-    let mut out_node = [0usize; 128];
-    let mut out_start = [0usize; 128];
-    let mut out_end = [0usize; 128];
-    let mut out_write = [0u32; 128];
-    let mut out_bytes = [0u64; 128];
-    let mut out_dead = [0u64; 128];
+    let mut outs = Outs::new();
     let r = known::store_expire(
         parent,
         depth,
@@ -297,19 +265,17 @@ pub fn expire(
         marks,
         bytes,
         books,
-        &mut out_node,
-        &mut out_start,
-        &mut out_end,
-        &mut out_write,
-        &mut out_bytes,
-        &mut out_dead,
+        &mut outs.node,
+        &mut outs.start,
+        &mut outs.end,
+        &mut outs.write,
+        &mut outs.bytes,
+        &mut outs.dead,
         s,
         time,
         seconds,
     );
-    text_answer::put_expired(
-        out, at, &out_node, &out_start, &out_end, &out_write, &out_bytes, &out_dead, r,
-    )
+    text_answer::put_expired(page, &outs, r);
 }
 
 // `pin`
@@ -333,27 +299,25 @@ pub fn pin(
     marks: &[usize; 2048],
     bytes: &[u64; 1025],
     books: &mut [u64; NUMBERS],
-    out: &mut [u8; 1048576],
-    at: usize,
+    page: &mut Page<ROOM>,
     s: usize,
     sp: Span,
-) -> usize
+)
     requires { Sound
         (state_from parent.now depth.now len.now run.now words.now node.now start.now end.now id.now stamp.now touched.now write.now
         pin_node.old pin_start.old pin_end.old pin_count.old marks.now bytes.now books.old)
-        × (at ≤ 500000) }
+        × (length page.old ≤ 500000) }
     ensures { Sound
         (state_from parent.now depth.now len.now run.now words.now node.now
         start.now end.now id.now stamp.now touched.now write.now
         pin_node.new pin_start.new pin_end.new pin_count.new marks.now
-        bytes.now books.new)
-        × (result ≤ 1048576) }
+        bytes.now books.new) }
 {
     let r = known::pin_source(
         parent, depth, len, run, words, node, start, end, id, stamp, touched, write, pin_node,
         pin_start, pin_end, pin_count, marks, bytes, books, s, sp,
     );
-    text_answer::put_plain(out, at, r)
+    text_answer::put_plain(page, r);
 }
 
 // `unpin`
@@ -377,25 +341,23 @@ pub fn unpin(
     marks: &[usize; 2048],
     bytes: &[u64; 1025],
     books: &mut [u64; NUMBERS],
-    out: &mut [u8; 1048576],
-    at: usize,
+    page: &mut Page<ROOM>,
     s: usize,
     sp: Span,
-) -> usize
+)
     requires { Sound
         (state_from parent.now depth.now len.now run.now words.now node.now start.now end.now id.now stamp.now touched.now write.now
         pin_node.old pin_start.old pin_end.old pin_count.old marks.now bytes.now books.old)
-        × (at ≤ 500000) }
+        × (length page.old ≤ 500000) }
     ensures { Sound
         (state_from parent.now depth.now len.now run.now words.now node.now
         start.now end.now id.now stamp.now touched.now write.now
         pin_node.new pin_start.new pin_end.new pin_count.new marks.now
-        bytes.now books.new)
-        × (result ≤ 1048576) }
+        bytes.now books.new) }
 {
     let r = known::unpin_source(
         parent, depth, len, run, words, node, start, end, id, stamp, touched, write, pin_node,
         pin_start, pin_end, pin_count, marks, bytes, books, s, sp,
     );
-    text_answer::put_plain(out, at, r)
+    text_answer::put_plain(page, r);
 }

@@ -1,5 +1,5 @@
 #![tactic(auto)]
-// Set-up, the calls of the tree, lookup and the state's line: each is made on the pools, and its answer written into a buffer that the caller lends.
+// Set-up, the calls of the tree, lookup and the state's line: each is made on the pools, and its answer written on a page.
 //
 // The state is 19 arrays. Once a set-up was accepted it is sound, and stays so.
 ghost use Rattle.std.specs.Prelude.{◌≤◌, length};
@@ -8,6 +8,8 @@ ghost use Rattle.shape_answer.specs.Answers.{state_from};
 ghost use Rattle.prog_tree.specs.Between.{SoundIfSetUp};
 
 use known::NUMBERS;
+use text_answer::{Segments, TierSpans};
+use text_page::{Page, ROOM};
 
 // `setup`; a refused one leaves the state as it was.
 pub fn set_up(
@@ -30,53 +32,26 @@ pub fn set_up(
     marks: &mut [usize; 2048],
     bytes: &mut [u64; 1025],
     books: &mut [u64; NUMBERS],
-    out: &mut [u8; 1048576],
-    at: usize,
-    list: &[u64],
+    page: &mut Page<ROOM>,
+    table: &[u64],
     capacity: &[u64],
     refreshes: &[bool],
-    k: usize,
-    n: usize,
-) -> usize
+)
     requires { SoundIfSetUp
         (state_from parent.old depth.old len.old run.old words.now node.now start.now end.now id.now stamp.now touched.now write.now
         pin_node.now pin_start.now pin_end.now pin_count.now marks.old bytes.old books.old)
-        × (at ≤ 500000)
-        × (k ≤ length list.now)
-        × (n ≤ length capacity.now)
-        × (n ≤ length refreshes.now) }
+        × (length page.old ≤ 500000) }
     ensures { SoundIfSetUp
         (state_from parent.new depth.new len.new run.new words.now node.now
         start.now end.now id.now stamp.now touched.now write.now
         pin_node.now pin_start.now pin_end.now pin_count.now marks.new
-        bytes.new books.new)
-        × (result ≤ 1048576) }
+        bytes.new books.new) }
 {
     let r = known::set_up(
-        parent,
-        depth,
-        len,
-        run,
-        words,
-        node,
-        start,
-        end,
-        id,
-        stamp,
-        touched,
-        write,
-        pin_node,
-        pin_start,
-        pin_end,
-        pin_count,
-        marks,
-        bytes,
-        books,
-        &list[..k],
-        &capacity[..n],
-        &refreshes[..n],
+        parent, depth, len, run, words, node, start, end, id, stamp, touched, write, pin_node,
+        pin_start, pin_end, pin_count, marks, bytes, books, table, capacity, refreshes,
     );
-    text_answer::put_plain(out, at, r)
+    text_answer::put_plain(page, r);
 }
 
 // `insert`
@@ -100,24 +75,19 @@ pub fn insert(
     marks: &mut [usize; 2048],
     bytes: &[u64; 1025],
     books: &mut [u64; NUMBERS],
-    out: &mut [u8; 1048576],
-    at: usize,
-    list: &[u64],
-    n: usize,
-) -> usize
+    page: &mut Page<ROOM>,
+    hashes: &[u64],
+)
     requires { Sound
         (state_from parent.old depth.old len.old run.old words.old node.old start.old end.old id.old stamp.old touched.old write.old
         pin_node.old pin_start.old pin_end.old pin_count.old marks.old bytes.now books.old)
-        × (at ≤ 500000)
-        × (n ≤ length list.now) }
+        × (length page.old ≤ 500000) }
     ensures { Sound
         (state_from parent.new depth.new len.new run.new words.new node.new start.new
         end.new id.new stamp.new touched.new write.new pin_node.new
-        pin_start.new pin_end.new pin_count.new marks.new bytes.now books.new)
-        × (result ≤ 1048576) }
+        pin_start.new pin_end.new pin_count.new marks.new bytes.now books.new) }
 {
-    let mut path_node = [0usize; 255];
-    let mut path_len = [0usize; 255];
+    let mut path = Segments::new();
     let r = known::insert(
         parent,
         depth,
@@ -138,11 +108,11 @@ pub fn insert(
         marks,
         bytes,
         books,
-        &mut path_node,
-        &mut path_len,
-        &list[..n],
+        &mut path.node,
+        &mut path.len,
+        hashes,
     );
-    text_answer::put_inserted(out, at, &path_node, &path_len, r)
+    text_answer::put_inserted(page, &path, r);
 }
 
 // `resolve`
@@ -166,20 +136,15 @@ pub fn resolve(
     marks: &[usize; 2048],
     bytes: &[u64; 1025],
     books: &[u64; NUMBERS],
-    out: &mut [u8; 1048576],
-    at: usize,
-    list: &[u64],
-    n: usize,
-) -> usize
+    page: &mut Page<ROOM>,
+    hashes: &[u64],
+)
     requires { Sound
         (state_from parent.now depth.now len.now run.now words.now node.now start.now end.now id.now stamp.now touched.now write.now
         pin_node.now pin_start.now pin_end.now pin_count.now marks.now bytes.now books.now)
-        × (at ≤ 500000)
-        × (n ≤ length list.now) }
-    ensures { result ≤ 1048576 }
+        × (length page.old ≤ 500000) }
 {
-    let mut path_node = [0usize; 255];
-    let mut path_len = [0usize; 255];
+    let mut path = Segments::new();
     let r = known::resolve(
         parent,
         depth,
@@ -200,11 +165,11 @@ pub fn resolve(
         marks,
         bytes,
         books,
-        &mut path_node,
-        &mut path_len,
-        &list[..n],
+        &mut path.node,
+        &mut path.len,
+        hashes,
     );
-    text_answer::put_resolved(out, at, &path_node, &path_len, r)
+    text_answer::put_resolved(page, &path, r);
 }
 
 // `lookup`
@@ -228,27 +193,17 @@ pub fn lookup(
     marks: &[usize; 2048],
     bytes: &[u64; 1025],
     books: &[u64; NUMBERS],
-    out: &mut [u8; 1048576],
-    at: usize,
-    list: &[u64],
+    page: &mut Page<ROOM>,
+    hashes: &[u64],
     tiers: &[usize],
-    k: usize,
-    n: usize,
-) -> usize
+)
     requires { Sound
         (state_from parent.now depth.now len.now run.now words.now node.now start.now end.now id.now stamp.now touched.now write.now
         pin_node.now pin_start.now pin_end.now pin_count.now marks.now bytes.now books.now)
-        × (at ≤ 500000)
-        × (k ≤ length tiers.now)
-        × (n ≤ length list.now) }
-    ensures { result ≤ 1048576 }
+        × (length page.old ≤ 500000) }
 {
-    let mut path_node = [0usize; 255];
-    let mut path_len = [0usize; 255];
-    let mut span_tier = [0usize; 1024];
-    let mut span_node = [0usize; 1024];
-    let mut span_start = [0usize; 1024];
-    let mut span_end = [0usize; 1024];
+    let mut path = Segments::new();
+    let mut spans = TierSpans::new();
     let r = known::lookup(
         parent,
         depth,
@@ -269,27 +224,16 @@ pub fn lookup(
         marks,
         bytes,
         books,
-        &mut path_node,
-        &mut path_len,
-        &mut span_tier,
-        &mut span_node,
-        &mut span_start,
-        &mut span_end,
-        &tiers[..k],
-        &list[..n],
+        &mut path.node,
+        &mut path.len,
+        &mut spans.tier,
+        &mut spans.node,
+        &mut spans.start,
+        &mut spans.end,
+        tiers,
+        hashes,
     );
-    text_answer::put_looked_up(
-        out,
-        at,
-        &path_node,
-        &path_len,
-        &span_tier,
-        &span_node,
-        &span_start,
-        &span_end,
-        r,
-        k,
-    )
+    text_answer::put_looked_up(page, &path, &spans, r, tiers.len());
 }
 
 // `state`
@@ -313,17 +257,15 @@ pub fn state(
     marks: &[usize; 2048],
     bytes: &[u64; 1025],
     books: &[u64; NUMBERS],
-    out: &mut [u8; 1048576],
-    at: usize,
-) -> usize
+    page: &mut Page<ROOM>,
+)
     requires { Sound
         (state_from parent.now depth.now len.now run.now words.now node.now start.now end.now id.now stamp.now touched.now write.now
         pin_node.now pin_start.now pin_end.now pin_count.now marks.now bytes.now books.now)
-        × (at ≤ 500000) }
-    ensures { result ≤ 1048576 }
+        × (length page.old ≤ 500000) }
 {
     text_state::put_state(
-        out, at, parent, depth, len, run, words, node, start, end, id, stamp, touched, write,
+        page, parent, depth, len, run, words, node, start, end, id, stamp, touched, write,
         pin_node, pin_start, pin_end, pin_count, marks, bytes, books,
-    )
+    );
 }

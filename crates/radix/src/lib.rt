@@ -4,7 +4,7 @@
 pub use call_set_up::set_up;
 pub use model::{
     BringAnswer, Cut, EachTier, ExpireAnswer, InsertAnswer, LookupAnswer, Path, RemoveAnswer,
-    ResolveAnswer, Span, Split, TouchAnswer,
+    ResolveAnswer, Span, TouchAnswer,
 };
 pub use pool_book::books_size;
 pub use public_insert::insert;

@@ -1,25 +1,25 @@
 #![tactic(auto)]
 // Reads the lines of the replay form on standard input and writes an answer line for each. docs/REPLAY.md has the form.
-ghost use Rattle.std.specs.Prelude.{◌≤◌};
+ghost use Rattle.std.specs.Prelude.{◌≤◌, length};
 
 use known::NUMBERS;
 use std::io::Result;
-use text_input::Cursor;
-use text_lines::Op;
+use text_input::Lines;
+use text_lines::Lists;
+use text_page::{Page, ROOM};
 
 // What was written goes out where it is more than `most` bytes.
-fn flush(out: &[u8; 1048576], at: usize, most: usize) -> usize
-    requires { at ≤ 1048576 }
-    ensures { result ≤ most }
+fn flush(page: &mut Page<ROOM>, most: usize)
+    ensures { length page.new ≤ most }
 {
-    if at <= most {
-        return at;
+    let text = page.bytes();
+    if most < text.len() {
+        io::write_all(1, text);
+        page.clear();
     }
-    text_input::write_front(out, at);
-    0
 }
 
-// A proved loop has to end, and nothing says that the input does: the turns are counted down from a number that no run uses up. Where a read fails, the
+// A proved loop has to end, and nothing says that the input does: the turns are counted up to a number that no run reaches. Where a read fails, the
 // answers up to there go out first.
 fn main(rt: HostRuntime) -> Result<()> {
     let mut parent = [0usize; 256];
@@ -41,46 +41,23 @@ fn main(rt: HostRuntime) -> Result<()> {
     let mut marks = [0usize; 2048];
     let mut bytes = [0u64; 1025];
     let mut books = [0u64; NUMBERS];
-    let mut list = [0u64; 1026];
-    let mut spans = [0usize; 192];
-    let mut tiers = [0usize; 9];
-    let mut capacity = [0u64; 9];
-    let mut refreshes = [false; 9];
     let mut input = rt.stdin();
-    let mut buf = [0u8; 131072];
-    let mut out = [0u8; 1048576];
-    let mut at: usize = 0;
-    let mut c = Cursor {
-        from: 0,
-        to: 0,
-        ended: false,
-        seen: 0,
-    };
-    let mut turns = u64::MAX;
-    while turns > 0 {
-        let read = text_input::next_op(
-            &mut input,
-            &mut buf,
-            &mut list,
-            &mut spans,
-            &mut tiers,
-            &mut capacity,
-            &mut refreshes,
-            c,
-        );
-        let n = match read {
-            Ok(n) => n,
+    let mut lines = Lines::new();
+    let mut lists = Lists::new();
+    let mut page: Page<ROOM> = Page::new();
+    for _ in 0..u64::MAX {
+        let op = match lines.next_op(&mut input, &mut lists) {
+            Ok(Some(op)) => op,
+            Ok(None) => {
+                flush(&mut page, 0);
+                return Ok(());
+            }
             Err(e) => {
-                flush(&out, at, 0);
+                flush(&mut page, 0);
                 return Err(e);
             }
         };
-        if n.over {
-            flush(&out, at, 0);
-            return Ok(());
-        }
-        let op: Op = n.op;
-        let past = prog_calls::call(
+        prog_calls::call(
             &mut parent,
             &mut depth,
             &mut len,
@@ -100,18 +77,15 @@ fn main(rt: HostRuntime) -> Result<()> {
             &mut marks,
             &mut bytes,
             &mut books,
-            &mut out,
-            at,
-            &list,
-            &spans,
-            &tiers,
-            &capacity,
-            &refreshes,
+            &mut page,
+            &lists.numbers,
+            &lists.spans,
+            &lists.tiers,
+            &lists.capacity,
+            &lists.refreshes,
             op,
         );
-        at = flush(&out, past, 500000);
-        c = n.cursor;
-        turns -= 1;
+        flush(&mut page, 500000);
     }
     Ok(())
 }

@@ -6,26 +6,29 @@ ghost use Rattle.model.specs.State.{stores_in};
 
 use known::{NUMBERS, Plain};
 use std::io::Result;
-use text_input::Cursor;
-use text_lines::Op;
+use text_input::Lines;
+use text_lines::{Lists, Op};
+use text_page::Page;
 
 // The set-up is refused.
 fn print_refused(n: u8) {
-    let mut out = [0u8; 64];
-    let at = text_answer::put_refused(&mut out, 0, n);
-    text_input::write_front(&out, at);
+    let mut page: Page<64> = Page::new();
+    text_answer::put_refused(&mut page, n);
+    let text = page.bytes();
+    io::write_all(1, text);
 }
 
 // The whole report.
 fn print_report(books: &[u64; NUMBERS], sums: &[u64; 59], counts: &[u64; 256])
     requires { stores_in books.now ≤ max_stores }
 {
-    let mut out = [0u8; 32768];
-    let at = text_report::put_report(&mut out, books, sums, counts);
-    text_input::write_front(&out, at);
+    let mut page: Page<32768> = Page::new();
+    text_report::put_report(&mut page, books, sums, counts);
+    let text = page.bytes();
+    io::write_all(1, text);
 }
 
-// A proved loop has to end, and nothing says that the input does: the turns are counted down from a number that no run uses up. Where a read fails,
+// A proved loop has to end, and nothing says that the input does: the turns are counted up to a number that no run reaches. Where a read fails,
 // nothing is printed: the sums would be those of a part of the operations.
 fn main(rt: HostRuntime) -> Result<()> {
     let mut parent = [0usize; 256];
@@ -49,24 +52,10 @@ fn main(rt: HostRuntime) -> Result<()> {
     let mut books = [0u64; NUMBERS];
     let mut sums = [0u64; 59];
     let mut counts = [0u64; 256];
-    let mut list = [0u64; 1026];
-    let mut spans = [0usize; 192];
-    let mut tiers = [0usize; 9];
-    let mut capacity = [0u64; 9];
-    let mut refreshes = [false; 9];
     let mut input = rt.stdin();
-    let mut buf = [0u8; 131072];
-    let first = text_input::first_op(
-        &mut input,
-        &mut buf,
-        &mut list,
-        &mut spans,
-        &mut tiers,
-        &mut capacity,
-        &mut refreshes,
-    )?;
-    let setup: Op = first.op;
-    let Op::SetUp(k, n) = setup else {
+    let mut lines = Lines::new();
+    let mut lists = Lists::new();
+    let Some(Op::SetUp(k, n)) = lines.first_op(&mut input, &mut lists)? else {
         io::write_all(1, b"unreadable\n");
         return Ok(());
     };
@@ -90,34 +79,19 @@ fn main(rt: HostRuntime) -> Result<()> {
         &mut marks,
         &mut bytes,
         &mut books,
-        &list,
-        &capacity,
-        &refreshes,
-        k,
-        n,
+        &lists.numbers[..k],
+        &lists.capacity[..n],
+        &lists.refreshes[..n],
     );
     if let Plain::Refused(number) = r {
         print_refused(number);
         return Ok(());
     }
-    let mut c: Cursor = first.cursor;
-    let mut turns = u64::MAX;
-    while turns > 0 {
-        let n = text_input::next_op(
-            &mut input,
-            &mut buf,
-            &mut list,
-            &mut spans,
-            &mut tiers,
-            &mut capacity,
-            &mut refreshes,
-            c,
-        )?;
-        if n.over {
+    for _ in 0..u64::MAX {
+        let Some(op) = lines.next_op(&mut input, &mut lists)? else {
             print_report(&books, &sums, &counts);
             return Ok(());
-        }
-        let op: Op = n.op;
+        };
         prog_report::call(
             &mut parent,
             &mut depth,
@@ -140,13 +114,11 @@ fn main(rt: HostRuntime) -> Result<()> {
             &mut books,
             &mut sums,
             &mut counts,
-            &list,
-            &spans,
-            &tiers,
+            &lists.numbers,
+            &lists.spans,
+            &lists.tiers,
             op,
         );
-        c = n.cursor;
-        turns -= 1;
     }
     Ok(())
 }

@@ -18,7 +18,7 @@ use Rattle.theory_lay.proofs.Rows.{ranges_length}
 use Rattle.rule_resolve.specs.Span.{only_depth}
 use Rattle.shape_state.specs.Lent.{pins_of}
 use Rattle.pool_part.specs.Parts.{mid, back, mid_ranges, back_ranges, mid_pins}
-use Rattle.pool_part.proofs.Parts.{mid-long, ranges-part, ranges-back, pins-part, marks-back}
+use Rattle.pool_part.proofs.Parts.{ranges-part, ranges-back, pins-part, marks-back}
 use Rattle.rule_fill.specs.declared.Gaps.{Gaps}
 use Rattle.rule_fill.specs.Gaps.{gaps_of}
 use Rattle.rule_fill.proofs.Missing.{gaps_length}
@@ -38,7 +38,7 @@ module _ {depth bytes : List ℕ} {n h : ℕ} {c : Ranges} {ms : List ℕ} {l : 
   long = fill_length nd time w (gaps_of g) top next (ranges c 0 n) ∙ ap (λ (x : ℕ). x + length (gaps_of g)) (ranges_length c 0 n)
 
   few : n + length (gaps_of g) ≤ 128
-  few = omega (arith, gaps_length g.from g.upto g.n, p.room.records)
+  few = omega (arith, gaps_length g.list g.n, p.room.records)
 
   held-filled : h ≡ total filled_with
   held-filled = p.held ∙ sym (fill-total nd (gaps_of g) top next time w (ranges c 0 n))
@@ -82,10 +82,12 @@ module _ {depth bytes : List ℕ} {n h : ℕ} {c : Ranges} {ms : List ℕ} {l : 
               stalled = u.stalled;
             }
 
--- ---- the parts of store s
+-- the lent columns are the lender's again
+pub came_back : {w : Trimmed} {n v₀ k h o v : ℕ} {c₀ c cʹ : Ranges} {ms : List ℕ} {l₀ l : OutList} {b : Bool} → c ≡ cʹ → GivenOut w n v₀ c₀ l₀ c ms l k h o v b
+    → GivenOut w n v₀ c₀ l₀ cʹ ms l k h o v b
+came_back e g = rw (← e) g
 
-pin-room : (s m : ℕ) (l : List ℕ) → s < 8 → m ≤ 32 → 256 ≤ length l → m ≤ length (mid (32 * s) 32 l)
-pin-room s m l h e k = omega (arith, mid-long (32 * s) 32 l (omega arith))
+-- ---- the parts of store s
 
 -- what goes out of the part, given back
 pub given-at : {s n v₀ j k o v : ℕ} {c q : Ranges} {ms ms₂ : List ℕ} {l l₂ : OutList} {t : Bool} (x : Trimmed) → s < 8 → n ≤ 128 → 2048 ≤ length ms
@@ -107,11 +109,6 @@ module _ {depth bytes : List ℕ} {s n m h : ℕ} {c : Ranges} {ms : List ℕ} {
     (p : PoolReady depth bytes s n m h c ms l pn ps pe nd g top next time w) where
   pub pool_part : (a b : ℕ) → a ≡ 128 → b ≡ 256 → PartReady depth bytes n h (mid_ranges (128 * s) a c) (mid (256 * s) b ms) l nd g top next time w
   pool_part a b ea eb = rw (ea, eb) p.part
-
-  pub pool_pins : (d : ℕ) → d ≡ 32 → (m ≤ length (mid (32 * s) d pn)) × (m ≤ length (mid (32 * s) d ps)) × (m ≤ length (mid (32 * s) d pe))
-  pool_pins d e =
-      rw e
-      (pin-room s m pn p.store p.entries p.pin_node, pin-room s m ps p.store p.entries p.pin_start, pin-room s m pe p.store p.entries p.pin_end)
 
   module _ {q : Ranges} {ms₂ : List ℕ} {l₂ : OutList} {v₀ j k o v : ℕ} {t : Bool} where
     pub pool_given : (count : List ℕ) (capacity a b d : ℕ) → a ≡ 128 → b ≡ 256 → d ≡ 32 → length ms₂ ≡ length (mid (256 * s) b ms)

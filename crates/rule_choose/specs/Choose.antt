@@ -1,39 +1,39 @@
--- What the choice of a range says over the columns that it reads. Assumes nothing.
-use Rattle.std.specs.Prelude.{ℕ, ltb, eqb, ◌≡◌, Bool, true, not, ◌&&◌, ◌||◌, List, Float}
-use Rattle.std.proofs.Math.Option.{Option, none, some}
-use Rattle.model.specs.Words.{pick}
-use Rattle.model.specs.State.{Range, at}
+-- What the choice of a range says. Assumes nothing.
+use Rattle.std.specs.Prelude.{ℕ, ◌≡◌, ◌≤◌, Bool, true, not, List, length, Option, None, Some, eqb, ltb, ◌&&◌}
+use Rattle.model.specs.declared.Span.{Span}
+use Rattle.model.specs.State.{Ranges, Range, Pins, range_at}
 use Rattle.model.specs.Store.{ranges, pins}
-use Rattle.model.specs.Trim.{is_pinned, first}
-use Rattle.shape_state.specs.Lent.{ranges_of, pins_of}
+use Rattle.model.specs.Trim.{is_pinned, sooner, first}
+use Rattle.shape_state.specs.Lent.{pins_of}
+use Rattle.shape_state.specs.declared.PinsRef.{PinsRef}
 
--- `overlaps` and `sooner`, by the numbers that they look at
-abbrev pub overlapping : ℕ → ℕ → ℕ → ℕ → ℕ → ℕ → Bool
-overlapping node start end pin_node pin_start pin_end = eqb node pin_node && (ltb start pin_end && ltb pin_start end)
+-- `overlaps`, by the numbers that it looks at
+abbrev pub overlapping : Span → Span → Bool
+overlapping r p = eqb r.node p.node && (ltb r.start p.end && ltb p.start r.end)
 
-abbrev pub earlier : ℕ → ℕ → ℕ → ℕ → Bool
-earlier stamp id stampʹ idʹ = ltb stamp stampʹ || (eqb stamp stampʹ && ltb id idʹ)
+-- the record found behind record i, if there is one, is not sooner
+abbrev pub leads : Ranges → ℕ → Option ℕ → Bool
+leads c i None = true
+leads c i (Some b) = not (sooner (range_at c b) (range_at c i))
 
--- the place of the sooner of record i and of the record at `best`; at n or past it there is none
-abbrev pub better_of : List ℕ → List ℕ → ℕ → ℕ → ℕ → ℕ
-better_of id stamp n i best = pick (ltb best n) (pick (earlier (at stamp best) (at id best) (at stamp i) (at id i)) best i) i
+-- the columns hold m pins
+pub record HoldsPins (m : ℕ) (p : PinsRef) : Type 0 where
+  pub node : m ≤ length p.node.now
+  pub start : m ≤ length p.start.now
+  pub end : m ≤ length p.end.now
 
--- the place of the best of n records; at n or past it there is none
-abbrev pub within : ℕ → ℕ → Option ℕ
-within n best = pick (ltb best n) (some best) none
+-- the pins with counts of any kind: the choice doesn't look at them
+abbrev pub counted : PinsRef → List ℕ → Pins
+counted p count = pins_of p.node.now p.start.now p.end.now count
 
--- b says whether a pin overlaps a range of this node, start and end; the pins' counts don't matter
-abbrev pub PinnedIs : ℕ → ℕ → ℕ → List ℕ → List ℕ → List ℕ → ℕ → Bool → Type 0
-PinnedIs node start end pin_node pin_start pin_end m b =
-    (count : List ℕ) (q : Range) → q.node ≡ node → q.start ≡ start → q.end ≡ end → b ≡ is_pinned (pins (pins_of pin_node pin_start pin_end count) 0 m) q
+-- b says whether one of m pins overlaps a range of this node, start and end
+abbrev pub PinnedIs : Span → PinsRef → ℕ → Bool → Type 0
+PinnedIs r p m b = (count : List ℕ) (q : Range) → q.node ≡ r.node → q.start ≡ r.start → q.end ≡ r.end → b ≡ is_pinned (pins (counted p count) 0 m) q
 
--- c is the place of the first range that no pin overlaps; times and writes don't matter
-abbrev pub FreeIs : List ℕ → List ℕ → List ℕ → List ℕ → List ℕ → ℕ → List ℕ → List ℕ → List ℕ → ℕ → Option ℕ → Type 0
-FreeIs node start end id stamp n pin_node pin_start pin_end m c =
-    (count write : List ℕ) (touched : List Float)
-    → c ≡ first (λ q. not (is_pinned (pins (pins_of pin_node pin_start pin_end count) 0 m) q)) (ranges (ranges_of node start end id stamp touched write) 0 n)
+-- r is the place of the first of n ranges that no pin overlaps
+abbrev pub FreeIs : Ranges → ℕ → PinsRef → ℕ → Option ℕ → Type 0
+FreeIs c n p m r = (count : List ℕ) → r ≡ first (λ q. not (is_pinned (pins (counted p count) 0 m) q)) (ranges c 0 n)
 
--- c is the place of the first range, pinned or not; only ids and stamps matter
-abbrev pub OldestIs : List ℕ → List ℕ → ℕ → Option ℕ → Type 0
-OldestIs id stamp n c =
-    (node start end write : List ℕ) (touched : List Float) → c ≡ first (λ q. true) (ranges (ranges_of node start end id stamp touched write) 0 n)
+-- r is the place of the first of n ranges, pinned or not
+abbrev pub OldestIs : Ranges → ℕ → Option ℕ → Type 0
+OldestIs c n r = r ≡ first (λ q. true) (ranges c 0 n)

@@ -1,132 +1,91 @@
 #![tactic(auto)]
+// Which range goes next: the first by stamp, then id, of all or of those that no pin overlaps.
+ghost use Rattle.std.specs.Prelude.{◌≡◌, ◌≤◌, ◌<◌, length, IfSome};
+ghost use Rattle.model.specs.State.{range_at};
+ghost use Rattle.model.specs.Trim.{sooner};
+ghost use Rattle.pool_range.specs.Lent.{seen};
+ghost use Rattle.rule_choose.specs.Choose.{overlapping, leads, HoldsPins, PinnedIs, FreeIs, OldestIs};
 
-ghost use Rattle.std.specs.Prelude.{◌≡◌, ◌≤◌, ◌<◌, length};
-ghost use Rattle.pool_number.specs.Found.{found_of};
-ghost use Rattle.rule_choose.specs.Choose.{within, overlapping, earlier, better_of, PinnedIs, FreeIs, OldestIs};
-
-use pool_number::Found;
+use model::Span;
+use pool_range::RangesRef;
+use shape_state::PinsRef;
 
 // Do a range and a pin have a block in common?
-fn overlaps(
-    node: usize,
-    start: usize,
-    end: usize,
-    pin_node: usize,
-    pin_start: usize,
-    pin_end: usize,
-) -> bool
-    ensures { result ≡ overlapping node start end pin_node pin_start pin_end }
+fn overlaps(range: Span, pin: Span) -> bool
+    ensures { result ≡ overlapping range pin }
 {
-    if node != pin_node {
-        return false;
-    }
-    if start < pin_end {
-        return pin_start < end;
-    }
-    false
+    range.node == pin.node && range.start < pin.end && pin.start < range.end
 }
 
-// Does a pin overlap a range?
-pub fn is_pinned(
-    node: usize,
-    start: usize,
-    end: usize,
-    pin_node: &[usize],
-    pin_start: &[usize],
-    pin_end: &[usize],
-    m: usize,
-) -> bool
-    requires { (m ≤ length pin_node.now) × (m ≤ length pin_start.now) × (m ≤ length pin_end.now) }
-    ensures { PinnedIs node start end pin_node.now pin_start.now pin_end.now m result }
+// Does one of the first m pins overlap a range?
+pub fn is_pinned(range: Span, pins: PinsRef, m: usize) -> bool
+    requires { HoldsPins m pins }
+    ensures { PinnedIs range pins.entry m result }
 {
-    let mut k: usize = 0;
-    while k < m {
-        if overlaps(node, start, end, pin_node[k], pin_start[k], pin_end[k]) {
+    for k in 0..m {
+        let pin = Span {
+            node: pins.node[k],
+            start: pins.start[k],
+            end: pins.end[k],
+        };
+        if overlaps(range, pin) {
             return true;
         }
-        k += 1;
     }
     false
 }
 
-// By stamp, then id.
-fn sooner(stamp: u64, id: u64, other_stamp: u64, other_id: u64) -> bool
-    ensures { result ≡ earlier stamp id other_stamp other_id }
+// Is record i sooner than record j? By stamp, then id.
+fn sooner(ranges: RangesRef, i: usize, j: usize) -> bool
+    requires { (i < length ranges.id.now) × (i < length ranges.stamp.now) × (j < length ranges.id.now) × (j < length ranges.stamp.now) }
+    ensures { result ≡ sooner (range_at (seen ranges.entry) i) (range_at (seen ranges.entry) j) }
 {
-    if stamp < other_stamp {
-        return true;
-    }
-    if stamp == other_stamp {
-        return id < other_id;
-    }
-    false
+    ranges.stamp[i] < ranges.stamp[j]
+        || (ranges.stamp[i] == ranges.stamp[j] && ranges.id[i] < ranges.id[j])
 }
 
-// The sooner of record i and of the best record behind it, which is n where there is none.
-fn better(id: &[u64], stamp: &[u64], n: usize, i: usize, best: usize) -> usize
-    requires { (i < n) × (n ≤ length id.now) × (n ≤ length stamp.now) }
-    ensures { result ≡ better_of id.now stamp.now n i best }
+// Is no record that was the best so far sooner than record i?
+fn leads(ranges: RangesRef, n: usize, i: usize, best: Option<usize>) -> bool
+    requires { (n ≤ length ranges.id.now) × (n ≤ length ranges.stamp.now) × (i < n) × IfSome best (λ b. b < n) }
+    ensures { result ≡ leads (seen ranges.entry) i best }
 {
-    if n <= best {
-        return i;
+    match best {
+        Some(b) => !sooner(ranges, b, i),
+        None => true,
     }
-    if sooner(stamp[best], id[best], stamp[i], id[i]) {
-        return best;
-    }
-    i
-}
-
-fn as_found(n: usize, best: usize) -> Found
-    ensures { found_of result ≡ within n best }
-{
-    if best < n {
-        return Found::At(best);
-    }
-    Found::Nothing
 }
 
 // The first range by stamp, then id, that no pin overlaps. Only a record that would be the best so far is asked for its pins.
-pub fn first_free(
-    node: &[usize],
-    start: &[usize],
-    end: &[usize],
-    id: &[u64],
-    stamp: &[u64],
-    n: usize,
-    pin_node: &[usize],
-    pin_start: &[usize],
-    pin_end: &[usize],
-    m: usize,
-) -> Found
-    requires n_in_bounds { (n ≤ length node.now) × (n ≤ length start.now) × (n ≤ length end.now) × (n ≤ length id.now) × (n ≤ length stamp.now) }
-    requires m_in_bounds { (m ≤ length pin_node.now) × (m ≤ length pin_start.now) × (m ≤ length pin_end.now) }
-    ensures { FreeIs node.now start.now end.now id.now stamp.now n pin_node.now
-        pin_start.now pin_end.now m (found_of result) }
+pub fn first_free(ranges: RangesRef, n: usize, pins: PinsRef, m: usize) -> Option<usize>
+    requires n_in_bounds { (n ≤ length ranges.node.now) × (n ≤ length ranges.start.now) × (n ≤ length ranges.end.now)
+        × (n ≤ length ranges.id.now) × (n ≤ length ranges.stamp.now) }
+    requires m_in_bounds { HoldsPins m pins }
+    ensures { FreeIs (seen ranges.entry) n pins.entry m result }
 {
-    let mut best = n;
-    let mut i = n;
-    while 0 < i {
-        i -= 1;
-        let next = better(id, stamp, n, i, best);
-        if next != best {
-            if !is_pinned(node[i], start[i], end[i], pin_node, pin_start, pin_end, m) {
-                best = next;
-            }
+    let mut best = None;
+    for i in (0..n).rev() {
+        let range = Span {
+            node: ranges.node[i],
+            start: ranges.start[i],
+            end: ranges.end[i],
+        };
+        if leads(ranges, n, i, best) && !is_pinned(range, pins, m) {
+            best = Some(i);
         }
     }
-    as_found(n, best)
+    best
 }
 
 // The first range by stamp, then id, pinned or not.
-pub fn oldest(id: &[u64], stamp: &[u64], n: usize) -> Found
-    requires { (n ≤ length id.now) × (n ≤ length stamp.now) }
-    ensures { OldestIs id.now stamp.now n (found_of result) }
+pub fn oldest(ranges: RangesRef, n: usize) -> Option<usize>
+    requires { (n ≤ length ranges.id.now) × (n ≤ length ranges.stamp.now) }
+    ensures { OldestIs (seen ranges.entry) n result }
 {
-    let mut best = n;
-    let mut i = n;
-    while 0 < i {
-        i -= 1;
-        best = better(id, stamp, n, i, best);
+    let mut best = None;
+    for i in (0..n).rev() {
+        if leads(ranges, n, i, best) {
+            best = Some(i);
+        }
     }
-    as_found(n, best)
+    best
 }

@@ -1,54 +1,43 @@
 -- The loop that counts those across: the count is of those so far. What is counted from the front is what is counted from the back.
 -- Assumes nothing.
-use Prim.Native.Nat.{ℕ, zero, suc, ◌+◌, ◌≤◌, ◌<◌}
-use mathlib.Core.Path.{◌≡◌, refl, sym, ap, subst, ◌∙◌}
-use mathlib.Core.Logic.{◌⊎◌, inl, inr}
+use Prim.Native.Nat.{ℕ, zero, suc, ◌+◌, ◌≤◌}
+use mathlib.Core.Path.{◌≡◌, refl, sym, ap, ◌∙◌}
 use mathlib.Core.Bool.{Bool, true, false}
 use mathlib.Core.List.{List}
 use native.Mathlib.Numerals.{add-one}
 use native.Mathlib.Nat.{zero-add, add-zero}
 use native.Mathlib.Omega.{arith}
+use mir.Val.{bool_byte}
 use Rattle.model.specs.State.{at}
 use Rattle.model.specs.Store.{plus}
 use Rattle.rule_cut.specs.Cut.{is_across, across_before}
 
--- what an `if across` leaves of the count
-abbrev pub Counted : Bool → ℕ → ℕ → Type 0
-Counted r a a' = ((r ≡ true) × (a' ≡ a + 1)) ⊎ ((r ≡ false) × (a' ≡ a))
-
-counted : (r : Bool) (a a' : ℕ) → Counted r a a' → a' ≡ plus r a
-counted r a a' (inl (t, e)) = rw t (omega arith)
-counted r a a' (inr (f, e)) = rw f e
+counted : (r : Bool) (a x : ℕ) → x ≡ bool_byte r → a + x ≡ plus r a
+counted true a x e = omega arith
+counted false a x e = omega arith
 
 pub plus-most : (r : Bool) (a : ℕ) → plus r a ≤ suc a
 plus-most true a = omega arith
 plus-most false a = omega arith
 
-pub record Counting (j k : ℕ) (node start end : List ℕ) (n across i : ℕ) : Type 0 where
-  pub high : i ≤ n
+pub record Counting (j k : ℕ) (node start end : List ℕ) (across i : ℕ) : Type 0 where
   pub low : across ≤ i
   pub count : across ≡ across_before j k node start end i
 
-module _ {j k : ℕ} {node start end : List ℕ} {n : ℕ} where
-  pub count-start : Counting j k node start end n 0 0
+module _ {j k : ℕ} {node start end : List ℕ} where
+  pub count-start : Counting j k node start end 0 0
   unfolding across_before
-  count-start = record { high = omega arith; low = omega arith; count = refl }
+  count-start = record { low = omega arith; count = refl }
 
-  pub count_turn : {across across' i : ℕ} {r : Bool} → Counting j k node start end n across i → i < n
-      → r ≡ is_across j k (at node i) (at start i) (at end i) → Counted r across across' → Counting j k node start end n across' (i + 1)
+  pub count_turn : {across x i : ℕ} {r : Bool} → Counting j k node start end across i
+      → r ≡ is_across j k (at node i) (at start i) (at end i) → x ≡ bool_byte r → Counting j k node start end (across + x) (i + 1)
   unfolding across_before
-  count_turn {across} {across'} {i} {r} o h e t =
-      let more : across' ≡ plus r across = counted r across across' t in
+  count_turn {across} {x} {i} {r} o e t =
+      let more : across + x ≡ plus r across = counted r across x t in
       record {
-        high = omega arith;
         low = omega (arith, plus-most r across);
         count = rw (add-one, more, e, o.count);
       }
-
-  pub count-end : {across i : ℕ} → Counting j k node start end n across i → n ≤ i → across ≡ across_before j k node start end n
-  count-end {across} {i} o h =
-      let e : i ≡ n = omega arith in
-      subst (λ (p : ℕ). across ≡ across_before j k node start end p) e o.count
 
 -- a count of n from place a on, by its first
 module _ (j k : ℕ) (node start end : List ℕ) (from : ℕ → ℕ → ℕ) (none : (a : ℕ) → from a 0 ≡ 0)

@@ -4,3 +4,4 @@ pub mod Step
 pub mod Across
 pub mod Over
 pub mod Steps
+pub mod Moved

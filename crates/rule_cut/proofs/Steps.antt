@@ -281,12 +281,3 @@ module _ (j k m next n : ℕ) (c₀ c : Ranges) (s : Progress) (few : n + across
 
     pub cut-turn : (c' : Ranges) (s' : Progress) → (c' ≡ step_ranges is_b is_s s k m c) × (s' ≡ step_progress is_b is_s s) → Cutting j k m next n c₀ c' s'
     cut-turn c' s' e = rw (e.0, e.1) (go is_b is_s beyond-there below-there counted numbered)
-
-    -- less is left to do
-    pub cut-less : (c' : Ranges) (s' : Progress) → (c' ≡ step_ranges is_b is_s s k m c) × (s' ≡ step_progress is_b is_s s) → s'.top - s'.at < s.top - s.at
-    cut-less c' s' e = rw e.1 (less is_b is_s)
-      where
-        less : (b a : Bool) → (step_progress b a s).top - (step_progress b a s).at < s.top - s.at
-        less false a = omega arith
-        less true true = omega arith
-        less true false = omega arith

@@ -1,29 +1,23 @@
 -- To add an entry makes a list no shorter and adds its count to the counts: so what can be held after an entry is added could be held before.
 -- Assumes nothing.
-use Prim.Native.Nat.{ℕ, zero, suc, ◌+◌, ◌-◌, ◌^◌, ◌≤◌, ◌<◌, min}
+use Prim.Native.Nat.{ℕ, zero, suc, ◌+◌, ◌-◌, ◌≤◌, ◌<◌}
 use mathlib.Core.Path.{◌≡◌, refl, sym, ap, subst, ◌∙◌}
-use mathlib.Core.Bool.{Bool, true, false, not, ◌&&◌}
+use mathlib.Core.Bool.{Bool, true, false, ◌&&◌}
 use mathlib.Core.List.{List, [], ◌∷◌}
 use native.Mathlib.Nat.{sub-zero}
 use native.Mathlib.Omega.{arith}
 use lib.Dec.{ltb, eqb}
 use borrow.Author.Tests.{eq-eqb, ne_eqb}
-use lib.ListN.{length, get_or}
-use mir.Val.{Fits}
-use mir.Syntax.{w64}
-use Rattle.model.specs.declared.Span.{Span}
-use Rattle.model.specs.State.{Pins, Pin, at, pin_at}
-use Rattle.model.specs.Store.{pins, lay_pins, plus}
-use Rattle.model.specs.Pins.{pin_of, same_span, pin_ahead, add_pin}
+use lib.ListN.{length, get_or, take, length-map}
+use lib.Seq.{length-take-le}
+use Rattle.model.specs.State.{Pins, Pin, pin_at}
+use Rattle.model.specs.Store.{pins, plus}
+use Rattle.model.specs.Pins.{same_span, pin_ahead, add_pin}
 use Rattle.model.specs.Insert.{put_pin, pin_head, pin_tail, pin_pieces, cut_pins, pin_across, pins_across}
 use Rattle.model.specs.Sizes.{max_pinned}
 use Rattle.theory_lay.proofs.Rows.{pins_length}
-use Rattle.pool_pin.specs.declared.EntryPlace.{EntryPlace}
-use Rattle.pool_pin.specs.EntryPlace.{PinsFrom, Placed}
 use Rattle.pool_pin.proofs.Entries.{added, add_is}
-use Rattle.pool_pin.proofs.Columns.{laid-read}
-use Rattle.pool_pin.proofs.Placed.{in_list, count-there, add-long}
-use Rattle.rule_cut_pins.specs.Entries.{PinsSized, columns_of, pins_in, counts, Small, pins_across_in}
+use Rattle.rule_cut_pins.specs.Entries.{pin_from, pins_in, counts, Small, pins_across_in}
 use Rattle.rule_cut_pins.specs.declared.Entries.{Entries}
 
 -- the list with one more entry: no shorter, at most one longer, and with its count
@@ -47,48 +41,13 @@ adds p (q ∷ qs) =
 pub small-less : (p : Pin) (ps : List Pin) → Small (add_pin p ps) → Small ps
 small-less p ps s = let h = adds p ps in record { few = omega arith; low = omega arith }
 
-count-least : (ps : List Pin) (i : ℕ) (d : Pin) → i < length ps → (get_or ps i d).count ≤ counts ps
+pub count-least : (ps : List Pin) (i : ℕ) (d : Pin) → i < length ps → (get_or ps i d).count ≤ counts ps
 unfolding counts
 count-least [] i d h = absurd (omega arith)
 count-least (p ∷ ps) zero d h = omega arith
 count-least (p ∷ ps) (suc i) d h = omega (arith, count-least ps i d (omega arith))
 
--- ---- an entry of k pins, added at the place that was found
-
-pub from_front : (c : Pins) → PinsSized 32 c → PinsFrom 0 c
-from_front c s =
-    record { node = omega (arith, s.node); start = omega (arith, s.start); end = omega (arith, s.end); count = omega (arith, s.count) }
-
-pub to_place : {n : ℕ} (c : Pins) → n ≤ 32 → PinsSized 32 c → (0 + n ≤ length c.node) × (0 + n ≤ length c.start) × (0 + n ≤ length c.end)
-to_place c h s = (omega (arith, s.node), omega (arith, s.start), omega (arith, s.end))
-
-module _ (c : Pins) (n : ℕ) (sp : Span) (k : ℕ) (r : EntryPlace) (place : Placed c.node c.start c.end 0 n sp r)
-    (small : Small (add_pin (pin_of sp k) (pins c 0 n))) where
-  pub room : n + plus (not r.there) 0 ≤ 32
-  room = rw (← add-long 0 n c sp k r place) small.few
-
-  pub sum_fits : r.there ≡ true → at c.count (0 + r.at) + k < 2 ^ 64
-  sum_fits e =
-      omega (
-        arith,
-        small.low,
-        (adds (pin_of sp k) (pins c 0 n)).sum,
-        count-least (pins c 0 n) r.at (pin_of sp k) (in_list 0 n c sp k r place e),
-        count-there 0 n c sp k r place e,
-      )
-
-  -- the list is what was laid
-  pub read_back : PinsSized 32 c → (c' : Pins) (m : ℕ)
-      → (c' ≡ lay_pins 0 (n + plus (not r.there) 0) (add_pin (pin_of sp k) (pins c 0 n)) c) × (m ≡ length (add_pin (pin_of sp k) (pins c 0 n)))
-      → pins c' 0 m ≡ add_pin (pin_of sp k) (pins c 0 n)
-  read_back s c' m e =
-      rw (e.0, e.1)
-      (laid-read 0 (n + plus (not r.there) 0) c room (from_front c s) (add_pin (pin_of sp k) (pins c 0 n)) (omega (arith, add-long 0 n c sp k r place)))
-
 -- ---- an entry added as its parts
-
-pub few-of : (c : Pins) (n : ℕ) → Small (pins c 0 n) → n ≤ 32
-few-of c n s = rw pins_length at s.few
 
 small_put : (b : Bool) (p : Pin) (ps : List Pin) → Small (put_pin b p ps) → Small ps
 small_put true p ps s = small-less p ps s
@@ -118,16 +77,6 @@ module _ (j k m : ℕ) (p : Pin) (ps : List Pin) where
       pub second-small : Small (put_pin (ltb p.start k) h xs)
       second-small = subst Small (sym parts_are) s
 
-pub head-same : (k : ℕ) (p : Pin) → p.end < k → p ≡ pin_head k p
-head-same k p h =
-    let e : p.end ≡ min p.end k = omega arith in
-    λ i. record { node = p.node; start = p.start; end = e i; count = p.count }
-
-pub head-cut : (k : ℕ) (p : Pin) → k ≤ p.end → ◌≡◌ {A = Pin} (record { node = p.node; start = p.start; end = k; count = p.count }) (pin_head k p)
-head-cut k p h =
-    let e : k ≡ min p.end k = omega arith in
-    λ i. record { node = p.node; start = p.start; end = e i; count = p.count }
-
 -- ---- the list is cut from its last entry on
 
 pub record Cutting (j k m : ℕ) (c : Pins) (n : ℕ) (xs : List Pin) (i : ℕ) : Type 0 where
@@ -135,9 +84,9 @@ pub record Cutting (j k m : ℕ) (c : Pins) (n : ℕ) (xs : List Pin) (i : ℕ) 
   pub is : xs ≡ cut_pins j k m (pins c i (n - i))
 
 module _ {j k m : ℕ} {c : Pins} {n : ℕ} where
-  pub cut-start : (d : Pins) → Cutting j k m c n (pins d 0 0) n
+  pub cut-start : Cutting j k m c n [] n
   unfolding pins cut_pins
-  cut-start d =
+  cut-start =
       let z : n - n ≡ 0 = omega arith in
       record { high = omega arith; is = rw z }
 
@@ -157,24 +106,21 @@ small-from j k m c n (suc i) h s =
     (subst Small (cut-from j k m c n i (omega arith)) (small-from j k m c n i (omega arith) s))
 
 module _ (j k m : ℕ) (c : Pins) (n : ℕ) (small : Small (cut_pins j k m (pins c 0 n))) where
-  module _ (l : Entries) (i : ℕ) (o : Cutting j k m c n (pins_in l) i) where
-    pub held : l.n ≤ 32
-    held = few-of (columns_of l) l.n (subst Small (sym o.is) (small-from j k m c n i o.high small))
-
+  module _ (ps : List Pin) (i : ℕ) (o : Cutting j k m c n ps i) where
     module _ (some : 0 < i) (p : Pin) (read : p ≡ pin_at c (i - 1)) where
       back : i ≡ suc (i - 1)
       back = omega arith
 
-      step : pin_pieces (eqb p.node j) k m p (pins_in l) ≡ cut_pins j k m (pins c (i - 1) (n - (i - 1)))
+      step : pin_pieces (eqb p.node j) k m p ps ≡ cut_pins j k m (pins c (i - 1) (n - (i - 1)))
       step =
           rw (read, o.is)
           (sym (cut-from j k m c n (i - 1) (omega (arith, o.high))
           ∙ ap (λ (x : ℕ). pin_pieces (eqb (pin_at c (i - 1)).node j) k m (pin_at c (i - 1)) (cut_pins j k m (pins c x (n - x)))) (sym back)))
 
-      pub pieces-small : Small (pin_pieces (eqb p.node j) k m p (pins_in l))
+      pub pieces-small : Small (pin_pieces (eqb p.node j) k m p ps)
       pieces-small = subst Small (sym step) (small-from j k m c n (i - 1) (omega (arith, o.high)) small)
 
-      pub cut-turn : (xs : List Pin) → xs ≡ pin_pieces (eqb p.node j) k m p (pins_in l) → Cutting j k m c n xs (i - 1)
+      pub cut-turn : (xs : List Pin) → xs ≡ pin_pieces (eqb p.node j) k m p ps → Cutting j k m c n xs (i - 1)
       cut-turn xs e = record { high = omega (arith, o.high); is = e ∙ step }
 
   pub cut-end : (xs : List Pin) (i : ℕ) → Cutting j k m c n xs i → i ≤ 0 → xs ≡ cut_pins j k m (pins c 0 n)
@@ -237,14 +183,8 @@ small_cut j k m c n few low =
     record { few = omega (arith, cut-few j k m c n); low = omega (arith, h.1) }
 
 -- the entries that were cut: as many as the list has
-pub many : (l : Entries) (xs : List Pin) → pins_in l ≡ xs → l.n ≡ length xs
-many l xs e = sym (pins_length (columns_of l) 0 l.n) ∙ ap length e
-
-pub room_fits : (n x : ℕ) → n + x ≤ 32 → Fits w64 (n + x)
-room_fits n x h = omega arith
-
-pub into : {n m x : ℕ} → n ≡ m → m ≤ x → n ≤ x
-into e h = omega arith
+pub many : (l : Entries) (xs : List Pin) → l.n ≤ 32 → length l.list ≡ 32 → pins_in l ≡ xs → l.n ≡ length xs
+many l xs few long e = sym (length-map (take l.n l.list) pin_from ∙ length-take-le l.n l.list (omega arith)) ∙ ap length e
 
 pub part_of : (n x : ℕ) {m : ℕ} → n + x ≤ 32 → m ≡ 32 → n ≤ m
 part_of n x h e = omega arith

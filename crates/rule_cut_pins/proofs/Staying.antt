@@ -1,6 +1,6 @@
 -- A cut leaves the entries as they are where none is on its node and each stands ahead of the next: to add an entry ahead of the first puts it
 -- in front. Then the loop that tests it. Assumes nothing.
-use Prim.Native.Nat.{ℕ, suc, ◌+◌, ◌-◌, ◌≤◌, ◌<◌}
+use Prim.Native.Nat.{ℕ, zero, suc, ◌+◌, ◌-◌, ◌≤◌, ◌<◌}
 use mathlib.Core.Path.{◌≡◌, refl, sym, ◌∙◌}
 use mathlib.Core.Bool.{Bool, true, false, not, ◌&&◌, ◌||◌, false≢true}
 use mathlib.Core.List.{List, [], ◌∷◌}
@@ -9,18 +9,16 @@ use native.Mathlib.Nat.{sub-zero, add-zero}
 use native.Mathlib.Omega.{arith}
 use lib.Dec.{ltb, eqb}
 use lib.ListN.{length}
-use borrow.Author.Tests.{not-true, ne_eqb, lt-ltb, ltb-true, ltb-false}
-use Rattle.model.specs.State.{Pins, Pin, at, pin_at}
+use borrow.Author.Tests.{not-true, ne_eqb, lt-ltb, le-ltb, ltb-true}
+use Rattle.model.specs.State.{Pins, Pin, pin_at}
 use Rattle.model.specs.Store.{pins}
 use Rattle.model.specs.Pins.{same_span, pin_ahead, add_pin}
 use Rattle.model.specs.Insert.{cut_pins, pins_across}
-use Rattle.shape_state.specs.Lent.{pins_of}
 use Rattle.theory_lay.proofs.Rows.{pins_length}
-use Rattle.pool_pin.specs.EntryPlace.{span_at, before}
+use Rattle.pool_pin.specs.EntryPlace.{PinsFrom, span_at}
 use Rattle.pool_pin.proofs.Entries.{add_is}
 use Rattle.pool_pin.proofs.Columns.{laid_same}
 use Rattle.rule_cut_pins.specs.Entries.{PinsSized, pins_across_in, leads, leads_if, unmoved, stays_at, cut_entries}
-use Rattle.rule_cut_pins.proofs.Fewer.{from_front}
 
 -- ---- tests that all hold
 
@@ -67,64 +65,51 @@ as_they_are j k m (p ∷ ps) h =
     let rest = as_they_are j k m ps (and_right (not on && leads p ps) (unmoved j ps) h) in
     (rw (off, rest.0) (in_front p ps (and_right (not on) (leads p ps) here)), rw (off, rest.1))
 
+from-front : (c : Pins) → PinsSized 32 c → PinsFrom 0 c
+from-front c s =
+    record { node = omega (arith, s.node); start = omega (arith, s.start); end = omega (arith, s.end); count = omega (arith, s.count) }
+
 -- what `cut_pins` gives back then
 pub left_alone : (j k m n : ℕ) (c : Pins) → PinsSized 32 c → n + pins_across_in j k n c ≤ 32 → unmoved j (pins c 0 n) ≡ true
     → (c ≡ cut_entries j k m n c) × (n ≡ length (cut_pins j k m (pins c 0 n)))
 left_alone j k m n c s few h =
     let same = as_they_are j k m (pins c 0 n) h in
     let low : n ≤ 32 = omega arith in
-    (sym (rw (same.0, same.1, add-zero) (laid_same 0 n c low (from_front c s))), rw (same.0, pins_length))
+    (sym (rw (same.0, same.1, add-zero) (laid_same 0 n c low (from-front c s))), rw (same.0, pins_length))
 
 -- ---- the loop
 
--- the last test at a place
-pub stays_by : (j : ℕ) (node start end : List ℕ) (n i : ℕ) (r : Bool) → r ≡ before (span_at node start end i) (span_at node start end (i + 1))
-    → (at node i ≡ j → ⊥) → i + 1 < n → r ≡ stays_at j node start end n i
-stays_by j node start end n i r e off more = rw (ne_eqb (at node i) j off, lt-ltb (i + 1) n more) e
+next-is : (n : ℕ) (c : Pins) (m a : ℕ) → a + suc m ≡ n → leads (pin_at c a) (pins c (suc a) m) ≡ leads_if (ltb (a + 1) n) (span_at c a) (span_at c (a + 1))
+unfolding pins
+next-is n c zero a e =
+    let z : ltb (a + 1) n ≡ false = le-ltb (a + 1) n (omega arith) in
+    rw z
+next-is n c (suc m) a e =
+    let z : ltb (a + 1) n ≡ true = lt-ltb (a + 1) n (omega arith) in
+    rw (z, add-one)
 
-pub record Staying (j : ℕ) (node start end : List ℕ) (n i : ℕ) : Type 0 where
-  pub high : i ≤ n
-  pub left : (count : List ℕ) → unmoved j (pins (pins_of node start end count) i (n - i)) ≡ unmoved j (pins (pins_of node start end count) 0 n)
+here : (j n : ℕ) (c : Pins) (i : ℕ) → i < n → unmoved j (pins c i (n - i)) ≡ (stays_at j c n i && unmoved j (pins c (suc i) (n - suc i)))
+unfolding unmoved pins
+here j n c i h =
+    let z : n - i ≡ suc (n - suc i) = omega arith in
+    rw (z, ← next-is n c (n - suc i) i (omega arith))
 
-module _ (j : ℕ) (node start end : List ℕ) (n : ℕ) where
-  next-is : (count : List ℕ) (i : ℕ) → leads (pin_at (pins_of node start end count) i) (pins (pins_of node start end count) (suc i) (n - suc i))
-      ≡ leads_if (ltb (i + 1) n) (span_at node start end i) (span_at node start end (i + 1))
-  unfolding pins
-  next-is count i = go (ltb (i + 1) n) refl
-    where
-      go : (b : Bool) → ltb (i + 1) n ≡ b → leads (pin_at (pins_of node start end count) i) (pins (pins_of node start end count) (suc i) (n - suc i))
-          ≡ leads_if b (span_at node start end i) (span_at node start end (i + 1))
-      go true e =
-          let z : n - suc i ≡ suc (n - suc (suc i)) = omega (arith, ltb-true (i + 1) n e) in
-          rw (z, add-one)
-      go false e =
-          let z : n - suc i ≡ 0 = omega (arith, ltb-false (i + 1) n e) in
-          rw z
+-- the first i stay, so the others say whether all do
+pub record Staying (j n : ℕ) (c : Pins) (i : ℕ) : Type 0 where
+  pub left : unmoved j (pins c i (n - i)) ≡ unmoved j (pins c 0 n)
 
-  here : (count : List ℕ) (i : ℕ) → i < n
-      → unmoved j (pins (pins_of node start end count) i (n - i)) ≡ (stays_at j node start end n i && unmoved j (pins (pins_of node start end count) (suc i) (n - suc i)))
+module _ {j n : ℕ} {c : Pins} where
+  pub stay-start : Staying j n c 0
+  stay-start = record { left = rw sub-zero }
+
+  pub stay-turn : {i : ℕ} {r : Bool} → Staying j n c i → i < n → r ≡ stays_at j c n i → r ≡ true → Staying j n c (i + 1)
+  stay-turn {i} {r} o h e t = record { left = rw add-one (sym (here j n c i h ∙ rw (← e, t)) ∙ o.left) }
+
+  pub stay-not : {i : ℕ} {r : Bool} → Staying j n c i → i < n → r ≡ stays_at j c n i → r ≡ false → false ≡ unmoved j (pins c 0 n)
+  stay-not {i} {r} o h e t = sym (here j n c i h ∙ rw (← e, t)) ∙ o.left
+
+  pub stay-end : {i : ℕ} → Staying j n c i → n ≤ i → true ≡ unmoved j (pins c 0 n)
   unfolding unmoved pins
-  here count i h =
-      let z : n - i ≡ suc (n - suc i) = omega arith in
-      rw (z, ← next-is count i)
-
-module _ {j : ℕ} {node start end : List ℕ} {n : ℕ} where
-  pub stay_start : Staying j node start end n 0
-  stay_start = record { high = omega arith; left = λ count. rw sub-zero }
-
-  pub stay_turn : {i : ℕ} {r : Bool} → Staying j node start end n i → i < n → r ≡ stays_at j node start end n i → r ≡ true → Staying j node start end n (i + 1)
-  stay_turn {i} {r} o h e t =
-      record {
-        high = omega arith;
-        left = λ count. rw add-one (sym (here j node start end n count i h ∙ rw (← e, t)) ∙ o.left count);
-      }
-
-  pub stay_not : {i : ℕ} {r : Bool} → Staying j node start end n i → i < n → r ≡ stays_at j node start end n i → r ≡ false
-      → (count : List ℕ) → false ≡ unmoved j (pins (pins_of node start end count) 0 n)
-  stay_not {i} {r} o h e t count = sym (here j node start end n count i h ∙ rw (← e, t)) ∙ o.left count
-
-  pub stay_end : {i : ℕ} → Staying j node start end n i → n ≤ i → (count : List ℕ) → true ≡ unmoved j (pins (pins_of node start end count) 0 n)
-  unfolding unmoved pins
-  stay_end {i} o h count =
+  stay-end {i} o h =
       let z : n - i ≡ 0 = omega arith in
-      rw z at (o.left count)
+      rw z at o.left

@@ -1,25 +1,32 @@
 -- A store's pin entries by value: the list that they make, and whether a cut moves them. Assumes nothing.
-use Rattle.std.specs.Prelude.{ℕ, ◌+◌, ◌^◌, ◌<◌, ◌≤◌, ◌≡◌, Bool, true, false, not, ◌&&◌, List, [], ◌∷◌, length, ltb, eqb}
+use Rattle.std.specs.Prelude.{ℕ, ◌+◌, ◌^◌, ◌<◌, ◌≤◌, ◌≡◌, Bool, true, false, not, ◌&&◌, List, [], ◌∷◌, map, take, get_or, length, ltb, eqb}
 use Rattle.model.specs.declared.Span.{Span}
 use Rattle.model.specs.State.{Pins, Pin, at}
 use Rattle.model.specs.Store.{pins, lay_pins}
 use Rattle.model.specs.Insert.{cut_pins, pins_across}
-use Rattle.model.specs.Pins.{pin_ahead}
-use Rattle.shape_state.specs.Lent.{pins_of}
+use Rattle.model.specs.Pins.{pin_of, pin_ahead}
 use Rattle.pool_pin.specs.EntryPlace.{span_at, before}
 use Rattle.rule_cut_pins.specs.declared.Entry.{Entry}
 use Rattle.rule_cut_pins.specs.declared.Entries.{Entries}
 
 -- an entry by value is a pin
 abbrev pub pin_from : Entry → Pin
-pin_from e = record { node = e.node; start = e.start; end = e.end; count = e.count }
+pin_from e = pin_of e.span e.count
 
-abbrev pub columns_of : Entries → Pins
-columns_of l = pins_of l.node l.start l.end l.count
+-- what stands past the last entry
+abbrev pub no_pin : Pin
+no_pin = record { node = 0; start = 0; end = 0; count = 0 }
 
 -- the first n
 abbrev pub pins_in : Entries → List Pin
-pins_in l = pins (columns_of l) 0 l.n
+pins_in l = map pin_from (take l.n l.list)
+
+-- their spans; `no_entry` is what is read past the list's end
+abbrev pub no_entry : Entry
+no_entry = record { span = record { node = 0; start = 0; end = 0 }; count = 0 }
+
+abbrev pub spans_in : Entries → ℕ → Span
+spans_in l i = (get_or l.list i no_entry).span
 
 -- each column has k elements
 pub record PinsSized (k : ℕ) (c : Pins) : Type 0 where
@@ -57,8 +64,8 @@ abbrev pub leads_if : Bool → Span → Span → Bool
 leads_if true p q = before p q
 leads_if false p q = true
 
-abbrev pub stays_at : ℕ → List ℕ → List ℕ → List ℕ → ℕ → ℕ → Bool
-stays_at j node start end n i = not (eqb (at node i) j) && leads_if (ltb (i + 1) n) (span_at node start end i) (span_at node start end (i + 1))
+abbrev pub stays_at : ℕ → Pins → ℕ → ℕ → Bool
+stays_at j c n i = not (eqb (at c.node i) j) && leads_if (ltb (i + 1) n) (span_at c i) (span_at c (i + 1))
 
 -- the columns with the first n entries cut; m is the new node
 abbrev pub cut_entries : ℕ → ℕ → ℕ → ℕ → Pins → Pins

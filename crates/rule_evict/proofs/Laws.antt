@@ -1,5 +1,6 @@
 -- A store's part of the columns into which a list of ranges was laid: the list is read back from it, and one eviction on the columns is one on the list.
 use Rattle.std.proofs.Common.{◌≡◌, ℕ, zero, suc, ◌+◌, ◌-◌, ◌%◌, ◌<◌, ◌≤◌, Bool, true, false, leb, List, [], ◌∷◌, map, length, get_or, set, sym, refl, ap, ◌∙◌, subst, zero-add, add-one, arith, length-set, le-leb, leb-true}
+use Rattle.std.proofs.lemmas.List.{length-take-le, length-drop, length-append}
 use lib.ListN.{length-map, get_or-map}
 use lib.Seq.{set-get_or}
 use lib.Ieee.{nan}
@@ -20,7 +21,7 @@ use Rattle.theory_lay.proofs.Lay.{lay_length, lay-same, column_in}
 use Rattle.theory_lay.proofs.Rows.{rows, rows_length, rows-list, rows_column, ranges-rows, ranges-at}
 use Rattle.shape_state.specs.Lent.{ranges_of}
 use Rattle.rule_resolve.specs.Span.{Priced}
-use Rattle.pool_range.specs.Cols.{remove_at}
+use Rattle.pool_range.specs.Cols.{remove_at, cut_at}
 use Rattle.pool_range.proofs.Laid.{set-lay}
 use Rattle.pool_range.specs.Part.{Sized, cut_range}
 use Rattle.pool_range.proofs.Records.{ranges_eq, cut-laid, map_set}
@@ -229,17 +230,20 @@ pub cols-part : (n i k : ℕ) (c : Ranges) → k < at c.end i - at c.start i
 unfolding evict_cols end_at
 cols-part n i k c h = rw (lt-leb (at c.end i - at c.start i) k h)
 
-pub cols-count : (n i k m : ℕ) (c d : Ranges) → left d m ≡ evict_cols n i k c → m ≤ n
-unfolding evict_cols
-cols-count n i k m c d e = go (leb (length_of (range_at c i)) k) (ap (λ (x : Left). x.n) e)
-  where
-    go : (b : Bool) → m ≡ (pick b (left (cut_range i n c) (n - 1)) (left (end_at i (at c.end i - k) c) n)).n → m ≤ n
-    go true q = omega arith
-    go false q = omega arith
+cut_length : (i n : ℕ) (l : List ℕ) → i < n → n ≤ length l → length (cut_at 0 i n l) ≡ length l
+unfolding cut_at
+cut_length i n l h g =
+    omega (arith, length-append {A = ℕ}, length-take-le {A = ℕ}, length-drop {A = ℕ})
 
--- over numbers, so that a caller need not write the lists
-pub room : {m n k l : ℕ} → m ≤ n → n ≤ k → l ≡ k → m ≤ l
-room a b e = omega arith
+-- the columns still have room for the records
+pub cols-room : (n i k m : ℕ) (c d : Ranges) → left d m ≡ evict_cols n i k c → i < n → n ≤ length c.node → m ≤ length d.node
+unfolding evict_cols end_at cut_range
+cols-room n i k m c d e h g = go (leb (length_of (range_at c i)) k) (ap (λ (x : Left). x.n) e) (ap (λ (x : Left). length x.cols.node) e)
+  where
+    go : (b : Bool) → m ≡ (pick b (left (cut_range i n c) (n - 1)) (left (end_at i (at c.end i - k) c) n)).n
+        → length d.node ≡ length (pick b (left (cut_range i n c) (n - 1)) (left (end_at i (at c.end i - k) c) n)).cols.node → m ≤ length d.node
+    go true q r = omega (arith, cut_length i n c.node h g)
+    go false q r = omega arith
 
 -- the last blocks of a range have their bytes
 pub tail-priced : {depth bytes ms : List ℕ} {r : Range} (k : ℕ) {sp : Span} → sp ≡ tail_of r.node r.end k → Reach depth r → Tabled depth bytes ms → Priced depth bytes sp

@@ -1,84 +1,53 @@
 #![tactic(auto)]
-
-ghost use Rattle.std.specs.Prelude.{◌≡◌, ◌-◌, ◌<◌, ◌≤◌, min};
+// One eviction: the last blocks of a record go, and what is told of them.
+ghost use Rattle.std.specs.Prelude.{◌≡◌, ◌-◌, ◌<◌, ◌≤◌};
 ghost use Rattle.model.specs.State.{at, range_at};
-ghost use Rattle.shape_state.specs.Lent.{ranges_of};
 ghost use Rattle.rule_resolve.specs.Span.{Priced, only_depth};
+ghost use Rattle.pool_range.specs.Lent.{lent, SameColumns};
 ghost use Rattle.pool_range.specs.Part.{Sized};
 ghost use Rattle.pool_out.specs.Evicted.{out_of};
 ghost use Rattle.rule_evict.specs.Evict.{left, evict_cols, tail_of, told_of, Reach, Tabled, EntryGone};
 
 use model::Span;
-use pool_out::Evicted;
+use pool_out::{Evicted, WriteId};
+use pool_range::{RangesMut, Record};
 
 // The last k blocks of the record at i go; how many records are left.
-pub fn evict_at(
-    node: &mut [usize],
-    start: &mut [usize],
-    end: &mut [usize],
-    id: &mut [u64],
-    stamp: &mut [u64],
-    touched: &mut [f64],
-    write: &mut [u32],
-    n: usize,
-    i: usize,
-    k: usize,
-) -> usize
-    requires { (i < n)
-        × (n ≤ 128)
-        × (at start.old i ≤ at end.old i)
-        × Sized 128 (ranges_of node.old start.old end.old id.old stamp.old touched.old write.old) }
-    ensures { left (ranges_of node.new start.new end.new id.new stamp.new touched.new write.new)
-        result
-        ≡ evict_cols n i k
-        (ranges_of node.old start.old end.old id.old stamp.old touched.old
-        write.old) }
+pub fn evict_at(ranges: &mut RangesMut, n: usize, i: usize, k: usize) -> usize
+    requires { (i < n) × (n ≤ 128) × (at (lent ranges.old).start i ≤ at (lent ranges.old).end i) × Sized 128 (lent ranges.old) }
+    ensures same { SameColumns ranges.old ranges.new }
+    ensures columns { left (lent ranges.new) result ≡ evict_cols n i k (lent ranges.old) }
 {
-    let e = end[i];
-    if e - start[i] <= k {
-        pool_range::cut_rec(node, start, end, id, stamp, touched, write, n, i);
+    if ranges.end[i] - ranges.start[i] <= k {
+        ranges.cut(n, i);
         return n - 1;
     }
-    end[i] = e - k;
+    ranges.end[i] -= k;
     n
 }
 
 // What is told of a span that goes.
-pub fn told(depth: &[usize], bytes: &[u64], mark: usize, write: u32, sp: Span) -> Evicted
-    requires { Priced depth.now bytes.now sp }
-    ensures { out_of result ≡ told_of (only_depth depth.now) bytes.now mark write sp }
+pub fn told(depth: &[usize], bytes: &[u64], mark: usize, write: u32, span: Span) -> Evicted
+    requires { Priced depth.now bytes.now span }
+    ensures { out_of result ≡ told_of (only_depth depth.now) bytes.now mark write span }
 {
-    let whole = rule_resolve::span_bytes(depth, bytes, sp);
-    let dead = rule_resolve::dead_bytes(depth, bytes, mark, sp);
-    let w = pool_out::write_id(write);
     Evicted {
-        span: sp,
-        write: w,
-        bytes: whole,
-        dead: dead,
+        span,
+        write: WriteId::from(write),
+        bytes: rule_resolve::span_bytes(depth, bytes, span),
+        dead: rule_resolve::dead_bytes(depth, bytes, mark, span),
     }
 }
 
-// How many blocks of a range go.
-fn amount(len: usize, excess: u64) -> usize
-    ensures { result ≡ min len excess }
-{
-    let e = excess as usize;
-    if len < e {
-        return len;
-    }
-    e
-}
-
-// The last k blocks of a range, never its head.
-fn tail(node: usize, start: usize, end: usize, k: usize) -> Span
-    requires { (start ≤ end) × (k ≤ end - start) }
-    ensures { result ≡ tail_of node end k }
+// The last k blocks of a record, never its head.
+fn tail(r: Record, k: usize) -> Span
+    requires { (r.start ≤ r.end) × (k ≤ r.end - r.start) }
+    ensures { result ≡ tail_of r.node r.end k }
 {
     Span {
-        node: node,
-        start: end - k,
-        end: end,
+        node: r.node,
+        start: r.end - k,
+        end: r.end,
     }
 }
 
@@ -94,13 +63,7 @@ pub struct Gone {
 // Of the record at i the last min(length, excess) blocks go; the version goes up by 1, from 2^64 - 1 to 0.
 pub fn store_evict_entry(
     depth: &[usize],
-    node: &mut [usize],
-    start: &mut [usize],
-    end: &mut [usize],
-    id: &mut [u64],
-    stamp: &mut [u64],
-    touched: &mut [f64],
-    write: &mut [u32],
+    ranges: &mut RangesMut,
     marks: &mut [usize],
     bytes: &[u64],
     n: usize,
@@ -108,29 +71,21 @@ pub fn store_evict_entry(
     excess: u64,
     version: u64,
 ) -> Gone
-    requires i_lt_n { (i < n) × (n ≤ 128) × Sized 128 (ranges_of node.old start.old end.old id.old stamp.old touched.old write.old) }
-    requires reach { Reach depth.now (range_at (ranges_of node.old start.old end.old id.old stamp.old touched.old write.old) i)
-        × Tabled depth.now bytes.now marks.old }
-    ensures { EntryGone depth.now bytes.now n i excess version
-        (ranges_of node.old start.old end.old id.old stamp.old
-        touched.old write.old)
-        marks.old
-        (ranges_of node.new start.new end.new id.new stamp.new
-        touched.new write.new)
-        marks.new result }
+    requires i_lt_n { (i < n) × (n ≤ 128) × Sized 128 (lent ranges.old) }
+    requires reach { Reach depth.now (range_at (lent ranges.old) i) × Tabled depth.now bytes.now marks.old }
+    ensures same { SameColumns ranges.old ranges.new }
+    ensures gone { EntryGone depth.now bytes.now n i excess version (lent ranges.old) marks.old (lent ranges.new) marks.new result }
 {
-    let v = node[i];
-    let s = start[i];
-    let e = end[i];
-    let k = amount(e - s, excess);
-    let out = told(depth, bytes, marks[v], write[i], tail(v, s, e, k));
-    let records = evict_at(&mut *node, start, end, id, stamp, touched, write, n, i, k);
-    pool_mark::unmark(&*node, marks, records, v);
-    let next = std::num::wrapping_add_u64(version, 1);
+    let r = ranges.view().at(i);
+    let taken = (r.end - r.start).min(excess as usize);
+    let mark = marks[r.node];
+    let out = told(depth, bytes, mark, r.write, tail(r, taken));
+    let left = evict_at(ranges, n, i, taken);
+    pool_mark::unmark(ranges.view().node, marks, left, r.node);
     Gone {
-        n: records,
-        taken: k,
-        version: next,
-        out: out,
+        n: left,
+        taken,
+        version: version.wrapping_add(1),
+        out,
     }
 }

@@ -3,7 +3,9 @@ use Prim.Native.Nat.{ℕ, zero, suc, ◌+◌, ◌-◌, ◌≤◌, ◌<◌}
 use mathlib.Core.Path.{◌≡◌, refl, sym, ap, subst, ◌∙◌}
 use mathlib.Core.Bool.{Bool, true, false}
 use mathlib.Core.List.{List, [], ◌∷◌, ◌++◌}
-use mathlib.Core.Option.{Option, none, some, none-ne-some}
+use Rattle.std.specs.Prelude.{Option, None, Some}
+use Rattle.std.specs.Bool.{then_some}
+use Rattle.std.proofs.lemmas.Option.{none-some}
 use native.Mathlib.Omega.{arith}
 use lib.ListN.{length}
 use lib.Ieee.{Float, binary64, sub, lt}
@@ -17,9 +19,6 @@ use Rattle.theory_bring.proofs.Evict.{first_some}
 use Rattle.theory_lay.proofs.Rows.{ranges_length}
 use Rattle.rule_resolve.specs.Span.{only_depth}
 use Rattle.pool_out.specs.Evicted.{out_of, set_out}
-use Rattle.pool_number.specs.declared.Found.{Found}
-use Rattle.pool_number.specs.declared.Found.TheVariants.{At, Nothing}
-use Rattle.pool_number.specs.Found.{found_of}
 use Rattle.rule_evict.specs.declared.Gone.{Gone}
 use Rattle.rule_evict.specs.Evict.{Reach, EntryGone}
 use Rattle.rule_evict.specs.Given.{Ready, GivenOut}
@@ -30,40 +29,38 @@ use Rattle.rule_expire.specs.Expire.{expired}
 -- ---- the choice
 
 module _ (now seconds : Float) (c : Ranges) (n : ℕ) where
-  place_in : {p : Found} {i : ℕ} → found_of p ≡ first (λ r. true) (ranges c 0 n) → p ≡ At i → first (λ r. true) (ranges c 0 n) ≡ some i
-  place_in e q = sym e ∙ ap found_of q
+  place_in : {p : Option ℕ} {i : ℕ} → p ≡ first (λ r. true) (ranges c 0 n) → p ≡ Some i → first (λ r. true) (ranges c 0 n) ≡ Some i
+  place_in e q = sym e ∙ q
 
-  pub place-less : {p : Found} {i : ℕ} → found_of p ≡ first (λ r. true) (ranges c 0 n) → p ≡ At i → i < n
+  pub place-less : {p : Option ℕ} {i : ℕ} → p ≡ first (λ r. true) (ranges c 0 n) → p ≡ Some i → i < n
   place-less {i = i} e q = omega (arith, (first_some (λ r. true) (ranges c 0 n) i (place_in e q)).0, ranges_length c 0 n)
 
-  pub aged-none : {p : Found} → found_of p ≡ first (λ r. true) (ranges c 0 n) → p ≡ Nothing → none ≡ oldest now seconds (ranges c 0 n)
+  pub aged-none : {p : Option ℕ} → p ≡ first (λ r. true) (ranges c 0 n) → p ≡ None → None ≡ oldest now seconds (ranges c 0 n)
   unfolding oldest
-  aged-none e q = sym (ap (if_aged now seconds (ranges c 0 n)) (sym e ∙ ap found_of q))
+  aged-none e q = sym (ap (if_aged now seconds (ranges c 0 n)) (sym e ∙ q))
 
-  module _ {p : Found} {i : ℕ} (e : found_of p ≡ first (λ r. true) (ranges c 0 n)) (q : p ≡ At i) where
-    aged-is : oldest now seconds (ranges c 0 n) ≡ elim (lt seconds (sub binary64 now (range_at c i).touched)) [ true ↦ some i | false ↦ none ]
+  module _ {p : Option ℕ} {i : ℕ} (e : p ≡ first (λ r. true) (ranges c 0 n)) (q : p ≡ Some i) where
+    aged-is : oldest now seconds (ranges c 0 n) ≡ elim (lt seconds (sub binary64 now (range_at c i).touched)) [ true ↦ Some i | false ↦ None ]
     unfolding oldest aged
     aged-is =
         ap (if_aged now seconds (ranges c 0 n)) (place_in e q)
-        ∙ ap (λ (r : Range). elim (lt seconds (sub binary64 now r.touched)) [ true ↦ some i | false ↦ none ])
+        ∙ ap (λ (r : Range). elim (lt seconds (sub binary64 now r.touched)) [ true ↦ Some i | false ↦ None ])
         (sym (record_is c n i (ranges c 0 n) refl (place-less e q)))
 
-    pub aged_yes : {b : Bool} → b ≡ lt seconds (sub binary64 now (range_at c i).touched) → b ≡ true → some i ≡ oldest now seconds (ranges c 0 n)
-    aged_yes t y = sym (aged-is ∙ ap (λ (b : Bool). elim b [ true ↦ some i | false ↦ none ]) (sym t ∙ y))
-
-    pub aged_no : {b : Bool} → b ≡ lt seconds (sub binary64 now (range_at c i).touched) → b ≡ false → none ≡ oldest now seconds (ranges c 0 n)
-    aged_no t y = sym (aged-is ∙ ap (λ (b : Bool). elim b [ true ↦ some i | false ↦ none ]) (sym t ∙ y))
+    pub aged_then : (b : Bool) → b ≡ lt seconds (sub binary64 now (range_at c i).touched) → then_some b i ≡ oldest now seconds (ranges c 0 n)
+    aged_then true t = sym (aged-is ∙ ap (λ (b : Bool). elim b [ true ↦ Some i | false ↦ None ]) (sym t))
+    aged_then false t = sym (aged-is ∙ ap (λ (b : Bool). elim b [ true ↦ Some i | false ↦ None ]) (sym t))
 
 -- the place is one there is
-if_some : (now seconds : Float) (rs : List Range) (c : Option ℕ) (i : ℕ) → if_aged now seconds rs c ≡ some i → c ≡ some i
-if_some now seconds rs none i q = q
-if_some now seconds rs (some j) i q = go (aged now seconds (nth rs j)) q
+if_some : (now seconds : Float) (rs : List Range) (c : Option ℕ) (i : ℕ) → if_aged now seconds rs c ≡ Some i → c ≡ Some i
+if_some now seconds rs None i q = q
+if_some now seconds rs (Some j) i q = go (aged now seconds (nth rs j)) q
   where
-    go : (b : Bool) → elim b [ true ↦ some j | false ↦ none ] ≡ some i → some j ≡ some i
+    go : (b : Bool) → elim b [ true ↦ Some j | false ↦ None ] ≡ Some i → Some j ≡ Some i
     go true e = e
-    go false e = absurd (none-ne-some i e)
+    go false e = absurd (none-some i e)
 
-oldest-less : (now seconds : Float) (rs : List Range) (i : ℕ) → oldest now seconds rs ≡ some i → i < length rs
+oldest-less : (now seconds : Float) (rs : List Range) (i : ℕ) → oldest now seconds rs ≡ Some i → i < length rs
 unfolding oldest
 oldest-less now seconds rs i q = (first_some (λ r. true) rs i (if_some now seconds rs (first (λ r. true) rs) i q)).0
 
@@ -83,13 +80,13 @@ pub record Expiring (depth table : List ℕ) (now seconds : Float) (n₀ v₀ : 
       ≡ expired (only_depth depth) table now seconds (ranges c₀ 0 n₀) ms₀
 
 by-none : (t : Tree) (table : List ℕ) (now seconds : Float) (n : ℕ) (rs : List Range) (ms : List ℕ)
-    → expire_by t table now seconds n none rs ms ≡ record { ranges = rs; marks = ms; outs = []; stalled = false }
+    → expire_by t table now seconds n None rs ms ≡ record { ranges = rs; marks = ms; outs = []; stalled = false }
 unfolding expire_by
 by-none t table now seconds zero rs ms = refl
 by-none t table now seconds (suc n) rs ms = refl
 
 by-some : (t : Tree) (table : List ℕ) (now seconds : Float) (n i k : ℕ) (rs : List Range) (ms : List ℕ) → k ≡ length_of (nth rs i) → (nth rs i).end - k ≡ (nth rs i).start
-    → expire_by t table now seconds (suc n) (some i) rs ms
+    → expire_by t table now seconds (suc n) (Some i) rs ms
     ≡ also (told t table ms (nth rs i) ((nth rs i).end - k) (nth rs i).end) (expire_by t table now seconds n (oldest now seconds (evict rs i k)) (evict rs i k) (unmark (nth rs i).node (evict rs i k) ms))
 unfolding expire_by
 by-some t table now seconds n i k rs ms q s = rw (s, q)
@@ -103,20 +100,20 @@ module _ {depth table : List ℕ} {n₀ h₀ : ℕ} {c₀ : Ranges} {ms₀ : Lis
   pub expire-start : {v₀ : ℕ} → v₀ < versions → Expiring depth table now seconds n₀ v₀ c₀ ms₀ l₀ n₀ c₀ ms₀ l₀ h₀ 0 v₀
   expire-start less = record { rs = ranges c₀ 0 n₀; os = []; going = going_start ready less; room = omega arith; todo = begin }
 
-  module _ {v₀ k : ℕ} {c : Ranges} {ms : List ℕ} {l : OutList} {h o v : ℕ} (s : Expiring depth table now seconds n₀ v₀ c₀ ms₀ l₀ k c ms l h o v) (p : Found)
-      (choice : found_of p ≡ oldest now seconds (ranges c 0 k)) where
-    found : (x : Option ℕ) → found_of p ≡ x → oldest now seconds s.rs ≡ x
+  module _ {v₀ k : ℕ} {c : Ranges} {ms : List ℕ} {l : OutList} {h o v : ℕ} (s : Expiring depth table now seconds n₀ v₀ c₀ ms₀ l₀ k c ms l h o v) (p : Option ℕ)
+      (choice : p ≡ oldest now seconds (ranges c 0 k)) where
+    found : (x : Option ℕ) → p ≡ x → oldest now seconds s.rs ≡ x
     found x e = ap (oldest now seconds) (sym (going-read ready s.going)) ∙ sym choice ∙ e
 
     -- the oldest hasn't aged, or there is none
-    pub expire-end : p ≡ Nothing → GivenOut (expired (only_depth depth) table now seconds (ranges c₀ 0 n₀) ms₀) n₀ v₀ c₀ l₀ c ms l k h o v false
+    pub expire-end : p ≡ None → GivenOut (expired (only_depth depth) table now seconds (ranges c₀ 0 n₀) ms₀) n₀ v₀ c₀ l₀ c ms l k h o v false
     expire-end q =
-        let e = rw (found none (ap found_of q), by-none (only_depth depth) table now seconds (n₀ - o) s.rs ms) at s.todo in
+        let e = rw (found None q, by-none (only_depth depth) table now seconds (n₀ - o) s.rs ms) at s.todo in
         subst (λ (w : Trimmed). GivenOut w n₀ v₀ c₀ l₀ c ms l k h o v false) (before-none s.os s.rs ms false ∙ e) (going_end ready s.going false)
 
-    module _ {i : ℕ} (here : p ≡ At i) where
+    module _ {i : ℕ} (here : p ≡ Some i) where
       pub expire-place : i < k
-      expire-place = omega (arith, oldest-less now seconds s.rs i (found (some i) (ap found_of here)), s.going.count)
+      expire-place = omega (arith, oldest-less now seconds s.rs i (found (Some i) here), s.going.count)
 
       pub expire-room : o < store_records
       expire-room = omega (arith, expire-place, s.room, ready.few)
@@ -157,7 +154,7 @@ module _ {depth table : List ℕ} {n₀ h₀ : ℕ} {c₀ : Ranges} {ms₀ : Lis
                 let z : (nth s.rs i).end - a ≡ (nth s.rs i).start = omega (arith, whole, reached.filled) in
                 rw (before-also, going-marks ready s.going expire-place expire-room refl gone put)
                 (ap (before s.os) (sym (by-some (only_depth depth) table now seconds (n₀ - (o + 1)) i a s.rs ms whole z))
-                ∙ (rw (found (some i) (ap found_of here), f) at s.todo))
+                ∙ (rw (found (Some i) here, f) at s.todo))
 
 -- ---- bytes look at the depths of a tree alone, so an expiry does
 
@@ -165,8 +162,8 @@ by-depth : (t : Tree) (table : List ℕ) (now seconds : Float) (n : ℕ) (c : Op
     → expire_by (only_depth t.depth) table now seconds n c rs ms ≡ expire_by t table now seconds n c rs ms
 unfolding expire_by
 by-depth t table now seconds zero c rs ms = refl
-by-depth t table now seconds (suc n) none rs ms = refl
-by-depth t table now seconds (suc n) (some i) rs ms =
+by-depth t table now seconds (suc n) None rs ms = refl
+by-depth t table now seconds (suc n) (Some i) rs ms =
     let r = nth rs i in
     let rest = evict rs i (length_of r) in
     ap (also (told t table ms r r.start r.end)) (by-depth t table now seconds n (oldest now seconds rest) rest (unmark r.node rest ms))

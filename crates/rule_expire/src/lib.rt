@@ -1,17 +1,18 @@
 #![tactic(auto)]
-
+// A store's ranges that were not touched for a while are given out, oldest first.
 ghost use Rattle.std.specs.Prelude.{◌≡◌, false, ◌≤◌, length};
 ghost use Rattle.std.specs.Float.{binary64};
 ghost use Rattle.std.specs.Float.Ieee.{sub, lt};
-ghost use Rattle.model.specs.Store.{ranges};
-ghost use Rattle.shape_state.specs.Lent.{ranges_of};
+ghost use Rattle.model.specs.Store.{ranges as rangesOf};
+ghost use Rattle.model.specs.Expire.{oldest};
 ghost use Rattle.rule_resolve.specs.Span.{only_depth};
-ghost use Rattle.shape_answer.specs.Lists.{out_list};
-ghost use Rattle.pool_number.specs.Found.{found_of};
+ghost use Rattle.pool_range.specs.Lent.{lent, seen, SameColumns};
+ghost use Rattle.pool_out.specs.Outs.{listed, SameOuts};
 ghost use Rattle.rule_evict.specs.Given.{Ready, GivenOut};
-ghost use Rattle.rule_expire.specs.Expire.{expired, AgedIs};
+ghost use Rattle.rule_expire.specs.Expire.{expired};
 
-use pool_number::Found;
+use pool_out::OutsMut;
+use pool_range::{RangesMut, RangesRef};
 
 // More than the seconds have passed, the difference rounded once.
 fn is_aged(touched: f64, time: f64, seconds: f64) -> bool
@@ -21,24 +22,12 @@ fn is_aged(touched: f64, time: f64, seconds: f64) -> bool
 }
 
 // The first range by stamp, then id, if it is aged.
-fn oldest_aged(
-    id: &[u64],
-    stamp: &[u64],
-    touched: &[f64],
-    n: usize,
-    time: f64,
-    seconds: f64,
-) -> Found
-    requires { (n ≤ length id.now) × (n ≤ length stamp.now) × (n ≤ length touched.now) }
-    ensures { AgedIs id.now stamp.now touched.now n time seconds (found_of result) }
+fn oldest_aged(ranges: RangesRef, n: usize, time: f64, seconds: f64) -> Option<usize>
+    requires { (n ≤ length ranges.id.now) × (n ≤ length ranges.stamp.now) × (n ≤ length ranges.touched.now) }
+    ensures { result ≡ oldest time seconds (rangesOf (seen ranges.entry) 0 n) }
 {
-    let Found::At(i) = rule_choose::oldest(id, stamp, n) else {
-        return Found::Nothing;
-    };
-    if is_aged(touched[i], time, seconds) {
-        return Found::At(i);
-    }
-    Found::Nothing
+    let i = rule_choose::oldest(ranges, n)?;
+    is_aged(ranges.touched[i], time, seconds).then_some(i)
 }
 
 // How many records are left, how many blocks they hold, how many spans were given out, and the version.
@@ -53,89 +42,46 @@ pub struct Expiring {
 // While the first range by stamp, then id, pinned or not, is aged, it is given out whole.
 pub fn store_expire(
     depth: &[usize],
-    node: &mut [usize],
-    start: &mut [usize],
-    end: &mut [usize],
-    id: &mut [u64],
-    stamp: &mut [u64],
-    touched: &mut [f64],
-    write: &mut [u32],
+    ranges: &mut RangesMut,
     marks: &mut [usize],
     bytes: &[u64],
-    out_node: &mut [usize],
-    out_start: &mut [usize],
-    out_end: &mut [usize],
-    out_write: &mut [u32],
-    out_bytes: &mut [u64],
-    out_dead: &mut [u64],
+    outs: &mut OutsMut,
     n: usize,
     held: u64,
     version: u64,
     time: f64,
     seconds: f64,
 ) -> Expiring
-    requires { Ready depth.now bytes.now n held (ranges_of node.old start.old end.old id.old stamp.old touched.old write.old) marks.old
-        (out_list out_node.old out_start.old out_end.old out_write.old out_bytes.old out_dead.old) }
-    ensures { GivenOut
-        (expired (only_depth depth.now) bytes.now time seconds
-        (ranges (ranges_of node.old start.old end.old id.old stamp.old
-        touched.old write.old) 0 n)
-        marks.old)
-        n version
-        (ranges_of node.old start.old end.old id.old stamp.old
-        touched.old write.old)
-        (out_list out_node.old out_start.old out_end.old out_write.old
-        out_bytes.old out_dead.old)
-        (ranges_of node.new start.new end.new id.new stamp.new
-        touched.new write.new)
-        marks.new
-        (out_list out_node.new out_start.new out_end.new out_write.new
-        out_bytes.new out_dead.new)
+    requires { Ready depth.now bytes.now n held (lent ranges.old) marks.old (listed outs.old) }
+    ensures same { SameColumns ranges.old ranges.new }
+    ensures same_outs { SameOuts outs.old outs.new }
+    ensures expired { GivenOut
+        (expired (only_depth depth.now) bytes.now time seconds (rangesOf (lent ranges.old) 0 n) marks.old)
+        n version (lent ranges.old) (listed outs.old) (lent ranges.new) marks.new (listed outs.new)
         result.n result.held result.outs result.version false }
 {
-    let mut left = n;
-    let mut h = held;
-    let mut v = version;
-    let mut k: usize = 0;
-    loop {
-        let Found::At(i) = oldest_aged(&*id, &*stamp, &*touched, left, time, seconds) else {
-            return Expiring {
-                n: left,
-                held: h,
-                outs: k,
-                version: v,
-            };
-        };
-        let g = rule_evict::store_evict_entry(
+    let mut e = Expiring {
+        n,
+        held,
+        outs: 0,
+        version,
+    };
+    while let Some(i) = oldest_aged(ranges.view(), e.n, time, seconds) {
+        let gone = rule_evict::store_evict_entry(
             depth,
-            &mut *node,
-            &mut *start,
-            &mut *end,
-            &mut *id,
-            &mut *stamp,
-            &mut *touched,
-            &mut *write,
-            &mut *marks,
+            ranges,
+            marks,
             bytes,
-            left,
+            e.n,
             i,
-            18446744073709551615,
-            v,
+            u64::MAX,
+            e.version,
         );
-        left = g.n;
-        h -= g.taken as u64;
-        v = g.version;
-        let out = g.out;
-        pool_out::put_out(
-            &mut *out_node,
-            &mut *out_start,
-            &mut *out_end,
-            &mut *out_write,
-            &mut *out_bytes,
-            &mut *out_dead,
-            k,
-            out,
-        );
-        k += 1;
+        outs.put(e.outs, gone.out);
+        e.n = gone.n;
+        e.held -= gone.taken as u64;
+        e.outs += 1;
+        e.version = gone.version;
     }
+    e
 }

@@ -1,4 +1,3 @@
--- The crate's laws that belong to no one function.
+pub mod Laws
 pub mod Missing
 pub mod Part
-pub mod Laws

@@ -1,5 +1,5 @@
 #![tactic(auto)]
-
+// The tree's half of a cut, and the leaf that an insertion adds.
 ghost use Rattle.std.specs.Prelude.{◌≡◌, List, ℕ, ◌+◌, ◌-◌, ◌≤◌, ◌<◌, length, drop};
 ghost use Rattle.model.specs.State.{at};
 ghost use Rattle.model.specs.Store.{lay};
@@ -10,10 +10,7 @@ ghost use Rattle.shape_state.specs.Lent.{tree_of};
 fn adopt(j: usize, m: usize, p: usize) -> usize
     ensures { result ≡ adoptOf j m p }
 {
-    if p == j {
-        return m;
-    }
-    p
+    if p == j { m } else { p }
 }
 
 // The children of j become m's.
@@ -21,10 +18,8 @@ fn reparent(parent: &mut [usize], nodes: usize, j: usize, m: usize)
     requires { (1 ≤ nodes) × (nodes ≤ length parent.old) }
     ensures { parent.new ≡ reparented j m nodes parent.old }
 {
-    let mut i: usize = 1;
-    while i < nodes {
-        parent[i] = adopt(j, m, parent[i]);
-        i += 1;
+    for p in &mut parent[1..nodes] {
+        *p = adopt(j, m, *p);
     }
 }
 
@@ -54,7 +49,7 @@ pub fn cut_tree(
     let d = depth[j] + k;
     let l = len[j] - k;
     let r = run[j] + k;
-    reparent(&mut *parent, nodes, j, nodes);
+    reparent(parent, nodes, j, nodes);
     parent[nodes] = j;
     depth[nodes] = d;
     len[j] = k;
@@ -67,11 +62,8 @@ fn put_words(words: &mut [u64], used: usize, hashes: &[u64], from: usize)
     requires { (from ≤ length hashes.now) × (used + (length hashes.now - from) ≤ length words.old) }
     ensures { words.new ≡ lay 0 used (length (drop from hashes.now)) (drop from hashes.now) words.old }
 {
-    let mut i = from;
-    while i < hashes.len() {
-        words[used + (i - from)] = hashes[i];
-        i += 1;
-    }
+    let rest = &hashes[from..];
+    words[used..used + rest.len()].copy_from_slice(rest);
 }
 
 // One leaf with the rest of the list, below p.

@@ -7,7 +7,8 @@ use native.Mathlib.Omega.{arith}
 use lib.ListN.{length, get_or, drop, length-append, length-map, get_or-append, get_or-map, drop_of_length-le}
 use lib.Seq.{drop-cons}
 use Rattle.model.specs.Sizes.{max_bytes, max_hashes}
-use Rattle.model.specs.State.{State, Tree, at}
+use Rattle.std.specs.Prelude.{Option}
+use Rattle.model.specs.State.{State, Tree, Ranges, at}
 use Rattle.model.specs.Store.{store_of, ranges}
 use Rattle.model.specs.Tree.{Seg, resolve}
 use Rattle.model.specs.Trim.{bytes_of}
@@ -19,10 +20,8 @@ use Rattle.theory_calls.proofs.Fits.{lookup_path-fits}
 use Rattle.rule_resolve.specs.Span.{Priced, only_depth}
 use Rattle.shape_answer.specs.Lists.{path_list_of}
 use Rattle.rule_resolve.proofs.Sound.{sound-priced}
-use Rattle.pool_number.specs.declared.Found.{Found}
-use Rattle.pool_number.specs.Found.{found_of}
 use Rattle.rule_lookup.specs.Tiers.{range_end, Seen}
-use Rattle.rule_lookup.proofs.Laws.{OfColumns}
+use Rattle.rule_lookup.proofs.Laws.{three}
 use Rattle.rule_lookup.proofs.Spans.{span_at}
 
 seg_in : (t : Tree) (ss : List Seg) (d : Seg) (i : ℕ) → SegsIn t ss → i < length ss → SegIn t (get_or ss i d)
@@ -53,13 +52,7 @@ pub record AtSeg (t : Tree) (path : List Seg) (i v z : ℕ) : Type 0 where
   pub ends : z ≤ at t.len v
   pub left : drop i path ≡ seg_at v z ∷ drop (i + 1) path
 
-module _ {ds ns ss es bs rs pns pls : List ℕ} {n : ℕ} {ts : List ℕ} {st : State} {hs : List ℕ} (w : Seen ds ns ss es bs rs (path_list_of pns pls) n ts st hs) where
-  pub nodes-long : n ≤ length pns
-  nodes-long = omega (arith, w.segs, column_long (λ s. s.node) (resolve st.tree hs) w.before.node pns (ap (λ (l : PathList). l.node) w.path))
-
-  pub lens-long : n ≤ length pls
-  lens-long = omega (arith, w.segs, column_long (λ s. s.len) (resolve st.tree hs) w.before.len pls (ap (λ (l : PathList). l.len) w.path))
-
+module _ {ds : List ℕ} {c : Ranges} {bs rs pns pls : List ℕ} {n : ℕ} {ts : List ℕ} {st : State} {hs : List ℕ} (w : Seen ds c bs rs (path_list_of pns pls) n ts st hs) where
   pub seg-at : (i : ℕ) → i < n → AtSeg st.tree (resolve st.tree hs) i (at pns i) (at pls i)
   seg-at i h =
       let path = resolve st.tree hs in
@@ -78,7 +71,7 @@ module _ {ds ns ss es bs rs pns pls : List ℕ} {n : ℕ} {ts : List ℕ} {st : 
   path-past i h = let long : length (resolve st.tree hs) ≤ i = omega (arith, w.segs) in drop_of_length-le (resolve st.tree hs) long
 
   -- what a tier's store asks for
-  pub tier_asks : (t : ℕ) → t < length ts → (at ts t < 8) × (at rs (at ts t) ≤ 128) × (1024 ≤ length ns) × (1024 ≤ length ss) × (1024 ≤ length es)
+  pub tier_asks : (t : ℕ) → t < length ts → (at ts t < 8) × (at rs (at ts t) ≤ 128) × (1024 ≤ length c.node) × (1024 ≤ length c.start) × (1024 ≤ length c.end)
   tier_asks t h =
       let s = w.stores t (omega arith) h in
       let small : at ts t < 8 = omega (arith, w.sound.counts.stores) in
@@ -91,12 +84,12 @@ module _ {ds ns ss es bs rs pns pls : List ℕ} {n : ℕ} {ts : List ℕ} {st : 
       )
 
   -- what it tells, in the state
-  pub tier-tells : (t v o : ℕ) (r : Found) → t < length ts
-      → OfColumns ns ss es (λ c. found_of r ≡ range_end v o (ranges c (128 * at ts t) (at rs (at ts t))))
-      → found_of r ≡ range_end v o (store_of st (at ts t)).ranges
+  pub tier-tells : (t v o : ℕ) (r : Option ℕ) → t < length ts → r ≡ range_end v o (ranges c (128 * at ts t) (at rs (at ts t)))
+      → r ≡ range_end v o (store_of st (at ts t)).ranges
   unfolding store_of
   tier-tells t v o r h f =
-      f st.ranges w.node w.start w.end
+      f
+      ∙ sym (three v o st.ranges c (128 * at ts t) (at rs (at ts t)) w.node w.start w.end)
       ∙ ap (λ (n : ℕ). range_end v o (ranges st.ranges (128 * at ts t) n)) (w.records (at ts t) (omega arith) (tier_asks t h).0)
 
   module _ (v o e z : ℕ) (in_use : v < st.tree.nodes) (ends : z ≤ at st.tree.len v) (order : o ≤ e) (within : e ≤ z) where

@@ -4,7 +4,7 @@ use Prim.Native.Nat.{ℕ, zero, suc, ◌+◌, ◌-◌, ◌*◌, ◌≤◌, ◌<�
 use mathlib.Core.Bool.{Bool, true, false}
 use mathlib.Core.List.{List, [], ◌∷◌, ◌++◌, map, append-nil, map-append}
 use mathlib.Core.Logic.{◌⊎◌, inl, inr, ⊎_elim}
-use mathlib.Core.Option.{Option, none, some}
+use Rattle.std.specs.Prelude.{Option, None, Some}
 use mathlib.Core.Path.{◌≡◌, refl, sym, ap, ◌∙◌, subst}
 use native.Mathlib.Numerals.{add-one}
 use native.Mathlib.Omega.{arith}
@@ -32,34 +32,34 @@ span_at t n o e = record { tier = t; node = n; start = o; end = e }
 
 tier-turn : (st : State) (ts : List ℕ) (t v o z e : ℕ) (b : Bool) → t < length ts → reach v o z (store_of st (at ts t)).ranges ≡ e → ltb o e ≡ b
     → first_tier st t (drop t ts) v o z
-    ≡ elim b as (λ x. Option TierSpan) [ true ↦ some (span_at t v o e) | false ↦ first_tier st (suc t) (drop (suc t) ts) v o z ]
+    ≡ elim b as (λ x. Option TierSpan) [ true ↦ Some (span_at t v o e) | false ↦ first_tier st (suc t) (drop (suc t) ts) v o z ]
 unfolding first_tier
 tier-turn st ts t v o z e b l p q =
     ap (λ (ss : List ℕ). first_tier st t ss v o z) (drop-cons ts t 0 l)
-    ∙ ap (λ (x : ℕ). elim (ltb o x) as (λ y. Option TierSpan) [ true ↦ some (span_at t v o x) | false ↦ first_tier st (suc t) (drop (suc t) ts) v o z ]) p
-    ∙ ap (λ (y : Bool). elim y as (λ y. Option TierSpan) [ true ↦ some (span_at t v o e) | false ↦ first_tier st (suc t) (drop (suc t) ts) v o z ]) q
+    ∙ ap (λ (x : ℕ). elim (ltb o x) as (λ y. Option TierSpan) [ true ↦ Some (span_at t v o x) | false ↦ first_tier st (suc t) (drop (suc t) ts) v o z ]) p
+    ∙ ap (λ (y : Bool). elim y as (λ y. Option TierSpan) [ true ↦ Some (span_at t v o e) | false ↦ first_tier st (suc t) (drop (suc t) ts) v o z ]) q
 
 module _ (st : State) (ts : List ℕ) (t v o z : ℕ) (l : t < length ts) where
-  pub tier-here : (e : ℕ) → o < z → range_end v o (store_of st (at ts t)).ranges ≡ some e → first_tier st t (drop t ts) v o z ≡ some (span_at t v o (min e z))
+  pub tier-here : (e : ℕ) → o < z → range_end v o (store_of st (at ts t)).ranges ≡ Some e → first_tier st t (drop t ts) v o z ≡ Some (span_at t v o (min e z))
   tier-here e h p =
       let past : o < min e z = omega (arith, end-past v o e (store_of st (at ts t)).ranges p) in
       tier-turn st ts t v o z (min e z) true l (reach-some v o z e (store_of st (at ts t)).ranges p) (lt-ltb o (min e z) past)
 
-  pub tier-more : range_end v o (store_of st (at ts t)).ranges ≡ none → first_tier st t (drop t ts) v o z ≡ first_tier st (t + 1) (drop (t + 1) ts) v o z
+  pub tier-more : range_end v o (store_of st (at ts t)).ranges ≡ None → first_tier st t (drop t ts) v o z ≡ first_tier st (t + 1) (drop (t + 1) ts) v o z
   tier-more p =
       rw add-one (tier-turn st ts t v o z o false l (reach-none v o z (store_of st (at ts t)).ranges p) (le-ltb o o (omega arith)))
 
-pub tier-last : (st : State) (ts : List ℕ) (t v o z : ℕ) → length ts ≤ t → first_tier st t (drop t ts) v o z ≡ none
+pub tier-last : (st : State) (ts : List ℕ) (t v o z : ℕ) → length ts ≤ t → first_tier st t (drop t ts) v o z ≡ None
 unfolding first_tier
 tier-last st ts t v o z l = ap (λ (ss : List ℕ). first_tier st t ss v o z) (drop_of_length-le ts l)
 
 -- past a segment's end there is none
-tier-past : (st : State) (t : ℕ) (ts : List ℕ) (v o z : ℕ) → z ≤ o → first_tier st t ts v o z ≡ none
+tier-past : (st : State) (t : ℕ) (ts : List ℕ) (v o z : ℕ) → z ≤ o → first_tier st t ts v o z ≡ None
 unfolding first_tier
 tier-past st t [] v o z h = refl
 tier-past st t (s ∷ ss) v o z h =
     let e = reach v o z (store_of st s).ranges in
-    ap (λ (b : Bool). elim b as (λ x. Option TierSpan) [ true ↦ some (span_at t v o e) | false ↦ first_tier st (suc t) ss v o z ])
+    ap (λ (b : Bool). elim b as (λ x. Option TierSpan) [ true ↦ Some (span_at t v o e) | false ↦ first_tier st (suc t) ss v o z ])
     (le-ltb o e (reach-within v o z (store_of st s).ranges h))
     ∙ tier-past st (suc t) ss v o z h
 
@@ -74,13 +74,13 @@ abbrev pub left_at : State → List ℕ → ℕ → ℕ → ℕ → ℕ → List
 left_at st ts v z more o later = up_to (along st ts v z more o (first_tier st 0 ts v o z)) z later
 
 module _ (st : State) (ts : List ℕ) (v z : ℕ) (later : List TierSpan) where
-  along-none : (more o : ℕ) → first_tier st 0 ts v o z ≡ none → along st ts v z more o (first_tier st 0 ts v o z) ≡ record { spans = []; stop = o }
+  along-none : (more o : ℕ) → first_tier st 0 ts v o z ≡ None → along st ts v z more o (first_tier st 0 ts v o z) ≡ record { spans = []; stop = o }
   unfolding along
   along-none zero o e = refl
   along-none (suc more) o e = ap (λ (f : Option TierSpan). along st ts v z (suc more) o f) e
 
   -- no tier holds the offset
-  pub left-none : (more o : ℕ) → o < z → first_tier st 0 ts v o z ≡ none → left_at st ts v z more o later ≡ []
+  pub left-none : (more o : ℕ) → o < z → first_tier st 0 ts v o z ≡ None → left_at st ts v z more o later ≡ []
   left-none more o h e =
       ap (λ (l : Looked). up_to l z later) (along-none more o e)
       ∙ ap (λ (b : Bool). elim b as (λ x. List TierSpan) [ true ↦ later | false ↦ [] ]) (ne_eqb o z (λ q. omega arith))
@@ -92,7 +92,7 @@ module _ (st : State) (ts : List ℕ) (v z : ℕ) (later : List TierSpan) where
       ∙ ap (λ (b : Bool). elim b as (λ x. List TierSpan) [ true ↦ later | false ↦ [] ]) (eq-eqb o z h)
 
   -- a tier holds it
-  pub left-more : (more o t e : ℕ) → first_tier st 0 ts v o z ≡ some (span_at t v o e)
+  pub left-more : (more o t e : ℕ) → first_tier st 0 ts v o z ≡ Some (span_at t v o e)
       → left_at st ts v z (suc more) o later ≡ span_at t v o e ∷ left_at st ts v z more e later
   unfolding along
   left-more more o t e p =

@@ -2,13 +2,12 @@
 -- the lists and sums with which the segment began. Assumes nothing.
 use Prim.Native.Nat.{ℕ, zero, suc, ◌+◌, ◌-◌, ◌*◌, ◌≤◌, ◌<◌, min}
 use mathlib.Core.List.{List, ◌∷◌}
-use mathlib.Core.Logic.{◌⊎◌, inl, inr}
-use mathlib.Core.Option.{none, some}
+use Rattle.std.specs.Prelude.{Option, None, Some}
 use mathlib.Core.Path.{◌≡◌, refl, sym, ap, ◌∙◌}
 use native.Mathlib.Omega.{arith}
 use lib.ListN.{length, drop, set, replicate}
 use Rattle.model.specs.Sizes.{max_bytes}
-use Rattle.model.specs.State.{State, at}
+use Rattle.model.specs.State.{State, Ranges, at}
 use Rattle.model.specs.Store.{store_of, ranges}
 use Rattle.model.specs.Tree.{resolve}
 use Rattle.model.specs.Trim.{bytes_of}
@@ -16,12 +15,9 @@ use Rattle.model.specs.Lookup.{TierSpan, first_tier, lookup_path}
 use Rattle.model.specs.Refusals.{TierList, TierFits}
 use Rattle.rule_resolve.specs.Span.{only_depth}
 use Rattle.shape_answer.specs.Lists.{path_list_of}
-use Rattle.pool_number.specs.declared.Found.{Found}
-use Rattle.pool_number.specs.declared.Found.TheVariants.{At, Nothing}
-use Rattle.pool_number.specs.Found.{found_of}
 use Rattle.rule_lookup.specs.Tiers.{range_end, Seen, Told}
 use Rattle.shape_answer.specs.Lists.{tier_list_of}
-use Rattle.rule_lookup.proofs.Laws.{OfColumns, end-past}
+use Rattle.rule_lookup.proofs.Laws.{end-past}
 use Rattle.rule_lookup.proofs.Spans.{span_at, tier-here, tier-more, tier-last, left_at, left-none, left_end, left-more, path-none, path-more, Looking, look_start, look_as, look_end, look_room, look_more_lem, look_blocks, look_bytes, Room}
 use Rattle.rule_lookup.proofs.Seen.{seg_at, seg-at, path-past, tier-tells, bytes-few, blocks-few, bytes-are, few-spans}
 
@@ -50,11 +46,11 @@ pub record Inner (S : State → List ℕ → Type 0) (ts : List ℕ) (i v z : �
   pub left : (st : State) (hs : List ℕ) → S st hs → (l₀ : TierList) → Looks st ts hs l₀ i n₁ bs₁ ys₁ l₁ → Left st ts hs l₀ i v z o n bs ys l
 
 -- a sound state of which these columns are seen
-abbrev pub Sees : (ds ns ss es bs rs pns pls : List ℕ) (segs : ℕ) (ts : List ℕ) → State → List ℕ → Type 0
-Sees ds ns ss es bs rs pns pls segs ts = Seen ds ns ss es bs rs (path_list_of pns pls) segs ts
+abbrev pub Sees : (ds : List ℕ) (c : Ranges) (bs rs pns pls : List ℕ) (segs : ℕ) (ts : List ℕ) → State → List ℕ → Type 0
+Sees ds c bs rs pns pls segs ts = Seen ds c bs rs (path_list_of pns pls) segs ts
 
-module _ {ds ns ss es bs rs pns pls : List ℕ} {segs : ℕ} {ts : List ℕ} where
-  pub inner_start : {i : ℕ} {l : TierList} {n : ℕ} {cs ys : List ℕ} → i < segs → Inner (Sees ds ns ss es bs rs pns pls segs ts) ts i (at pns i) (at pls i) l n cs ys l n cs ys 0
+module _ {ds : List ℕ} {c : Ranges} {bs rs pns pls : List ℕ} {segs : ℕ} {ts : List ℕ} where
+  pub inner_start : {i : ℕ} {l : TierList} {n : ℕ} {cs ys : List ℕ} → i < segs → Inner (Sees ds c bs rs pns pls segs ts) ts i (at pns i) (at pls i) l n cs ys l n cs ys 0
   inner_start {i} h =
       record {
         within = omega arith;
@@ -72,7 +68,7 @@ module _ {ds ns ss es bs rs pns pls : List ℕ} {segs : ℕ} {ts : List ℕ} whe
 
   -- the segment's end
   pub outer_turn : {i v z : ℕ} {l₀ l₁ l : TierList} {n₁ n o : ℕ} {cs₁ ys₁ cs ys : List ℕ}
-      → Outer (Sees ds ns ss es bs rs pns pls segs ts) ts l₀ l₁ n₁ cs₁ ys₁ i → Inner (Sees ds ns ss es bs rs pns pls segs ts) ts i v z l₁ n₁ cs₁ ys₁ l n cs ys o → z ≤ o → Outer (Sees ds ns ss es bs rs pns pls segs ts) ts l₀ l n cs ys (i + 1)
+      → Outer (Sees ds c bs rs pns pls segs ts) ts l₀ l₁ n₁ cs₁ ys₁ i → Inner (Sees ds c bs rs pns pls segs ts) ts i v z l₁ n₁ cs₁ ys₁ l n cs ys o → z ≤ o → Outer (Sees ds c bs rs pns pls segs ts) ts l₀ l n cs ys (i + 1)
   outer_turn {i} {v} {z} {l₀} {o = o} a b h =
       record {
         looks =
@@ -82,8 +78,8 @@ module _ {ds ns ss es bs rs pns pls : List ℕ} {segs : ℕ} {ts : List ℕ} whe
       }
 
   -- the path's end
-  pub outer_end : {l₀ l : TierList} {n i : ℕ} {cs ys : List ℕ} → Outer (Sees ds ns ss es bs rs pns pls segs ts) ts l₀ l n cs ys i → segs ≤ i
-      → (st : State) (hs : List ℕ) → Sees ds ns ss es bs rs pns pls segs ts st hs → Told st ts hs l₀ l (record { spans = n; blocks = cs; bytes = ys })
+  pub outer_end : {l₀ l : TierList} {n i : ℕ} {cs ys : List ℕ} → Outer (Sees ds c bs rs pns pls segs ts) ts l₀ l n cs ys i → segs ≤ i
+      → (st : State) (hs : List ℕ) → Sees ds c bs rs pns pls segs ts st hs → Told st ts hs l₀ l (record { spans = n; blocks = cs; bytes = ys })
   outer_end {i = i} a h st hs seen =
       look_end (look_as (ap (lookup_path st ts) (path-past seen i h) ∙ path-none st ts) (a.looks st hs seen))
 
@@ -101,58 +97,45 @@ pub record Holding (S : State → List ℕ → Type 0) (ts : List ℕ) (v o z t 
   pub past : o < e
   pub within : e ≤ z
   pub tier : t < length ts
-  pub is : (st : State) (hs : List ℕ) → S st hs → first_tier st 0 ts v o z ≡ some (span_at t v o e)
+  pub is : (st : State) (hs : List ℕ) → S st hs → first_tier st 0 ts v o z ≡ Some (span_at t v o e)
 
-pub record Missing (S : State → List ℕ → Type 0) (ts : List ℕ) (v o z e : ℕ) : Type 0 where
-  pub stays : e ≡ o
-  pub is : (st : State) (hs : List ℕ) → S st hs → first_tier st 0 ts v o z ≡ none
+pub record Missing (S : State → List ℕ → Type 0) (ts : List ℕ) (v o z : ℕ) : Type 0 where
+  pub is : (st : State) (hs : List ℕ) → S st hs → first_tier st 0 ts v o z ≡ None
 
-abbrev pub Answered : (State → List ℕ → Type 0) → List ℕ → ℕ → ℕ → ℕ → ℕ → ℕ → Type 0
-Answered S ts v o z t e = Missing S ts v o z e ⊎ Holding S ts v o z t e
+pub pass_end : {S : State → List ℕ → Type 0} {ts : List ℕ} {v o z t : ℕ} → Passing S ts v o z t → length ts ≤ t → Missing S ts v o z
+pass_end {ts = ts} {v} {o} {z} {t} p h = record { is = λ st hs seen. sym (p.same st hs seen) ∙ tier-last st ts t v o z h }
 
-pub pass_end : {S : State → List ℕ → Type 0} {ts : List ℕ} {v o z t e : ℕ} → Passing S ts v o z t → length ts ≤ t → e ≡ o → Missing S ts v o z e
-pass_end {ts = ts} {v} {o} {z} {t} p h q = record { stays = q; is = λ st hs seen. sym (p.same st hs seen) ∙ tier-last st ts t v o z h }
-
-module _ {ds ns ss es bs rs pns pls : List ℕ} {segs : ℕ} {ts : List ℕ} {v o z t : ℕ} (r : Found)
-    (p : Passing (Sees ds ns ss es bs rs pns pls segs ts) ts v o z t) (l : t < length ts)
-    (tells : OfColumns ns ss es (λ c. found_of r ≡ range_end v o (ranges c (128 * at ts t) (at rs (at ts t))))) where
-  pub pass_more : r ≡ Nothing → Passing (Sees ds ns ss es bs rs pns pls segs ts) ts v o z (t + 1)
+module _ {ds : List ℕ} {c : Ranges} {bs rs pns pls : List ℕ} {segs : ℕ} {ts : List ℕ} {v o z t : ℕ} (r : Option ℕ)
+    (p : Passing (Sees ds c bs rs pns pls segs ts) ts v o z t) (l : t < length ts)
+    (tells : r ≡ range_end v o (ranges c (128 * at ts t) (at rs (at ts t)))) where
+  pub pass_more : r ≡ None → Passing (Sees ds c bs rs pns pls segs ts) ts v o z (t + 1)
   pass_more q =
       record {
         within = omega arith;
         same =
             λ st hs seen.
-            sym (tier-more st ts t v o z l (sym (tier-tells seen t v o r l tells) ∙ ap found_of q)) ∙ p.same st hs seen;
+            sym (tier-more st ts t v o z l (sym (tier-tells seen t v o r l tells) ∙ q)) ∙ p.same st hs seen;
       }
 
   -- that the range ends past o is known of one state that is seen, and so of the numbers
-  pub pass_here : (e m : ℕ) → r ≡ At e → m ≡ min e z → o < z → (st : State) (hs : List ℕ) → Sees ds ns ss es bs rs pns pls segs ts st hs → Holding (Sees ds ns ss es bs rs pns pls segs ts) ts v o z t m
+  pub pass_here : (e m : ℕ) → r ≡ Some e → m ≡ min e z → o < z → (st : State) (hs : List ℕ) → Sees ds c bs rs pns pls segs ts st hs → Holding (Sees ds c bs rs pns pls segs ts) ts v o z t m
   pass_here e m q k h st hs seen =
-      let told : (st : State) (hs : List ℕ) → Sees ds ns ss es bs rs pns pls segs ts st hs → range_end v o (store_of st (at ts t)).ranges ≡ some e =
-      λ st hs seen. sym (tier-tells seen t v o r l tells) ∙ ap found_of q in
+      let told : (st : State) (hs : List ℕ) → Sees ds c bs rs pns pls segs ts st hs → range_end v o (store_of st (at ts t)).ranges ≡ Some e =
+      λ st hs seen. sym (tier-tells seen t v o r l tells) ∙ q in
       record {
         past = omega (arith, end-past v o e (store_of st (at ts t)).ranges (told st hs seen));
         within = omega arith;
         tier = l;
-        is = λ st hs seen. sym (p.same st hs seen) ∙ tier-here st ts t v o z l e h (told st hs seen) ∙ ap (λ (x : ℕ). some (span_at t v o x)) (sym k);
+        is = λ st hs seen. sym (p.same st hs seen) ∙ tier-here st ts t v o z l e h (told st hs seen) ∙ ap (λ (x : ℕ). Some (span_at t v o x)) (sym k);
       }
 
 -- the same where the search for a range has told of one
-pub taken : {ds ns ss es bs rs pns pls : List ℕ} {segs : ℕ} {ts : List ℕ} {v o z t e m n : ℕ}
-    → (st : State) × (hs : List ℕ) × Sees ds ns ss es bs rs pns pls segs ts st hs
-    → Passing (Sees ds ns ss es bs rs pns pls segs ts) ts v o z t → t < length ts
-    → OfColumns ns ss es (λ c. found_of (At e) ≡ range_end v o (ranges c (128 * at ts t) (at rs (at ts t))))
-    → n ≡ m → m ≡ min e z → o < z → Holding (Sees ds ns ss es bs rs pns pls segs ts) ts v o z t n
-taken {e = e} {n = n} seen p l tells a b h = pass_here (At e) p l tells e n refl (a ∙ b) h seen.0 seen.1 seen.2
-
--- the one or the other, by whether the end moved
-pub moved : {S : State → List ℕ → Type 0} {ts : List ℕ} {v o z t e : ℕ} → Answered S ts v o z t e → (e ≡ o → ⊥) → Holding S ts v o z t e
-moved (inl a) f = absurd (f a.stays)
-moved (inr a) f = a
-
-pub stayed : {S : State → List ℕ → Type 0} {ts : List ℕ} {v o z t e : ℕ} → Answered S ts v o z t e → e ≡ o → Missing S ts v o z e
-stayed (inl a) q = a
-stayed (inr a) q = absurd (omega (arith, a.past))
+pub taken : {ds : List ℕ} {c : Ranges} {bs rs pns pls : List ℕ} {segs : ℕ} {ts : List ℕ} {v o z t e m : ℕ}
+    → (st : State) × (hs : List ℕ) × Sees ds c bs rs pns pls segs ts st hs
+    → Passing (Sees ds c bs rs pns pls segs ts) ts v o z t → t < length ts
+    → Some e ≡ range_end v o (ranges c (128 * at ts t) (at rs (at ts t)))
+    → m ≡ min e z → o < z → Holding (Sees ds c bs rs pns pls segs ts) ts v o z t m
+taken {e = e} {m} seen p l tells k h = pass_here (Some e) p l tells e m refl k h seen.0 seen.1 seen.2
 
 -- ---- one turn of the loop over offsets
 
@@ -161,23 +144,23 @@ pub record Turn (l : TierList) (n : ℕ) (cs ys : List ℕ) (o t e : ℕ) : Type
   pub few : n < 1024
   pub room : Room n l
   pub tier : t < 8
-  pub blocks : at cs t ≤ 1048576
+  pub covered : at cs t ≤ 1048576
   pub bytes : at ys t ≤ max_bytes * 1024
   pub span : e - o ≤ 1024
 
-module _ {ds ns ss es bs rs pns pls : List ℕ} {segs : ℕ} {ts : List ℕ} {i : ℕ} {l₁ : TierList} {n₁ : ℕ} {cs₁ ys₁ : List ℕ} {n o : ℕ} {cs ys : List ℕ} where
+module _ {ds : List ℕ} {c : Ranges} {bs rs pns pls : List ℕ} {segs : ℕ} {ts : List ℕ} {i : ℕ} {l₁ : TierList} {n₁ : ℕ} {cs₁ ys₁ : List ℕ} {n o : ℕ} {cs ys : List ℕ} where
   -- no tier holds the offset: the walk stops
-  pub stops : {l₀ l : TierList} {e : ℕ} → Outer (Sees ds ns ss es bs rs pns pls segs ts) ts l₀ l₁ n₁ cs₁ ys₁ i → Inner (Sees ds ns ss es bs rs pns pls segs ts) ts i (at pns i) (at pls i) l₁ n₁ cs₁ ys₁ l n cs ys o → o < at pls i
-      → Missing (Sees ds ns ss es bs rs pns pls segs ts) ts (at pns i) o (at pls i) e
-      → (st : State) (hs : List ℕ) → Sees ds ns ss es bs rs pns pls segs ts st hs → Told st ts hs l₀ l (record { spans = n; blocks = cs; bytes = ys })
-  stops {l₀} {l} {e} a b h q st hs seen =
+  pub stops : {l₀ l : TierList} → Outer (Sees ds c bs rs pns pls segs ts) ts l₀ l₁ n₁ cs₁ ys₁ i → Inner (Sees ds c bs rs pns pls segs ts) ts i (at pns i) (at pls i) l₁ n₁ cs₁ ys₁ l n cs ys o → o < at pls i
+      → Missing (Sees ds c bs rs pns pls segs ts) ts (at pns i) o (at pls i)
+      → (st : State) (hs : List ℕ) → Sees ds c bs rs pns pls segs ts st hs → Told st ts hs l₀ l (record { spans = n; blocks = cs; bytes = ys })
+  stops {l₀} {l} a b h q st hs seen =
       let w = b.left st hs seen l₀ (a.looks st hs seen) in
       look_end
       (look_as (left-none st ts (at pns i) (at pls i) (lookup_path st ts (drop (i + 1) (resolve st.tree hs))) w.more o h (q.is st hs seen)) w.looking)
 
   -- tier t holds it up to e: what is left begins with this span
-  pub next : {l₀ l : TierList} {t e : ℕ} → Inner (Sees ds ns ss es bs rs pns pls segs ts) ts i (at pns i) (at pls i) l₁ n₁ cs₁ ys₁ l n cs ys o → o < at pls i
-      → Holding (Sees ds ns ss es bs rs pns pls segs ts) ts (at pns i) o (at pls i) t e → (st : State) (hs : List ℕ) → Sees ds ns ss es bs rs pns pls segs ts st hs → Looks st ts hs l₀ i n₁ cs₁ ys₁ l₁
+  pub next : {l₀ l : TierList} {t e : ℕ} → Inner (Sees ds c bs rs pns pls segs ts) ts i (at pns i) (at pls i) l₁ n₁ cs₁ ys₁ l n cs ys o → o < at pls i
+      → Holding (Sees ds c bs rs pns pls segs ts) ts (at pns i) o (at pls i) t e → (st : State) (hs : List ℕ) → Sees ds c bs rs pns pls segs ts st hs → Looks st ts hs l₀ i n₁ cs₁ ys₁ l₁
       → (more : ℕ) × (at pls i ≤ e + more)
       × Looking st ts hs l₀ (span_at t (at pns i) o e ∷ left_at st ts (at pns i) (at pls i) more e (lookup_path st ts (drop (i + 1) (resolve st.tree hs)))) n cs ys l
   next {l₀} {l} {t} {e} b h q st hs seen a = go w.more w.enough w.looking
@@ -199,9 +182,9 @@ module _ {ds ns ss es bs rs pns pls : List ℕ} {segs : ℕ} {ts : List ℕ} {i 
       go zero f k = absurd (omega arith)
       go (suc m) f k = (m, omega (arith, q.past), look_as (left-more st ts v z later m o t e (q.is st hs seen)) k)
 
-  pub turn : {l₀ l : TierList} {t e : ℕ} → TierFits l₀ → Outer (Sees ds ns ss es bs rs pns pls segs ts) ts l₀ l₁ n₁ cs₁ ys₁ i → i < segs
-      → Inner (Sees ds ns ss es bs rs pns pls segs ts) ts i (at pns i) (at pls i) l₁ n₁ cs₁ ys₁ l n cs ys o → o < at pls i → Holding (Sees ds ns ss es bs rs pns pls segs ts) ts (at pns i) o (at pls i) t e
-      → (st : State) (hs : List ℕ) → Sees ds ns ss es bs rs pns pls segs ts st hs → Turn l n cs ys o t e
+  pub turn : {l₀ l : TierList} {t e : ℕ} → TierFits l₀ → Outer (Sees ds c bs rs pns pls segs ts) ts l₀ l₁ n₁ cs₁ ys₁ i → i < segs
+      → Inner (Sees ds c bs rs pns pls segs ts) ts i (at pns i) (at pls i) l₁ n₁ cs₁ ys₁ l n cs ys o → o < at pls i → Holding (Sees ds c bs rs pns pls segs ts) ts (at pns i) o (at pls i) t e
+      → (st : State) (hs : List ℕ) → Sees ds c bs rs pns pls segs ts st hs → Turn l n cs ys o t e
   turn {l₀} {l} {t} {e} fits a less b h q st hs seen =
       let w = (next {t = t} {e = e} b h q st hs seen (a.looks st hs seen)).2 in
       let s = seg-at seen i less in
@@ -216,17 +199,28 @@ module _ {ds ns ss es bs rs pns pls : List ℕ} {segs : ℕ} {ts : List ℕ} {i 
           end = omega (arith, fits.end, w.long.end);
         };
         tier = small;
-        blocks = omega (arith, look_blocks w t small);
+        covered = omega (arith, look_blocks w t small);
         bytes = omega (arith, look_bytes w t small);
         span = blocks-few seen (at pns i) o e (at pls i) s.node s.ends (omega (arith, q.past)) q.within;
       }
 
-  pub inner_turn : {a b c d : List ℕ} {t e x : ℕ} → i < segs
-      → Inner (Sees ds ns ss es bs rs pns pls segs ts) ts i (at pns i) (at pls i) l₁ n₁ cs₁ ys₁ (tier_list_of a b c d) n cs ys o → o < at pls i → Holding (Sees ds ns ss es bs rs pns pls segs ts) ts (at pns i) o (at pls i) t e
-      → Room n (tier_list_of a b c d) → x ≡ bytes_of (only_depth ds) bs (at pns i) o e
-      → Inner (Sees ds ns ss es bs rs pns pls segs ts) ts i (at pns i) (at pls i) l₁ n₁ cs₁ ys₁ (tier_list_of (set a n t) (set b n (at pns i)) (set c n o) (set d n e)) (n + 1)
+  -- both, from what the loop over tiers tells
+  pub taken_turn : {l₀ l : TierList} {t e m : ℕ} → (st : State) × (hs : List ℕ) × Sees ds c bs rs pns pls segs ts st hs → TierFits l₀
+      → Outer (Sees ds c bs rs pns pls segs ts) ts l₀ l₁ n₁ cs₁ ys₁ i → i < segs
+      → Inner (Sees ds c bs rs pns pls segs ts) ts i (at pns i) (at pls i) l₁ n₁ cs₁ ys₁ l n cs ys o → o < at pls i
+      → Passing (Sees ds c bs rs pns pls segs ts) ts (at pns i) o (at pls i) t → t < length ts
+      → Some e ≡ range_end (at pns i) o (ranges c (128 * at ts t) (at rs (at ts t))) → m ≡ min e (at pls i)
+      → Holding (Sees ds c bs rs pns pls segs ts) ts (at pns i) o (at pls i) t m × Turn l n cs ys o t m
+  taken_turn seen fits a less b h p l tells k =
+      let held = taken seen p l tells k h in
+      (held, turn fits a less b h held seen.0 seen.1 seen.2)
+
+  pub inner_turn : {tier node start end : List ℕ} {t e x : ℕ} → i < segs
+      → Inner (Sees ds c bs rs pns pls segs ts) ts i (at pns i) (at pls i) l₁ n₁ cs₁ ys₁ (tier_list_of tier node start end) n cs ys o → o < at pls i → Holding (Sees ds c bs rs pns pls segs ts) ts (at pns i) o (at pls i) t e
+      → Room n (tier_list_of tier node start end) → x ≡ bytes_of (only_depth ds) bs (at pns i) o e
+      → Inner (Sees ds c bs rs pns pls segs ts) ts i (at pns i) (at pls i) l₁ n₁ cs₁ ys₁ (tier_list_of (set tier n t) (set node n (at pns i)) (set start n o) (set end n e)) (n + 1)
       (set cs t (at cs t + (e - o))) (set ys t (at ys t + x)) e
-  inner_turn {a} {b} {c} {d} {t} {e} {x} less inn h q room is =
+  inner_turn {tier} {node} {start} {end} {t} {e} {x} less inn h q room is =
       record {
         within = q.within;
         left =

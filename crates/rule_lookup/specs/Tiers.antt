@@ -1,9 +1,8 @@
 -- Where the range that holds a block ends; what a walk through tiers asks of the lent columns, and what it answers. Assumes nothing.
-use Rattle.std.specs.Prelude.{ℕ, ◌≤◌, ◌<◌, Bool, true, false, ◌&&◌, ◌≡◌, List, [], ◌∷◌, length, ltb, leb, eqb}
-use Rattle.std.proofs.Math.Option.{Option, none, some}
+use Rattle.std.specs.Prelude.{ℕ, ◌≤◌, ◌<◌, true, false, ◌≡◌, List, [], ◌∷◌, length, Option, None, Some}
 use Rattle.model.specs.Words.{Each}
 use Rattle.model.specs.Sizes.{max_hashes, max_stores, max_tiers}
-use Rattle.model.specs.State.{State, Range, at, stores_of, records_of}
+use Rattle.model.specs.State.{State, Ranges, Range, at, stores_of, records_of}
 use Rattle.model.specs.Sound.{Sound}
 use Rattle.model.specs.Tree.{resolve}
 use Rattle.model.specs.Lookup.{holds, lookup_path, span_blocks, span_bytes, tier_sums}
@@ -13,25 +12,21 @@ use Rattle.rule_lookup.specs.declared.LookupParts.{LookupParts}
 
 -- ---- one store
 
--- does the record at place i hold block o of node v?
-abbrev pub held_at : List ℕ → List ℕ → List ℕ → ℕ → ℕ → ℕ → Bool
-held_at node start end v o i = eqb (at node i) v && (leb (at start i) o && ltb o (at end i))
-
 -- the end of the first range that holds block o of node v
 unfoldable pub range_end : ℕ → ℕ → List Range → Option ℕ
-range_end v o [] = none
-range_end v o (r ∷ rs) = elim (holds v o r) [ true ↦ some r.end | false ↦ range_end v o rs ]
+range_end v o [] = None
+range_end v o (r ∷ rs) = elim (holds v o r) [ true ↦ Some r.end | false ↦ range_end v o rs ]
 
 -- ---- along a path
 
--- a sound state of which these columns are lent, its stores' record counts, tiers that are stores of it, and the path of a list in its tree, which stands
--- in front of the path lists
-pub record Seen (ds ns ss es bs rs : List ℕ) (p : PathList) (n : ℕ) (ts : List ℕ) (st : State) (hs : List ℕ) : Type 0 where
+-- a sound state of which these columns are lent (of the ranges the first three), its stores' record counts, tiers that are stores of it, and the path of
+-- a list in its tree, which stands in front of the path lists
+pub record Seen (ds : List ℕ) (c : Ranges) (bs rs : List ℕ) (p : PathList) (n : ℕ) (ts : List ℕ) (st : State) (hs : List ℕ) : Type 0 where
   pub sound : Sound st
   pub depth : st.tree.depth ≡ ds
-  pub node : st.ranges.node ≡ ns
-  pub start : st.ranges.start ≡ ss
-  pub end : st.ranges.end ≡ es
+  pub node : st.ranges.node ≡ c.node
+  pub start : st.ranges.start ≡ c.start
+  pub end : st.ranges.end ≡ c.end
   pub bytes : st.bytes ≡ bs
   pub records : Each 0 max_stores (λ s. at rs s ≡ records_of st s)
   pub stores : Each 0 (length ts) (λ i. at ts i < stores_of st)

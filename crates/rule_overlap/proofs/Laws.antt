@@ -12,7 +12,6 @@ use lib.Ieee.{Float, nan}
 use borrow.Author.Tests.{le-ltb, lt-ltb, leb-true}
 use Rattle.model.specs.declared.Span.{Span}
 use Rattle.model.specs.Sizes.{max_bytes, max_stamp}
-use Rattle.model.specs.Words.{Each}
 use Rattle.model.specs.State.{Tree, Ranges, Range, at, range_at, book_from}
 use Rattle.model.specs.SetUp.{policy}
 use Rattle.model.specs.Store.{Store, ranges, lay_ranges, meets, plus, part}
@@ -22,7 +21,8 @@ use Rattle.model.specs.Remove.{middle_cuts, remove}
 use Rattle.shape_state.specs.Lent.{ranges_of}
 use Rattle.theory_lay.proofs.Rows.{ranges_length}
 use Rattle.theory_touch.proofs.Bools.{and_true}
-use Rattle.theory_touch.proofs.Recut.{met}
+use Rattle.pool_range.specs.declared.RangesMut.{RangesMut}
+use Rattle.pool_range.specs.Lent.{SameColumns}
 use Rattle.pool_range.specs.Part.{Sized, put_range, cut_range}
 use Rattle.pool_range.proofs.Records.{put-laid, cut-laid}
 use Rattle.rule_resolve.specs.Span.{Priced, only_depth}
@@ -31,21 +31,34 @@ use Rattle.rule_overlap.proofs.Laid.{back, edited, end-laid, start-laid, stamp-l
 use Rattle.rule_overlap.proofs.Lists.{at_seam, insert_seam, remove_seam}
 use Rattle.rule_overlap.proofs.Places.{ranges_seam, ranges_cons, ranges-none, and_no, hits-are, first-hit, new-hits, new-ends, middles_first}
 
+-- ---- columns that stay the same slices
+
+pub same_start : {a : RangesMut} → SameColumns a a
+same_start = record { node = refl; start = refl; end = refl; id = refl; stamp = refl; touched = refl; write = refl }
+
+pub same_then : {a b c : RangesMut} → SameColumns a b → SameColumns b c → SameColumns a c
+same_then p q =
+    record {
+      node = q.node ∙ p.node;
+      start = q.start ∙ p.start;
+      end = q.end ∙ p.end;
+      id = q.id ∙ p.id;
+      stamp = q.stamp ∙ p.stamp;
+      touched = q.touched ∙ p.touched;
+      write = q.write ∙ p.write;
+    }
+
 -- ---- bytes
 
 -- the sum so far, and what is still to come
-pub record Summing (start end depth bytes : List ℕ) (sp : Span) (lo hi sum i : ℕ) : Type 0 where
-  pub low : lo ≤ i
-  pub high : i ≤ hi
+pub record Summing (c : Ranges) (depth bytes : List ℕ) (sp : Span) (lo hi sum i : ℕ) : Type 0 where
   pub small : sum ≤ max_bytes * i
   pub todo :
-      (node id stamp write : List ℕ) (touched : List Float)
-      → sum + held_bytes (only_depth depth) bytes sp.node sp.start sp.end (ranges (ranges_of node start end id stamp touched write) i (hi - i))
-      ≡ held_bytes (only_depth depth) bytes sp.node sp.start sp.end (ranges (ranges_of node start end id stamp touched write) lo (hi - lo))
+      sum + held_bytes (only_depth depth) bytes sp.node sp.start sp.end (ranges c i (hi - i))
+      ≡ held_bytes (only_depth depth) bytes sp.node sp.start sp.end (ranges c lo (hi - lo))
 
-pub sum-start : (start end depth bytes : List ℕ) (sp : Span) (lo hi : ℕ) → lo ≤ hi → Summing start end depth bytes sp lo hi 0 lo
-sum-start start end depth bytes sp lo hi h =
-    record { low = omega arith; high = h; small = omega arith; todo = λ node id stamp write touched. zero-add _ }
+pub sum-start : (c : Ranges) (depth bytes : List ℕ) (sp : Span) (lo hi : ℕ) → Summing c depth bytes sp lo hi 0 lo
+sum-start c depth bytes sp lo hi = record { small = omega arith; todo = zero-add _ }
 
 held_cons : (t : Tree) (table : List ℕ) (v a z : ℕ) (r : Range) (rs : List Range)
     → held_bytes t table v a z (r ∷ rs) ≡ bytes_of t table v (max a r.start) (min z r.end) + held_bytes t table v a z rs
@@ -60,32 +73,18 @@ pub bytes_small : (depth bytes : List ℕ) (sp : Span) (a z : ℕ) → Priced de
     → bytes_of (only_depth depth) bytes sp.node a z ≤ max_bytes
 bytes_small depth bytes sp a z p h = let k = p.rising.small (at depth sp.node + z) (omega arith) (omega (arith, p.ends)) in omega arith
 
-pub sum-turn : (start end depth bytes : List ℕ) (sp : Span) (lo hi sum i b : ℕ) → Summing start end depth bytes sp lo hi sum i → i < hi
-    → b ≡ bytes_of (only_depth depth) bytes sp.node (max sp.start (at start i)) (min sp.end (at end i)) → b ≤ max_bytes
-    → Summing start end depth bytes sp lo hi (sum + b) (i + 1)
-sum-turn start end depth bytes sp lo hi sum i b s h e l =
-    record { low = omega (arith, s.low); high = omega arith; small = omega (arith, s.small); todo = λ node id stamp write touched. more (ranges_of node start end id stamp touched write) refl refl (s.todo node id stamp write touched) }
-  where
-    more : (c : Ranges) → c.start ≡ start → c.end ≡ end
-        → sum + held_bytes (only_depth depth) bytes sp.node sp.start sp.end (ranges c i (hi - i))
-        ≡ held_bytes (only_depth depth) bytes sp.node sp.start sp.end (ranges c lo (hi - lo))
-        → sum + b + held_bytes (only_depth depth) bytes sp.node sp.start sp.end (ranges c (i + 1) (hi - (i + 1)))
-        ≡ held_bytes (only_depth depth) bytes sp.node sp.start sp.end (ranges c lo (hi - lo))
-    more c p q g =
-        let k = ap (held_bytes (only_depth depth) bytes sp.node sp.start sp.end) (ranges_cons c i hi h)
-        ∙ held_cons (only_depth depth) bytes sp.node sp.start sp.end (range_at c i) (ranges c (i + 1) (hi - (i + 1))) in
-        let w : bytes_of (only_depth depth) bytes sp.node (max sp.start (range_at c i).start) (min sp.end (range_at c i).end) ≡ b = rw (p, q) (sym e) in
-        omega (arith, k, w)
+pub sum-turn : (c : Ranges) (depth bytes : List ℕ) (sp : Span) (lo hi sum i b : ℕ) → Summing c depth bytes sp lo hi sum i → i < hi
+    → b ≡ bytes_of (only_depth depth) bytes sp.node (max sp.start (at c.start i)) (min sp.end (at c.end i)) → b ≤ max_bytes
+    → Summing c depth bytes sp lo hi (sum + b) (i + 1)
+sum-turn c depth bytes sp lo hi sum i b s h e l =
+    let k = ap (held_bytes (only_depth depth) bytes sp.node sp.start sp.end) (ranges_cons c i hi h)
+    ∙ held_cons (only_depth depth) bytes sp.node sp.start sp.end (range_at c i) (ranges c (i + 1) (hi - (i + 1))) in
+    record { small = omega (arith, s.small); todo = omega (arith, k, e, s.todo) }
 
-pub sum-end : (start end depth bytes : List ℕ) (sp : Span) (lo hi sum i : ℕ) → Summing start end depth bytes sp lo hi sum i → hi ≤ i
-    → (node id stamp write : List ℕ) (touched : List Float)
-    → sum ≡ held_bytes (only_depth depth) bytes sp.node sp.start sp.end (ranges (ranges_of node start end id stamp touched write) lo (hi - lo))
-sum-end start end depth bytes sp lo hi sum i s h node id stamp write touched = last (ranges_of node start end id stamp touched write) (s.todo node id stamp write touched)
-  where
-    last : (c : Ranges) → sum + held_bytes (only_depth depth) bytes sp.node sp.start sp.end (ranges c i (hi - i))
-        ≡ held_bytes (only_depth depth) bytes sp.node sp.start sp.end (ranges c lo (hi - lo))
-        → sum ≡ held_bytes (only_depth depth) bytes sp.node sp.start sp.end (ranges c lo (hi - lo))
-    last c g = omega (arith, ap (held_bytes (only_depth depth) bytes sp.node sp.start sp.end) (ranges-none c i hi h) ∙ held_nil (only_depth depth) bytes sp.node sp.start sp.end)
+pub sum-end : (c : Ranges) (depth bytes : List ℕ) (sp : Span) (lo hi sum i : ℕ) → Summing c depth bytes sp lo hi sum i → hi ≤ i
+    → sum ≡ held_bytes (only_depth depth) bytes sp.node sp.start sp.end (ranges c lo (hi - lo))
+sum-end c depth bytes sp lo hi sum i s h =
+    omega (arith, s.todo, ap (held_bytes (only_depth depth) bytes sp.node sp.start sp.end) (ranges-none c i hi h) ∙ held_nil (only_depth depth) bytes sp.node sp.start sp.end)
 
 -- ---- needs
 
@@ -189,11 +188,10 @@ module _ (c : Ranges) (s : Sized 128 c) (i n : ℕ) (h : i < n) where
         ∙ cut-laid i n n (xs ++ (r ∷ ys)) c (seam_long r) (omega arith) h
         ∙ ap (λ t. lay_ranges 0 n t c) (remove_seam xs r ys i (ranges_length c 0 i) ∙ sym (at_here (λ r rs. rs)))
 
-  pub split-is : n < 128 → (m new : ℕ) (c' : Ranges)
-      → c' ≡ put_range (i + 1) (part (range_at c i) (range_at c i).node m (range_at c i).end new) n
-      (edited c c.start (set c.end i m) c.stamp c.touched)
+  pub split-is : n < 128 → (m new : ℕ) (c' : Ranges) (was : Range) → was ≡ range_at c i
+      → c' ≡ put_range (i + 1) (part was was.node m was.end new) n (edited c c.start (set c.end i m) c.stamp c.touched)
       → c' ≡ lay_ranges 0 (n + 1) (at_place i (halves m new) (ranges c 0 n)) c
-  split-is g m new c' e =
+  split-is g m new c' was w e =
       let xs = ranges c 0 i in
       let r = range_at c i in
       let ys = ranges c (i + 1) (n - (i + 1)) in
@@ -201,18 +199,10 @@ module _ (c : Ranges) (s : Sized 128 c) (i n : ℕ) (h : i < n) where
       let q = part r r.node m r.end new in
       let k = ranges_length c 0 i in
       e
+      ∙ ap (λ (o : Range). put_range (i + 1) (part o o.node m o.end new) n (edited c c.start (set c.end i m) c.stamp c.touched)) w
       ∙ ap (put_range (i + 1) q n) (end-here (omega arith) m ∙ ap (λ t. lay_ranges 0 n t c) (at_here (λ r rs. part r r.node r.start m r.id ∷ rs)))
       ∙ put-laid (i + 1) n q (xs ++ (p ∷ ys)) c (seam_long p) (omega arith)
       ∙ ap (λ t. lay_ranges 0 (n + 1) t c) (insert_seam xs p q ys i k ∙ sym (at_here (halves m new)))
-
--- ---- one number more
-
-pub each_more : (P : ℕ → Type 0) (a i : ℕ) → ((k : ℕ) → a ≤ k → k < i → P k) → P i → (k : ℕ) → a ≤ k → k < i + 1 → P k
-each_more P a i h p k l u = go (native.Mathlib.Decide.ℕ_discrete k i)
-  where
-    go : Dec (k ≡ i) → P k
-    go (yes e) = mathlib.Core.Path.subst P (sym e) p
-    go (no d) = h k l (omega (arith, d))
 
 -- ---- the needs, from the places
 
@@ -245,7 +235,7 @@ module _ (node start end : List ℕ) (n : ℕ) (sp : Span) where
         y.1,
       )
 
-  pub cut-none : (lo : ℕ) → First node start end n sp lo → lo ≡ n → RemoveNeeds node start end n sp 0
+  cut-none : (lo : ℕ) → First node start end n sp lo → lo ≡ n → RemoveNeeds node start end n sp 0
   cut-none lo f e id stamp write touched x next p =
       remove-none x next sp
       (ap (overlapped sp.node sp.start sp.end) p
@@ -253,32 +243,40 @@ module _ (node start end : List ℕ) (n : ℕ) (sp : Span) where
       (record { order = omega arith; high = omega arith; before = f.before; hits = λ k l u. absurd (omega arith); after = λ k l u. absurd (omega arith) })
       ∙ ranges-none (ranges_of node start end id stamp touched write) lo n (omega arith))
 
-  cut-some : (lo r : ℕ) → Ordered node start end n → First node start end n sp lo → (lo ≡ n → ⊥)
+  cut-some : (lo r : ℕ) → Ordered node start end n → First node start end n sp lo → lo < n
       → r ≡ plus (ltb (at start lo) sp.start && ltb sp.end (at end lo)) 0 → RemoveNeeds node start end n sp r
-  cut-some lo r o f d e id stamp write touched x next p =
+  cut-some lo r o f some e id stamp write touched x next p =
       let c = ranges_of node start end id stamp touched write in
-      let some : lo < n = omega (arith, f.within, d) in
       e ∙ sym (ap (middle_cuts sp.node sp.start sp.end) p ∙ middles_first c n sp lo f o some)
       ∙ remove-some x next sp _ _ (ap (overlapped sp.node sp.start sp.end) p ∙ first-hit c n sp lo f some)
 
-  pub cut_inside : (lo : ℕ) → Ordered node start end n → First node start end n sp lo → (lo ≡ n → ⊥) → sp.start ≤ at start lo → RemoveNeeds node start end n sp 0
-  cut_inside lo o f d h = cut-some lo 0 o f d (rw (le-ltb (at start lo) sp.start h))
+  -- the first overlapped record, if there is one, has both a head and a tail
+  pub cut-both : (lo r : ℕ) (b : Bool) → Ordered node start end n → First node start end n sp lo
+      → b ≡ (ltb lo n && ltb (at start lo) sp.start && ltb sp.end (at end lo)) → r ≡ plus b 0 → RemoveNeeds node start end n sp r
+  cut-both lo r b o f d e = go (native.Mathlib.Decide.ℕ_discrete lo n)
+    where
+      go : Dec (lo ≡ n) → RemoveNeeds node start end n sp r
+      go (yes q) =
+          let none : b ≡ false = rw (le-ltb lo n (omega arith)) at d in
+          rw (e ∙ ap (λ t. plus t 0) none) (cut-none lo f q)
+      go (no q) =
+          let some : lo < n = omega (arith, f.within, q) in
+          cut-some lo r o f some (e ∙ ap (λ t. plus t 0) (rw (lt-ltb lo n some) at d))
 
-  pub cut-past : (lo r : ℕ) → Ordered node start end n → First node start end n sp lo → (lo ≡ n → ⊥) → at start lo < sp.start
-      → r ≡ plus (ltb sp.end (at end lo)) 0 → RemoveNeeds node start end n sp r
-  cut-past lo r o f d h e = cut-some lo r o f d (rw (lt-ltb (at start lo) sp.start h) e)
+-- `a && b`, by the test u of a and what comes of it
+pub and-then : {a b u v : Bool} → u ≡ a → u ≡ true → v ≡ b → v ≡ (a && b)
+and-then s e f = rw (← s, e) f
+
+pub and-else : {a u v : Bool} (b : Bool) → u ≡ a → u ≡ false → v ≡ u → v ≡ (a && b)
+and-else b s e f = rw (← s, e) (f ∙ e)
+
+-- a test as a number
+pub byte-plus : (b : Bool) → mir.Val.bool_byte b ≡ plus b 0
+byte-plus true = refl
+byte-plus false = refl
 
 pub min_most : (a b : ℕ) → min a b ≤ a
 min_most a b = omega arith
-
--- ---- each overlapped record has blocks of the span
-
-pub shares : (c : Ranges) (n lo hi : ℕ) (sp : Span) → sp.start < sp.end → Overlap c.node c.start c.end n sp lo hi → Ordered c.node c.start c.end n
-    → Each lo hi (λ i. max sp.start (at c.start i) < min sp.end (at c.end i))
-shares c n lo hi sp az w o i l u =
-    let m = met sp.node sp.start sp.end (range_at c i) (w.hits i l u) in
-    let f = o.filled i (omega arith) (omega (arith, w.high)) in
-    omega (arith, m.left, m.right)
 
 -- ---- what fits by the needs fits by the pieces
 

@@ -1,5 +1,7 @@
 -- Records by their places: the list of the records is cut where the span's overlapped records begin and end, and since the records stand in order,
 -- these lie side by side, only the first can have a head, and only the last a tail.
+use Rattle.std.specs.Prelude.{Option, Some, None, MatchOption}
+use Rattle.std.specs.Option.{unwrap_or}
 use mathlib.Core.Path.{◌≡◌, refl, sym, ap, ◌∙◌}
 use mathlib.Core.Bool.{Bool, true, false, ◌&&◌, true≢false}
 use mathlib.Core.List.{List, [], ◌∷◌, ◌++◌, append-nil}
@@ -112,7 +114,7 @@ module _ (node start end : List ℕ) (n : ℕ) (sp : Span) where
       let g' : at end j ≤ at start k = o.apart j k h u (omega arith) in
       met_true sp.node sp.start sp.end (range_at three j) (record { node = e; left = omega arith; right = omega arith })
 
-  pub overlap_end : Ordered node start end n → (lo i : ℕ) → First node start end n sp lo → lo ≤ i → i < n → Each lo i (λ k. M k ≡ true)
+  overlap_end : Ordered node start end n → (lo i : ℕ) → First node start end n sp lo → lo ≤ i → i < n → Each lo i (λ k. M k ≡ true)
       → M i ≡ false → Overlap node start end n sp lo i
   overlap_end o lo i f l u hs e =
       record { order = l; high = omega arith; before = f.before; hits = hs; after = λ k a b. go k a b (M k) refl (ℕ_discrete k i) }
@@ -132,8 +134,15 @@ module _ (node start end : List ℕ) (n : ℕ) (sp : Span) where
           lt_of (no q) = omega (arith, q)
       go k a h false p dd = refl
 
-  pub overlap_all : (lo i : ℕ) → First node start end n sp lo → lo ≤ i → i ≤ n → n ≤ i → Each lo i (λ k. M k ≡ true) → Overlap node start end n sp lo i
+  overlap_all : (lo i : ℕ) → First node start end n sp lo → lo ≤ i → i ≤ n → n ≤ i → Each lo i (λ k. M k ≡ true) → Overlap node start end n sp lo i
   overlap_all lo i f l u v hs = record { order = l; high = u; before = f.before; hits = hs; after = λ k a b. absurd (omega arith) }
+
+  -- by the first record from lo on that the span misses
+  pub overlap_found : Ordered node start end n → (lo : ℕ) → First node start end n sp lo → (r : Option ℕ)
+      → MatchOption r ((k : ℕ) → lo ≤ k → k < n → M k ≡ true) (λ i. (lo ≤ i) × (i < n) × (M i ≡ false) × ((k : ℕ) → lo ≤ k → k < i → M k ≡ true))
+      → Overlap node start end n sp lo (unwrap_or r n)
+  overlap_found o lo f None all = overlap_all lo n f f.within (omega arith) (omega arith) all
+  overlap_found o lo f (Some i) h = overlap_end o lo i f h.0 h.1 h.3 h.2
 
 -- ---- the overlapped records as a list, and what a touch and a removal need of them
 

@@ -44,10 +44,6 @@ pub record Cuttable (c : Ranges) (n lo hi : ℕ) (sp : Span) : Type 0 where
   pub sized : Sized 128 c
   pub over : Overlap c.node c.start c.end n sp lo hi
 
--- columns of which only starts and ends are looked at
-abbrev pub only_spans : List ℕ → List ℕ → Ranges
-only_spans start end = ranges_of [] start end [] [] [] []
-
 -- ---- a list changed at one place: f makes of the range there and of those behind it what stands there then
 
 unfoldable pub at_place : ℕ → (Range → List Range → List Range) → List Range → List Range

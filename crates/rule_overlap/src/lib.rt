@@ -1,101 +1,66 @@
 #![tactic(auto)]
 
-ghost use Rattle.std.specs.Prelude.{◌≡◌, List, ℕ, ◌+◌, ◌-◌, ◌≤◌, ◌<◌, min, max, length, Float};
+ghost use Rattle.std.specs.Prelude.{◌≡◌, ℕ, ◌+◌, ◌-◌, ◌≤◌, ◌<◌, min, max, length};
 ghost use Rattle.model.specs.Words.{Each};
 ghost use Rattle.model.specs.State.{at};
-ghost use Rattle.model.specs.Store.{ranges, lay_ranges, plus};
+ghost use Rattle.model.specs.Store.{ranges as records, lay_ranges};
 ghost use Rattle.model.specs.Touch.{held_bytes};
-ghost use Rattle.shape_state.specs.Lent.{ranges_of};
 ghost use Rattle.pool_range.specs.Part.{Sized};
+ghost use Rattle.pool_range.specs.Lent.{lent, seen, SameColumns};
 ghost use Rattle.rule_resolve.specs.Span.{Priced, only_depth};
 ghost use Rattle.rule_overlap.specs.Overlap.{Ordered, meets_at, First, Overlap, at_place, halves, TouchNeeds, RemoveNeeds};
 
 use model::Span;
-use pool_range::Record;
+use pool_range::{RangesMut, RangesRef, Record};
 
 // Has the record at place i blocks of the span?
-fn meets_at(node: &[usize], start: &[usize], end: &[usize], sp: Span, i: usize) -> bool
-    requires { (i < length node.now) × (i < length start.now) × (i < length end.now) }
-    ensures { result ≡ meets_at node.now start.now end.now sp i }
+fn meets_at(ranges: RangesRef, sp: Span, i: usize) -> bool
+    requires { (i < length ranges.node.now) × (i < length ranges.start.now) × (i < length ranges.end.now) }
+    ensures { result ≡ meets_at ranges.entry.node.now ranges.entry.start.now ranges.entry.end.now sp i }
 {
-    if node[i] != sp.node {
-        return false;
-    }
-    if sp.end <= start[i] {
-        return false;
-    }
-    sp.start < end[i]
+    ranges.node[i] == sp.node && ranges.start[i] < sp.end && sp.start < ranges.end[i]
 }
 
 // The first record that the span overlaps, or n.
-pub fn first_overlap(node: &[usize], start: &[usize], end: &[usize], n: usize, sp: Span) -> usize
-    requires { Ordered node.now start.now end.now n }
-    ensures { First node.now start.now end.now n sp result }
+pub fn first_overlap(ranges: RangesRef, n: usize, sp: Span) -> usize
+    requires { Ordered ranges.node.now ranges.start.now ranges.end.now n }
+    ensures { First ranges.entry.node.now ranges.entry.start.now ranges.entry.end.now n sp result }
 {
-    let mut i = 0;
-    while i < n {
-        if meets_at(node, start, end, sp, i) {
-            return i;
-        }
-        i += 1;
-    }
-    i
+    (0..n).find(|&i| meets_at(ranges, sp, i)).unwrap_or(n)
 }
 
 // Where the records that the span overlaps end.
-pub fn end_overlap(
-    node: &[usize],
-    start: &[usize],
-    end: &[usize],
-    n: usize,
-    sp: Span,
-    lo: usize,
-) -> usize
-    requires { Ordered node.now start.now end.now n × First node.now start.now end.now n sp lo }
-    ensures { Overlap node.now start.now end.now n sp lo result }
+pub fn end_overlap(ranges: RangesRef, n: usize, sp: Span, lo: usize) -> usize
+    requires { Ordered ranges.node.now ranges.start.now ranges.end.now n
+        × First ranges.node.now ranges.start.now ranges.end.now n sp lo }
+    ensures { Overlap ranges.entry.node.now ranges.entry.start.now ranges.entry.end.now n sp lo result }
 {
-    let mut i = lo;
-    while i < n {
-        if !meets_at(node, start, end, sp, i) {
-            return i;
-        }
-        i += 1;
-    }
-    i
+    (lo..n).find(|&i| !meets_at(ranges, sp, i)).unwrap_or(n)
 }
 
 // The bytes of a span's part that the records from lo up to hi hold.
 pub fn held_bytes(
     depth: &[usize],
-    start: &[usize],
-    end: &[usize],
+    ranges: RangesRef,
     bytes: &[u64],
     sp: Span,
     lo: usize,
     hi: usize,
 ) -> u64
-    requires lo_le_hi { (lo ≤ hi) × (hi ≤ 128) × (hi ≤ length start.now) × (hi ≤ length end.now) × Priced depth.now bytes.now sp }
-    requires each { Each lo hi (λ (i : ℕ). max sp.start (at start.now i) ≤ min sp.end (at end.now i)) }
-    ensures { (node id stamp write : List ℕ) (touched : List Float)
-        → result
-        ≡ held_bytes (only_depth depth.now) bytes.now sp.node sp.start sp.end
-        (ranges (ranges_of node start.now end.now id stamp touched write) lo (hi - lo)) }
+    requires lo_le_hi { (lo ≤ hi) × (hi ≤ 128) × (hi ≤ length ranges.start.now) × (hi ≤ length ranges.end.now)
+        × Priced depth.now bytes.now sp }
+    requires each { Each lo hi (λ (i : ℕ). max sp.start (at ranges.start.now i) ≤ min sp.end (at ranges.end.now i)) }
+    ensures { result
+        ≡ held_bytes (only_depth depth.now) bytes.now sp.node sp.start sp.end (records (seen ranges.entry) lo (hi - lo)) }
 {
-    let mut sum: u64 = 0;
-    let mut i = lo;
-    while i < hi {
-        let from = pool_number::larger(sp.start, start[i]);
-        let upto = pool_number::smaller(sp.end, end[i]);
-        sum += rule_resolve::span_bytes(
-            depth,
-            bytes,
-            Span {
-                node: sp.node,
-                start: from,
-                end: upto,
-            },
-        );
-        i += 1;
+    let mut sum = 0;
+    for i in lo..hi {
+        let part = Span {
+            node: sp.node,
+            start: sp.start.max(ranges.start[i]),
+            end: sp.end.min(ranges.end[i]),
+        };
+        sum += rule_resolve::span_bytes(depth, bytes, part);
     }
     sum
 }
@@ -107,100 +72,47 @@ pub struct Needs {
     pub stamps: u64,
 }
 
-// A test as a number.
-pub fn one_if(b: bool) -> usize
-    ensures { (result ≡ plus b 0) × (result ≤ 1) }
-{
-    if b {
-        return 1;
-    }
-    0
-}
-
 // Of the records that the span overlaps only the first can have a head, and only the last a tail.
-pub fn touch_need(
-    node: &[usize],
-    start: &[usize],
-    end: &[usize],
-    n: usize,
-    sp: Span,
-    refreshes: bool,
-) -> Needs
-    requires { Ordered node.now start.now end.now n }
-    ensures { TouchNeeds node.now start.now end.now n sp refreshes result }
+pub fn touch_need(ranges: RangesRef, n: usize, sp: Span, refreshes: bool) -> Needs
+    requires { Ordered ranges.node.now ranges.start.now ranges.end.now n }
+    ensures { TouchNeeds ranges.entry.node.now ranges.entry.start.now ranges.entry.end.now n sp refreshes result }
 {
-    let lo = first_overlap(node, start, end, n, sp);
-    let hi = end_overlap(node, start, end, n, sp, lo);
-    if lo == hi {
+    let lo = first_overlap(ranges, n, sp);
+    let hi = end_overlap(ranges, n, sp, lo);
+    if lo == hi || !refreshes {
         return Needs {
             records: 0,
             stamps: 0,
         };
     }
-    if !refreshes {
-        return Needs {
-            records: 0,
-            stamps: 0,
-        };
-    }
-    let last = hi - 1;
-    let head = one_if(start[lo] < sp.start);
-    let tail = one_if(sp.end < end[last]);
+    let head = ranges.start[lo] < sp.start;
+    let tail = sp.end < ranges.end[hi - 1];
     Needs {
-        records: head + tail,
+        records: usize::from(head) + usize::from(tail),
         stamps: 1,
     }
 }
 
 // Only one range can reach past both ends of the span.
-pub fn remove_need(node: &[usize], start: &[usize], end: &[usize], n: usize, sp: Span) -> usize
-    requires { Ordered node.now start.now end.now n }
-    ensures { RemoveNeeds node.now start.now end.now n sp result }
+pub fn remove_need(ranges: RangesRef, n: usize, sp: Span) -> usize
+    requires { Ordered ranges.node.now ranges.start.now ranges.end.now n }
+    ensures { RemoveNeeds ranges.entry.node.now ranges.entry.start.now ranges.entry.end.now n sp result }
 {
-    let lo = first_overlap(node, start, end, n, sp);
-    if lo == n {
-        return 0;
-    }
-    if sp.start <= start[lo] {
-        return 0;
-    }
-    one_if(sp.end < end[lo])
+    let lo = first_overlap(ranges, n, sp);
+    usize::from(lo < n && ranges.start[lo] < sp.start && sp.end < ranges.end[lo])
 }
 
 // The record at place i in two at m; the right part gets the id.
-pub fn split_rec(
-    node: &mut [usize],
-    start: &mut [usize],
-    end: &mut [usize],
-    id: &mut [u64],
-    stamp: &mut [u64],
-    touched: &mut [f64],
-    write: &mut [u32],
-    n: usize,
-    i: usize,
-    m: usize,
-    new: u64,
-)
-    requires { (i < n) × (n < 128) × Sized 128 (ranges_of node.old start.old end.old id.old stamp.old touched.old write.old) }
-    ensures { ranges_of node.new start.new end.new id.new stamp.new touched.new write.new
-        ≡ lay_ranges 0 (n + 1)
-        (at_place i (halves m new)
-        (ranges
-        (ranges_of node.old start.old end.old id.old stamp.old touched.old
-        write.old)
-        0 n))
-        (ranges_of node.old start.old end.old id.old stamp.old touched.old
-        write.old) }
+pub fn split_rec(ranges: &mut RangesMut, n: usize, i: usize, m: usize, new: u64)
+    requires { (i < n) × (n < 128) × Sized 128 (lent ranges.old) }
+    ensures same { SameColumns ranges.old ranges.new }
+    ensures columns { lent ranges.new ≡ lay_ranges 0 (n + 1) (at_place i (halves m new) (records (lent ranges.old) 0 n)) (lent ranges.old) }
 {
-    let r = Record {
-        node: node[i],
+    let right = Record {
         start: m,
-        end: end[i],
         id: new,
-        stamp: stamp[i],
-        touched: touched[i],
-        write: write[i],
+        ..ranges.view().at(i)
     };
-    end[i] = m;
-    pool_range::put_rec(node, start, end, id, stamp, touched, write, n, i + 1, r);
+    ranges.end[i] = m;
+    ranges.put(n, i + 1, right);
 }

@@ -4,9 +4,9 @@ use mathlib.Core.Path.{◌≡◌, refl, sym, ap, subst, ◌∙◌}
 use mathlib.Core.Bool.{Bool, true, false, ◌&&◌, true≢false, false≢true}
 use mathlib.Core.List.{List, [], ◌∷◌, ◌++◌, append_assoc, append-nil}
 use Prim.Native.Nat.{ℕ, zero, suc, ◌+◌, ◌-◌, ◌*◌, ◌≤◌, ◌<◌, min, max}
-use native.Mathlib.Nat.{zero-add}
 use native.Mathlib.Omega.{arith}
-use lib.ListN.{length, set, length-append, length-set}
+use lib.ListN.{length, set, take, drop, length-append, length-set}
+use Rattle.std.proofs.lemmas.List.{get_or-drop, get_or-take, length-drop, length-take}
 use lib.Dec.{ltb}
 use borrow.Author.Tests.{lt-ltb, le-ltb, ltb-true}
 use Rattle.model.specs.declared.Span.{Span}
@@ -22,12 +22,12 @@ use Rattle.theory_touch.proofs.Recut.{met}
 use Rattle.theory_lay.proofs.Rows.{ranges_length}
 use Rattle.pool_range.specs.Part.{Sized, cut_range}
 use Rattle.pool_out.proofs.Laws.{front-more}
-use Rattle.rule_overlap.specs.Overlap.{Ordered, First, Overlap, Cuttable, only_spans, at_place, halves}
+use Rattle.rule_overlap.specs.Overlap.{Ordered, First, Overlap, Cuttable, at_place, halves}
 use Rattle.rule_overlap.proofs.Laid.{back, sized-laid, laid-at, laid-read, then_wide, then_narrow, edited}
 use Rattle.rule_overlap.proofs.Lists.{Miss, out_skip, middles_none, at_seam}
 use Rattle.rule_overlap.proofs.Places.{all-places, ranges_cut0, ranges_cons, ranges-none, ranges_seam, misses_before, misses_after, hits-are, no_middle, middles_first}
 use Rattle.rule_overlap.proofs.Laws.{at_here, same_here, end-here, start-here, cut-here}
-use Rattle.rule_remove.specs.Remove.{left_of, both_ends, only_write, CutTo, Freed}
+use Rattle.rule_remove.specs.Remove.{left_of, both_ends, CutTo, Freed}
 
 -- ---- the blocks that go
 
@@ -40,35 +40,27 @@ unfolding gone_blocks
 gone_nil a z = refl
 
 -- the blocks so far, and those to come
-pub record Counting (start end : List ℕ) (sp : Span) (lo hi sum i : ℕ) : Type 0 where
-  pub low : lo ≤ i
-  pub high : i ≤ hi
+pub record Counting (c : Ranges) (sp : Span) (lo hi sum i : ℕ) : Type 0 where
   pub small : sum ≤ 1024 * i
-  pub todo : sum + gone_blocks sp.start sp.end (ranges (only_spans start end) i (hi - i)) ≡ gone_blocks sp.start sp.end (ranges (only_spans start end) lo (hi - lo))
+  pub todo : sum + gone_blocks sp.start sp.end (ranges c i (hi - i)) ≡ gone_blocks sp.start sp.end (ranges c lo (hi - lo))
 
-pub count-start : (start end : List ℕ) (sp : Span) (lo hi : ℕ) → lo ≤ hi → Counting start end sp lo hi 0 lo
-count-start start end sp lo hi h = record { low = omega arith; high = h; small = omega arith; todo = zero-add _ }
-
-pub count_turn : (start end : List ℕ) (sp : Span) (lo hi sum i b : ℕ) → Counting start end sp lo hi sum i → i < hi
-    → b ≡ min sp.end (at end i) - max sp.start (at start i) → b ≤ 1024 → Counting start end sp lo hi (sum + b) (i + 1)
-count_turn start end sp lo hi sum i b s h e u =
+pub count_turn : (c : Ranges) (sp : Span) (lo hi sum i b : ℕ) → Counting c sp lo hi sum i → i < hi
+    → b ≡ min sp.end (at c.end i) - max sp.start (at c.start i) → b ≤ 1024 → Counting c sp lo hi (sum + b) (i + 1)
+count_turn c sp lo hi sum i b s h e u =
     record {
-      low = omega (arith, s.low);
-      high = omega arith;
       small = omega (arith, s.small);
       todo =
           omega (
             arith,
+            e,
             s.todo,
-            ap (gone_blocks sp.start sp.end) (ranges_cons (only_spans start end) i hi h)
-                ∙ gone_cons sp.start sp.end (range_at (only_spans start end) i) (ranges (only_spans start end) (i + 1) (hi - (i + 1))),
+            ap (gone_blocks sp.start sp.end) (ranges_cons c i hi h) ∙ gone_cons sp.start sp.end (range_at c i) (ranges c (i + 1) (hi - (i + 1))),
           );
     }
 
-pub count-end : (start end : List ℕ) (sp : Span) (lo hi sum i : ℕ) → Counting start end sp lo hi sum i → hi ≤ i
-    → sum ≡ gone_blocks sp.start sp.end (ranges (only_spans start end) lo (hi - lo))
-count-end start end sp lo hi sum i s h =
-    omega (arith, s.todo, ap (gone_blocks sp.start sp.end) (ranges-none (only_spans start end) i hi h) ∙ gone_nil sp.start sp.end)
+pub count-end : (c : Ranges) (sp : Span) (lo hi sum i : ℕ) → Counting c sp lo hi sum i → hi ≤ i
+    → sum ≡ gone_blocks sp.start sp.end (ranges c lo (hi - lo))
+count-end c sp lo hi sum i s h = omega (arith, s.todo, ap (gone_blocks sp.start sp.end) (ranges-none c i hi h) ∙ gone_nil sp.start sp.end)
 
 -- ---- the writes
 
@@ -89,67 +81,67 @@ listed-none zero ws h = refl
 listed-none (suc w) ws h = absurd (omega arith)
 
 -- the writes listed so far, and those to come
-pub record Listing (write l₀ l : List ℕ) (lo hi k i : ℕ) : Type 0 where
-  pub low : lo ≤ i
-  pub high : i ≤ hi
+pub record Listing (c : Ranges) (l₀ l : List ℕ) (lo hi k i : ℕ) : Type 0 where
   pub few : k + lo ≤ i
   pub done : List ℕ
   pub long : length done ≡ k
   pub same : length l ≡ length l₀
   pub list : l ≡ front done l₀
-  pub todo : done ++ writes (ranges (only_write write) i (hi - i)) ≡ writes (ranges (only_write write) lo (hi - lo))
+  pub todo : done ++ writes (ranges c i (hi - i)) ≡ writes (ranges c lo (hi - lo))
 
-pub list-start : (write l : List ℕ) (lo hi : ℕ) → lo ≤ hi → Listing write l l lo hi 0 lo
-list-start write l lo hi h = record { low = omega arith; high = h; few = omega arith; done = []; long = refl; same = refl; list = refl; todo = refl }
+module _ (c : Ranges) (l₀ l : List ℕ) (lo hi k i : ℕ) (s : Listing c l₀ l lo hi k i) (h : i < hi) where
+  next-write : writes (ranges c i (hi - i)) ≡ listed (at c.write i) (writes (ranges c (i + 1) (hi - (i + 1))))
+  next-write = ap writes (ranges_cons c i hi h) ∙ writes_cons (range_at c i) (ranges c (i + 1) (hi - (i + 1)))
 
-module _ (write l₀ l : List ℕ) (lo hi k i : ℕ) (s : Listing write l₀ l lo hi k i) (h : i < hi) where
-  next-write : writes (ranges (only_write write) i (hi - i)) ≡ listed (at write i) (writes (ranges (only_write write) (i + 1) (hi - (i + 1))))
-  next-write = ap writes (ranges_cons (only_write write) i hi h) ∙ writes_cons (range_at (only_write write) i) (ranges (only_write write) (i + 1) (hi - (i + 1)))
-
-  list-some : (at write i ≡ 0 → ⊥) → hi ≤ length l₀ → Listing write l₀ (set l k (at write i)) lo hi (k + 1) (i + 1)
+  list-some : (at c.write i ≡ 0 → ⊥) → hi ≤ length l₀ → Listing c l₀ (set l k (at c.write i)) lo hi (k + 1) (i + 1)
   list-some d room =
       record {
-        low = omega (arith, s.low);
-        high = omega arith;
         few = omega (arith, s.few);
-        done = s.done ++ (at write i ∷ []);
-        long = length-append s.done (at write i ∷ []) ∙ ap (λ t. t + 1) s.long;
-        same = length-set l k (at write i) ∙ s.same;
+        done = s.done ++ (at c.write i ∷ []);
+        long = length-append s.done (at c.write i ∷ []) ∙ ap (λ t. t + 1) s.long;
+        same = length-set l k (at c.write i) ∙ s.same;
         list =
-            ap (λ t. set t k (at write i)) s.list ∙ ap (λ t. set (front s.done l₀) t (at write i)) (sym s.long)
-            ∙ front-more s.done (at write i) l₀ (omega (arith, s.few, s.long, s.low));
+            ap (λ t. set t k (at c.write i)) s.list ∙ ap (λ t. set (front s.done l₀) t (at c.write i)) (sym s.long)
+            ∙ front-more s.done (at c.write i) l₀ (omega (arith, s.few, s.long));
         todo =
-            append_assoc s.done (at write i ∷ []) (writes (ranges (only_write write) (i + 1) (hi - (i + 1))))
-            ∙ ap (λ t. s.done ++ t) (sym (next-write ∙ listed-some (at write i) (writes (ranges (only_write write) (i + 1) (hi - (i + 1)))) d)) ∙ s.todo;
+            append_assoc s.done (at c.write i ∷ []) (writes (ranges c (i + 1) (hi - (i + 1))))
+            ∙ ap (λ t. s.done ++ t) (sym (next-write ∙ listed-some (at c.write i) (writes (ranges c (i + 1) (hi - (i + 1)))) d)) ∙ s.todo;
       }
 
-  list-none : at write i ≡ 0 → Listing write l₀ l lo hi k (i + 1)
+  list-none : at c.write i ≡ 0 → Listing c l₀ l lo hi k (i + 1)
   list-none e =
       record {
-        low = omega (arith, s.low);
-        high = omega arith;
         few = omega (arith, s.few);
         done = s.done;
         long = s.long;
         same = s.same;
         list = s.list;
-        todo =
-            ap (λ t. s.done ++ t) (sym (next-write ∙ listed-none (at write i) (writes (ranges (only_write write) (i + 1) (hi - (i + 1)))) e)) ∙ s.todo;
+        todo = ap (λ t. s.done ++ t) (sym (next-write ∙ listed-none (at c.write i) (writes (ranges c (i + 1) (hi - (i + 1)))) e)) ∙ s.todo;
       }
 
-  -- where the ways join
-  pub some_to : (l' : List ℕ) (k' : ℕ) → hi ≤ length l₀ → (at write i ≡ 0 → ⊥) → l' ≡ set l k (at write i) → k' ≡ k + 1 → Listing write l₀ l' lo hi k' (i + 1)
-  some_to l' k' room d p q = rw (p, q) (list-some d room)
+  -- where the ways join, at a write w and the next place j
+  pub some_to : (l' : List ℕ) (k' w j : ℕ) → hi ≤ length l₀ → at c.write i ≡ w → j ≡ i + 1 → (w ≡ 0 → ⊥) → l' ≡ set l k w → k' ≡ k + 1
+      → Listing c l₀ l' lo hi k' j
+  some_to l' k' w j room is next d p q = rw (p, q, next, ← is) (list-some (λ e. d (sym is ∙ e)) room)
 
-  pub none_to : (l' : List ℕ) (k' : ℕ) → at write i ≡ 0 → l' ≡ l → k' ≡ k → Listing write l₀ l' lo hi k' (i + 1)
-  none_to l' k' e p q = rw (p, q) (list-none e)
+  pub none_to : (l' : List ℕ) (k' w j : ℕ) → at c.write i ≡ w → j ≡ i + 1 → w ≡ 0 → l' ≡ l → k' ≡ k → Listing c l₀ l' lo hi k' j
+  none_to l' k' w j is next e p q = rw (p, q, next) (list-none (is ∙ e))
 
-pub list-end : (write l₀ l : List ℕ) (lo hi k i : ℕ) → Listing write l₀ l lo hi k i → hi ≤ i
-    → (l ≡ front (writes (ranges (only_write write) lo (hi - lo))) l₀) × (k ≡ length (writes (ranges (only_write write) lo (hi - lo))))
-list-end write l₀ l lo hi k i s h =
-    let e : s.done ≡ writes (ranges (only_write write) lo (hi - lo)) =
-    sym (append-nil s.done) ∙ ap (λ t. s.done ++ t) (sym (ap writes (ranges-none (only_write write) i hi h) ∙ writes_nil)) ∙ s.todo in
+pub list-end : (c : Ranges) (l₀ l : List ℕ) (lo hi k i : ℕ) → Listing c l₀ l lo hi k i → hi ≤ i
+    → (l ≡ front (writes (ranges c lo (hi - lo))) l₀) × (k ≡ length (writes (ranges c lo (hi - lo))))
+list-end c l₀ l lo hi k i s h =
+    let e : s.done ≡ writes (ranges c lo (hi - lo)) =
+    sym (append-nil s.done) ∙ ap (λ t. s.done ++ t) (sym (ap writes (ranges-none c i hi h) ∙ writes_nil)) ∙ s.todo in
     (s.list ∙ ap (λ t. front t l₀) e, sym s.long ∙ ap length e)
+
+-- a part of a column, read at place j
+pub part_at : (l : List ℕ) (lo hi j : ℕ) → j < length (take (hi - lo) (drop lo l)) → (lo + j < hi) × (at l (lo + j) ≡ at (take (hi - lo) (drop lo l)) j)
+part_at l lo hi j h =
+    let k : j < hi - lo = omega (arith, h, length-take (hi - lo) (drop lo l)) in
+    (omega (arith, k), sym (get_or-take (hi - lo) (drop lo l) j 0 k ∙ get_or-drop lo l j 0))
+
+pub part_end : (l : List ℕ) (lo hi j : ℕ) → hi ≤ length l → length (take (hi - lo) (drop lo l)) ≤ j → hi ≤ lo + j
+part_end l lo hi j h e = omega (arith, h, e, length-take (hi - lo) (drop lo l), length-drop lo l)
 
 -- ---- one record
 
@@ -176,32 +168,30 @@ module _ (c : Ranges) (s : Sized 128 c) (i n : ℕ) (h : i < n) (g : n ≤ 128) 
       e ∙ cut-here c s i n h g
       ∙ same_here c s i n h n (λ r rs. rs) (left_of a z) (rw (le-ltb (at c.start i) a l, le-ltb z (at c.end i) u))
 
-  -- how many pieces stay
-  pub kept-head : (ltb (at c.start i) a && ltb z (at c.end i)) ≡ false → at c.start i < a → 1 ≡ plus (ltb (at c.start i) a) (plus (ltb z (at c.end i)) 0)
-  kept-head b l = let e = lt-ltb (at c.start i) a l in rw (e, not_both (ltb (at c.start i) a) (ltb z (at c.end i)) b e)
+module _ (c : Ranges) (s : Sized 128 c) (i n : ℕ) (h : i < n) (g : n < 128) (a z next : ℕ) (d : Ranges)
+    (e : d ≡ lay_ranges 0 (n + 1) (at_place i (halves z next) (ranges c 0 n)) c) where
+  middle-long : length (at_place i (halves z next) (ranges c 0 n)) ≡ n + 1
+  middle-long =
+      ap length (at_here c s i n h (halves z next))
+      ∙ omega (
+        arith,
+        length-append (ranges c 0 i) (halves z next (range_at c i) (ranges c (i + 1) (n - (i + 1)))),
+        ranges_length c 0 i,
+        ranges_length c (i + 1) (n - (i + 1)),
+      )
 
-  pub kept-tail : a ≤ at c.start i → z < at c.end i → 1 ≡ plus (ltb (at c.start i) a) (plus (ltb z (at c.end i)) 0)
-  kept-tail l u = rw (le-ltb (at c.start i) a l, lt-ltb z (at c.end i) u)
+  pub middle_sized : Sized 128 d
+  middle_sized = rw e (sized-laid c s (n + 1) (at_place i (halves z next) (ranges c 0 n)) (omega (arith, middle-long)) (omega arith))
 
-  pub kept-none : a ≤ at c.start i → at c.end i ≤ z → 0 ≡ plus (ltb (at c.start i) a) (plus (ltb z (at c.end i)) 0)
-  kept-none l u = rw (le-ltb (at c.start i) a l, le-ltb z (at c.end i) u)
-
-pub middle-is : (c : Ranges) → Sized 128 c → (i n : ℕ) → i < n → n < 128 → (a z next : ℕ) (d : Ranges)
-    → d ≡ lay_ranges 0 (n + 1) (at_place i (halves z next) (ranges c 0 n)) c
-    → edited d d.start (set d.end i a) d.stamp d.touched ≡ lay_ranges 0 (n + 1) (at_place i (both_ends a z next) (ranges c 0 n)) c
-middle-is c s i n h g a z next d e =
-    let xs = ranges c 0 i in
-    let r = range_at c i in
-    let ys = ranges c (i + 1) (n - (i + 1)) in
-    let k = ranges_length c 0 i in
-    let long : length (at_place i (halves z next) (ranges c 0 n)) ≡ n + 1 =
-    ap length (at_here c s i n h (halves z next)) ∙ omega (arith, length-append xs (halves z next r ys), k, ranges_length c (i + 1) (n - (i + 1))) in
-    let sized : Sized 128 d = rw e (sized-laid c s (n + 1) (at_place i (halves z next) (ranges c 0 n)) (omega arith) (omega arith)) in
-    let F : List Range → List Range = at_place i (λ q rs. part q q.node q.start a q.id ∷ rs) in
-    then_wide c s F (n + 1) (n + 1) (at_place i (halves z next) (ranges c 0 n)) d _ e long (omega arith) (omega arith)
-    (end-here d sized i (n + 1) (omega arith) (omega arith) a)
-    ∙ ap (λ t. lay_ranges 0 (n + 1) t c)
-    (ap F (at_here c s i n h (halves z next)) ∙ at_seam (λ q rs. part q q.node q.start a q.id ∷ rs) i xs _ _ k ∙ sym (at_here c s i n h (both_ends a z next)))
+  pub middle-is : edited d d.start (set d.end i a) d.stamp d.touched ≡ lay_ranges 0 (n + 1) (at_place i (both_ends a z next) (ranges c 0 n)) c
+  middle-is =
+      let xs = ranges c 0 i in
+      let F : List Range → List Range = at_place i (λ q rs. part q q.node q.start a q.id ∷ rs) in
+      then_wide c s F (n + 1) (n + 1) (at_place i (halves z next) (ranges c 0 n)) d _ e middle-long (omega arith) (omega arith)
+      (end-here d middle_sized i (n + 1) (omega arith) (omega arith) a)
+      ∙ ap (λ t. lay_ranges 0 (n + 1) t c)
+      (ap F (at_here c s i n h (halves z next)) ∙ at_seam (λ q rs. part q q.node q.start a q.id ∷ rs) i xs _ _ (ranges_length c 0 i)
+      ∙ sym (at_here c s i n h (both_ends a z next)))
 
 -- ---- the span cut out of a list
 
@@ -393,6 +383,12 @@ module _ (c₀ c : Ranges) (n lo hi : ℕ) (sp : Span) (i j : ℕ) (w : Cuttable
 
 -- ---- a range that reaches past both ends is the only one that the span overlaps
 
+pub past_both : {a b d e : ℕ} → a < b → d < e → (ltb a b && ltb d e) ≡ true
+past_both {a} {b} {d} {e} h g = rw (lt-ltb a b h, lt-ltb d e g)
+
+pub not_past : {p q : Bool} → p ≡ true → q ≡ false → (p && q) ≡ false
+not_past h g = rw (h, g)
+
 pub first_of : (c : Ranges) (n lo hi : ℕ) (sp : Span) → Overlap c.node c.start c.end n sp lo hi → lo < hi → First c.node c.start c.end n sp lo
 first_of c n lo hi sp w h = record { within = omega (arith, w.high); before = w.before; there = λ l. w.hits lo (omega arith) h }
 
@@ -450,18 +446,6 @@ module _ (c : Ranges) (n lo hi : ℕ) (sp : Span) (some : lo < hi) (w : Cuttable
           needs = sym one-cut;
         }
 
--- ---- what the loops looked at is what stands in the columns
-
-gone_same : (a z : ℕ) (c : Ranges) (i m : ℕ) → gone_blocks a z (ranges (only_spans c.start c.end) i m) ≡ gone_blocks a z (ranges c i m)
-unfolding gone_blocks ranges
-gone_same a z c i zero = refl
-gone_same a z c i (suc m) = ap (λ t. (min z (at c.end i) - max a (at c.start i)) + t) (gone_same a z c (suc i) m)
-
-writes-same : (c : Ranges) (i m : ℕ) → writes (ranges (only_write c.write) i m) ≡ writes (ranges c i m)
-unfolding writes ranges
-writes-same c i zero = refl
-writes-same c i (suc m) = ap (listed (at c.write i)) (writes-same c (suc i) m)
-
 -- ---- the whole
 
 remove-is : (hits : List Range) (x : Store) (next : ℕ) (sp : Span) → overlapped sp.node sp.start sp.end x.ranges ≡ hits → remove x next sp ≡ remove_hits hits x next sp
@@ -487,11 +471,11 @@ module _ (c : Ranges) (n lo hi : ℕ) (sp : Span) (next : ℕ) (w : Cuttable c n
       })
 
   pub freed_some : (lo ≡ hi → ⊥) → (c' : Ranges) (ms ms' ls ls' : List ℕ) (m need removed k : ℕ) → x.marks ≡ ms
-      → removed ≡ gone_blocks sp.start sp.end (ranges (only_spans c.start c.end) lo (hi - lo))
-      → (ls' ≡ front (writes (ranges (only_write c.write) lo (hi - lo))) ls) × (k ≡ length (writes (ranges (only_write c.write) lo (hi - lo))))
+      → removed ≡ gone_blocks sp.start sp.end (ranges c lo (hi - lo))
+      → ls' ≡ front (writes (ranges c lo (hi - lo))) ls → k ≡ length (writes (ranges c lo (hi - lo)))
       → n + middle_cuts sp.node sp.start sp.end (ranges c 0 n) ≤ 128 → CutTo next need sp c c' n m → ms' ≡ unmark sp.node (ranges c' 0 m) ms
       → Freed (remove x next sp) c c' ms' ls ls' n (record { n = m; need = need; removed = removed; writes = k })
-  freed_some d c' ms ms' ls ls' m need removed k q g l room t u =
+  freed_some d c' ms ms' ls ls' m need removed k q g l count room t u =
       let v = sp.node in
       let a = sp.start in
       let z = sp.end in
@@ -503,14 +487,20 @@ module _ (c : Ranges) (n lo hi : ℕ) (sp : Span) (next : ℕ) (w : Cuttable c n
       let mids : middle_cuts v a z (ranges c 0 n) ≡ middle_cuts v a z x.ranges = ap (middle_cuts v a z) (sym same) in
       let read : ranges c' 0 m ≡ cut_out v a z next (ranges c 0 n) =
       ap (λ s. ranges s 0 m) t.columns ∙ laid-read c w.sized (n + need) m (cut_out v a z next (ranges c 0 n)) (sym t.records) t.few (omega (arith, t.needs)) in
-      let lists : writes (ranges (only_write c.write) lo (hi - lo)) ≡ writes (r ∷ rest) = writes-same c lo (hi - lo) ∙ ap writes (ranges_cons c lo hi some) in
+      let lists : writes (ranges c lo (hi - lo)) ≡ writes (r ∷ rest) = ap writes (ranges_cons c lo hi some) in
       subst (λ s. Freed s c c' ms' ls ls' n (record { n = m; need = need; removed = removed; writes = k })) (sym (remove-is (r ∷ rest) x next sp e))
       (record {
         columns = t.columns ∙ ap (λ s. lay_ranges 0 (n + need) s c) out ∙ ap (λ s. lay_ranges 0 (n + s) (cut_out v a z next x.ranges) c) (t.needs ∙ mids);
         marks = u ∙ ap (λ s. unmark v s ms) (read ∙ out) ∙ ap (unmark v (cut_out v a z next x.ranges)) (sym q);
-        list = l.0 ∙ ap (λ s. front s ls) lists;
+        list = l ∙ ap (λ s. front s ls) lists;
         records = t.records ∙ ap length out;
         need = t.needs ∙ mids;
-        writes = l.1 ∙ ap length lists;
-        blocks = g ∙ gone_same a z c lo (hi - lo) ∙ ap (gone_blocks a z) (ranges_cons c lo hi some);
+        writes = count ∙ ap length lists;
+        blocks = g ∙ ap (gone_blocks a z) (ranges_cons c lo hi some);
       })
+
+pub cut_sized : (c c' : Ranges) (n m next need : ℕ) (sp : Span) → Sized 128 c → n + middle_cuts sp.node sp.start sp.end (ranges c 0 n) ≤ 128
+    → CutTo next need sp c c' n m → Sized 128 c' × (m ≤ 128)
+cut_sized c c' n m next need sp s room t =
+    let few : n + need ≤ 128 = omega (arith, t.needs) in
+    (rw t.columns (sized-laid c s (n + need) (cut_out sp.node sp.start sp.end next (ranges c 0 n)) (omega (arith, t.records, t.few)) few), omega (arith, t.few))

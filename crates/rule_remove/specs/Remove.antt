@@ -1,11 +1,10 @@
 -- What a removal leaves of one range, and what a removal of a span leaves of a store's part. Assumes nothing.
-use Rattle.std.specs.Prelude.{ℕ, ◌+◌, ◌≤◌, ◌≡◌, List, [], ◌∷◌, length, ltb}
+use Rattle.std.specs.Prelude.{ℕ, ◌+◌, ◌≤◌, ◌≡◌, List, ◌∷◌, length, ltb}
 use Rattle.model.specs.declared.Span.{Span}
 use Rattle.model.specs.State.{Ranges, Range}
 use Rattle.model.specs.Store.{ranges, lay_ranges, part, put}
 use Rattle.model.specs.Remove.{Removed, cut_out, middle_cuts}
 use Rattle.model.specs.Calls.{front}
-use Rattle.shape_state.specs.Lent.{ranges_of}
 use Rattle.rule_remove.specs.declared.Removing.{Removing}
 
 -- what is left of a range before a and from z on, in front of the rest
@@ -15,10 +14,6 @@ left_of a z r rs = put (ltb r.start a) (part r r.node r.start a r.id) (put (ltb 
 -- the head of a range before a, and its tail from z on with id i
 abbrev pub both_ends : ℕ → ℕ → ℕ → Range → List Range → List Range
 both_ends a z i r rs = part r r.node r.start a r.id ∷ part r r.node z r.end i ∷ rs
-
--- the columns of which only the writes are looked at
-abbrev pub only_write : List ℕ → Ranges
-only_write write = ranges_of [] [] [] [] [] [] write
 
 -- from the part c with n records a cut makes c' with m records, and needs `need`
 pub record CutTo (next need : ℕ) (sp : Span) (c c' : Ranges) (n m : ℕ) : Type 0 where

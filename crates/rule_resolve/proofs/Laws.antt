@@ -4,85 +4,50 @@ use Prim.Native.Nat.{ℕ, zero, suc, ◌+◌, ◌-◌, ◌/◌, ◌≤◌, ◌<�
 use mathlib.Core.Bool.{Bool, true, false}
 use mathlib.Core.List.{List}
 use mathlib.Core.Logic.{⊎_elim}
-use mathlib.Core.Option.{Option, none, some}
-use mathlib.Core.Path.{◌≡◌, refl, sym, ap, subst, ◌∙◌}
+use Rattle.std.specs.Prelude.{Option, None, Some, MatchOption}
+use mathlib.Core.Path.{◌≡◌, refl, sym, ap, ◌∙◌}
 use native.Mathlib.Numerals.{add-one}
 use native.Mathlib.Omega.{arith}
 use native.Mathlib.Nat.{eq-or-lt_of_le}
 use lib.ListN.{length}
-use borrow.Author.Tests.{lt-ltb, le-ltb, ne_eqb}
+use borrow.Author.Tests.{lt-ltb, le-ltb}
 use Rattle.model.specs.State.{Tree, at}
 use Rattle.model.specs.Tree.{is_child, child_from, child, halve, matching, agrees, matched}
-use Rattle.rule_resolve.specs.Walk.{Others}
 
 -- ---- the scan for a child
 
--- the nodes below k are none, so those from k on decide
-pub record Scanning (t : Tree) (p h k : ℕ) : Type 0 where
-  pub past : 1 ≤ k
-  pub same : child_from t p h k (t.nodes - k) ≡ child t p h
+module _ (t : Tree) (p h : ℕ) where
+  scan-none : (n k : ℕ) → ((j : ℕ) → k ≤ j → j < k + n → is_child t p h j ≡ false) → None ≡ child_from t p h k n
+  unfolding child_from
+  scan-none zero k none = refl
+  scan-none (suc n) k none =
+      scan-none n (suc k) (λ j a b. none j (omega arith) (omega arith))
+      ∙ sym (ap (λ (x : Bool). elim x as (λ z. Option ℕ) [ true ↦ Some k | false ↦ child_from t p h (suc k) n ]) (none k (omega arith) (omega arith)))
 
-pub scan_start : (t : Tree) (p h : ℕ) → Scanning t p h 1
-unfolding child
-scan_start t p h = record { past = omega arith; same = refl }
+  scan-some : (n k i : ℕ) → k ≤ i → i < k + n → is_child t p h i ≡ true → ((j : ℕ) → k ≤ j → j < i → is_child t p h j ≡ false)
+      → Some i ≡ child_from t p h k n
+  unfolding child_from
+  scan-some zero k i a b one none = absurd (omega arith)
+  scan-some (suc n) k i a b one none =
+      ⊎_elim
+      (λ (e : k ≡ i).
+      let here : is_child t p h k ≡ true = rw e one in
+      sym (ap (λ (j : ℕ). Some j) e) ∙ sym (ap (λ (x : Bool). elim x as (λ z. Option ℕ) [ true ↦ Some k | false ↦ child_from t p h (suc k) n ]) here))
+      (λ (l : k < i).
+      scan-some n (suc k) i (omega arith) (omega arith) one (λ j c d. none j (omega arith) d)
+      ∙ sym (ap (λ (x : Bool). elim x as (λ z. Option ℕ) [ true ↦ Some k | false ↦ child_from t p h (suc k) n ]) (none k (omega arith) l)))
+      (eq-or-lt_of_le a)
 
-scan_turn : {t : Tree} {p h k : ℕ} (b : Bool) → Scanning t p h k → k < t.nodes → is_child t p h k ≡ b
-    → elim b as (λ z. Option ℕ) [ true ↦ some k | false ↦ child_from t p h (suc k) (t.nodes - suc k) ] ≡ child t p h
-unfolding child_from
-scan_turn {t} {p} {h} {k} b s l e =
-    let more : t.nodes - k ≡ suc (t.nodes - suc k) = omega arith in
-    sym (ap (λ (x : Bool). elim x as (λ z. Option ℕ) [ true ↦ some k | false ↦ child_from t p h (suc k) (t.nodes - suc k) ]) e)
-    ∙ sym (ap (child_from t p h k) more)
-    ∙ s.same
-
-pub scan_here : {t : Tree} {p h k : ℕ} → Scanning t p h k → k < t.nodes → is_child t p h k ≡ true → some k ≡ child t p h
-scan_here s l e = scan_turn true s l e
-
-pub scan_more : {t : Tree} {p h k : ℕ} → Scanning t p h k → k < t.nodes → is_child t p h k ≡ false → Scanning t p h (k + 1)
-scan_more s l e = rw add-one (record { past = omega arith; same = scan_turn false s l e })
-
-pub scan_end : {t : Tree} {p h k : ℕ} → Scanning t p h k → t.nodes ≤ k → none ≡ child t p h
-unfolding child_from
-scan_end {t} {p} {h} {k} s l = let done : t.nodes - k ≡ 0 = omega arith in sym (ap (child_from t p h k) done) ∙ s.same
-
--- ---- nodes that are no children of p
-
-pub others-none : (ps : List ℕ) (p a : ℕ) → Others ps p a a
-others-none ps p a = record { differ = λ k h l. absurd (omega arith) }
-
-others-more : {ps : List ℕ} {p a k m : ℕ} → Others ps p a k → (at ps k ≡ p → ⊥) → m ≡ k + 1 → Others ps p a m
-others-more {k = k} all here e =
-    record {
-      differ = λ j h l. ⊎_elim (λ (f : j ≡ k). rw f here) (λ (g : j < k). all.differ j h g) (let g : j ≤ k = omega arith in eq-or-lt_of_le g);
-    }
-
-module _ {ps : List ℕ} {p a k : ℕ} (all : Others ps p a k) (f : at ps k ≡ p → ⊥) where
-  pub others-one : Others ps p a (k + 1)
-  others-one = others-more all f refl
-
-  pub others-two : (at ps (k + 1) ≡ p → ⊥) → Others ps p a (k + 2)
-  others-two g = others-more others-one g (omega arith)
-
-  pub others_three : (at ps (k + 1) ≡ p → ⊥) → (at ps (k + 2) ≡ p → ⊥) → Others ps p a (k + 3)
-  others_three g h = others-more (others-two g) h (omega arith)
-
-  pub others-four : (at ps (k + 1) ≡ p → ⊥) → (at ps (k + 2) ≡ p → ⊥) → (at ps (k + 3) ≡ p → ⊥) → Others ps p a (k + 4)
-  others-four g h i = others-more (others_three g h) i (omega arith)
-
-others-less : {ps : List ℕ} {p a b m : ℕ} → Others ps p a b → m ≤ b → Others ps p a m
-others-less all l = record { differ = λ k c d. all.differ k c (omega arith) }
-
-pass_by : {t : Tree} {p h k : ℕ} (n : ℕ) → Scanning t p h k → Others t.parent p k (k + n) → k + n ≤ t.nodes → Scanning t p h (k + n)
-pass_by {t} {p} {h} {k} zero s o l = let e : k ≡ k + 0 = omega arith in subst (λ (m : ℕ). Scanning t p h m) e s
-pass_by {t} {p} {h} {k} (suc n) s o l =
-    let e : k + n + 1 ≡ k + suc n = omega arith in
-    subst (λ (m : ℕ). Scanning t p h m) e
-    (scan_more (pass_by n s (others-less o (omega arith)) (omega arith)) (omega arith) (simp (ne_eqb _ _ (o.differ (k + n) (omega arith) (omega arith)))))
-
-pub scan_past : {t : Tree} {p h k j : ℕ} → Scanning t p h k → Others t.parent p k j → k ≤ j → j ≤ t.nodes → Scanning t p h j
-scan_past {t} {p} {h} {k} {j} s o a b =
-    let e : k + (j - k) ≡ j = omega arith in
-    subst (λ (m : ℕ). Scanning t p h m) e (pass_by (j - k) s (others-less o (omega arith)) (omega arith))
+  -- the first node that is a child, by a test that is right of nodes, is the one
+  pub first_child : (f : ℕ → Bool) → ((k : ℕ) → k < t.nodes → f k ≡ is_child t p h k) → (r : Option ℕ)
+      → MatchOption r ((k : ℕ) → 1 ≤ k → k < t.nodes → f k ≡ false)
+      (λ i. (1 ≤ i) × (i < t.nodes) × (f i ≡ true) × ((k : ℕ) → 1 ≤ k → k < i → f k ≡ false))
+      → r ≡ child t p h
+  unfolding child
+  first_child f same None none = scan-none (t.nodes - 1) 1 (λ j a b. sym (same j (omega arith)) ∙ none j a (omega arith))
+  first_child f same (Some i) one =
+      scan-some (t.nodes - 1) 1 i one.0 (omega (arith, one.0, one.1)) (sym (same i one.1) ∙ one.2)
+      (λ j a b. sym (same j (omega (arith, one.1))) ∙ one.3 j a b)
 
 -- ---- the halving
 

@@ -3,7 +3,7 @@
 use Prim.Native.Nat.{ℕ, zero, suc, ◌+◌, ◌≤◌, ◌<◌}
 use mathlib.Core.Bool.{Bool, true, false}
 use mathlib.Core.List.{List, [], ◌∷◌, ◌++◌, map, append-nil, map-append}
-use mathlib.Core.Option.{Option, none, some}
+use Rattle.std.specs.Prelude.{Option, None, Some}
 use mathlib.Core.Path.{◌≡◌, refl, sym, ap, ◌∙◌, subst}
 use native.Mathlib.Numerals.{add-one}
 use native.Mathlib.Omega.{arith}
@@ -17,8 +17,6 @@ use Rattle.model.specs.Insert.{last_seg, match_end}
 use Rattle.model.specs.Refusals.{PathList, PathFits}
 use Rattle.model.specs.Calls.{front, lay_path}
 use Rattle.rule_resolve.specs.declared.Match.{Match}
-use Rattle.pool_number.specs.declared.Found.TheVariants.{At, Nothing}
-use Rattle.pool_number.specs.Found.{found_of}
 use Rattle.rule_resolve.specs.Walk.{Stored, Walkable, Resolved}
 use Rattle.shape_answer.specs.Lists.{path_list_of}
 use Rattle.theory_resolve.proofs.Walked.{Next, next-child}
@@ -51,22 +49,28 @@ last_more before (x ∷ ss) s = last_more x ss s
 
 pub next-is : (t : Tree) (hs : List ℕ) (pos p : ℕ) → pos < length hs → child t p (at hs pos) ≡ next_child t hs pos p
 unfolding next_child
-next-is t hs pos p h = sym (ap (λ (b : Bool). elim b as (λ z. Option ℕ) [ true ↦ child t p (at hs pos) | false ↦ none ]) (lt-ltb pos (length hs) h))
+next-is t hs pos p h = sym (ap (λ (b : Bool). elim b as (λ z. Option ℕ) [ true ↦ child t p (at hs pos) | false ↦ None ]) (lt-ltb pos (length hs) h))
 
-pub next-none : (t : Tree) (hs : List ℕ) (pos p : ℕ) → length hs ≤ pos → next_child t hs pos p ≡ none
+pub next-none : (t : Tree) (hs : List ℕ) (pos p : ℕ) → length hs ≤ pos → next_child t hs pos p ≡ None
 unfolding next_child
-next-none t hs pos p h = ap (λ (b : Bool). elim b as (λ z. Option ℕ) [ true ↦ child t p (at hs pos) | false ↦ none ]) (le-ltb pos (length hs) h)
+next-none t hs pos p h = ap (λ (b : Bool). elim b as (λ z. Option ℕ) [ true ↦ child t p (at hs pos) | false ↦ None ]) (le-ltb pos (length hs) h)
+
+next-some : (t : Tree) (hs : List ℕ) (pos p : ℕ) {k : ℕ} → pos < length hs → Some k ≡ child t p (at hs pos) → next_child t hs pos p ≡ Some k
+next-some t hs pos p h e = sym (next-is t hs pos p h) ∙ sym e
+
+pub next-nothing : (t : Tree) (hs : List ℕ) (pos p : ℕ) → pos < length hs → None ≡ child t p (at hs pos) → next_child t hs pos p ≡ None
+next-nothing t hs pos p h e = sym (next-is t hs pos p h) ∙ sym e
 
 abbrev seg : ℕ → ℕ → Seg
 seg k n = record { node = k; len = n }
 
 walk-into : (t : Tree) (hs : List ℕ) (left pos k n : ℕ) → n ≡ matched t hs pos k
-    → walk t hs (suc left) pos (some k) ≡ seg k n ∷ walk t hs left (pos + n) (onward (eqb n (at t.len k)) t hs (pos + n) k)
+    → walk t hs (suc left) pos (Some k) ≡ seg k n ∷ walk t hs left (pos + n) (onward (eqb n (at t.len k)) t hs (pos + n) k)
 unfolding walk
 walk-into t hs left pos k n e =
     ap (λ (m : ℕ). seg k m ∷ walk t hs left (pos + m) (onward (eqb m (at t.len k)) t hs (pos + m) k)) (sym e)
 
-walk_none : (t : Tree) (hs : List ℕ) (left pos : ℕ) → walk t hs left pos none ≡ []
+walk_none : (t : Tree) (hs : List ℕ) (left pos : ℕ) → walk t hs left pos None ≡ []
 unfolding walk
 walk_none t hs zero pos = refl
 walk_none t hs (suc left) pos = refl
@@ -91,7 +95,7 @@ pub walk_start : (t : Tree) (hs : List ℕ) (l : PathList) → Walking t hs l (n
 unfolding resolve blocks last_seg
 walk_start t hs l = record { found = []; left = length hs; segs = refl; covered = refl; end = refl; lists = refl; enough = omega arith; whole = refl }
 
-pub walk_end : {t : Tree} {hs : List ℕ} {l₀ l : PathList} {segs pos cur last : ℕ} → Walking t hs l₀ none (match_at segs pos cur last) l
+pub walk_end : {t : Tree} {hs : List ℕ} {l₀ l : PathList} {segs pos cur last : ℕ} → Walking t hs l₀ None (match_at segs pos cur last) l
     → Resolved t hs l₀ l (match_at segs pos cur last)
 walk_end {t} {hs} {l₀} w =
     let path : w.found ≡ resolve t hs = sym (w.whole ∙ rw walk_none (append-nil w.found)) in
@@ -101,18 +105,18 @@ walk_end {t} {hs} {l₀} w =
     }
 
 -- the next segment is one of the path's
-pub walk-room : {t : Tree} {hs : List ℕ} {l₀ l : PathList} {k segs pos cur last : ℕ} → Walking t hs l₀ (some k) (match_at segs pos cur last) l
+pub walk-room : {t : Tree} {hs : List ℕ} {l₀ l : PathList} {k segs pos cur last : ℕ} → Walking t hs l₀ (Some k) (match_at segs pos cur last) l
     → pos < length hs → segs < length (resolve t hs)
 walk-room {t} {hs} {k = k} {segs} {pos} w h = go w.left w.enough w.whole
   where
-    go : (left : ℕ) → length hs ≤ pos + left → resolve t hs ≡ w.found ++ walk t hs left pos (some k) → segs < length (resolve t hs)
+    go : (left : ℕ) → length hs ≤ pos + left → resolve t hs ≡ w.found ++ walk t hs left pos (Some k) → segs < length (resolve t hs)
     go zero f e = absurd (omega arith)
     go (suc left) f e =
         let more = e ∙ ap (λ (ss : List Seg). w.found ++ ss) (walk-into t hs left pos k (matched t hs pos k) refl) in
         omega (arith, w.segs, simp length-append at (ap length more))
 
 walk_turn : {t : Tree} {hs node₀ len₀ node len : List ℕ} {k segs pos cur last n : ℕ}
-    → Walking t hs (path_list_of node₀ len₀) (some k) (match_at segs pos cur last) (path_list_of node len)
+    → Walking t hs (path_list_of node₀ len₀) (Some k) (match_at segs pos cur last) (path_list_of node len)
     → pos < length hs → n ≡ matched t hs pos k → 1 ≤ n → segs < length node₀ → segs < length len₀
     → Walking t hs (path_list_of node₀ len₀) (onward (eqb n (at t.len k)) t hs (pos + n) k) (match_at (segs + 1) (pos + n) k n) (path_list_of (set node segs k) (set len segs n))
 walk_turn {t} {hs} {node₀} {len₀} {node} {len} {k} {segs} {pos} {cur} {last} {n} w h e some-blocks a b = go w.left w.enough w.whole
@@ -120,7 +124,7 @@ walk_turn {t} {hs} {node₀} {len₀} {node} {len} {k} {segs} {pos} {cur} {last}
     found : List Seg
     found = w.found ++ (seg k n ∷ [])
 
-    go : (left : ℕ) → length hs ≤ pos + left → resolve t hs ≡ w.found ++ walk t hs left pos (some k)
+    go : (left : ℕ) → length hs ≤ pos + left → resolve t hs ≡ w.found ++ walk t hs left pos (Some k)
         → Walking t hs (path_list_of node₀ len₀) (onward (eqb n (at t.len k)) t hs (pos + n) k) (match_at (segs + 1) (pos + n) k n) (path_list_of (set node segs k) (set len segs n))
     go zero f g = absurd (omega arith)
     go (suc left) f g =
@@ -143,30 +147,23 @@ walk_turn {t} {hs} {node₀} {len₀} {node} {len} {k} {segs} {pos} {cur} {last}
 
 module _ {t : Tree} {hs node₀ len₀ node len : List ℕ} {k segs pos cur last n : ℕ} where
   -- the whole node matched, and the walk goes on
-  pub walk-on : Walking t hs (path_list_of node₀ len₀) (next_child t hs pos cur) (match_at segs pos cur last) (path_list_of node len) → next_child t hs pos cur ≡ some k
+  pub walk-on : Walking t hs (path_list_of node₀ len₀) (next_child t hs pos cur) (match_at segs pos cur last) (path_list_of node len) → Some k ≡ child t cur (at hs pos)
       → pos < length hs → n ≡ matched t hs pos k → 1 ≤ n → segs < length node₀ → segs < length len₀ → n ≤ at t.len k → at t.len k ≤ n
       → Walking t hs (path_list_of node₀ len₀) (next_child t hs (pos + n) k) (match_at (segs + 1) (pos + n) k n) (path_list_of (set node segs k) (set len segs n))
-  walk-on w e h m f a b low high = rw (eq-eqb n (at t.len k) (omega arith)) at (walk_turn (rw e at w) h m f a b)
+  walk-on w e h m f a b low high = rw (eq-eqb n (at t.len k) (omega arith)) at (walk_turn (rw (next-some t hs pos cur h e) at w) h m f a b)
 
   -- a part of it matched
-  pub walk-part : Walking t hs (path_list_of node₀ len₀) (next_child t hs pos cur) (match_at segs pos cur last) (path_list_of node len) → next_child t hs pos cur ≡ some k
+  pub walk-part : Walking t hs (path_list_of node₀ len₀) (next_child t hs pos cur) (match_at segs pos cur last) (path_list_of node len) → Some k ≡ child t cur (at hs pos)
       → pos < length hs → n ≡ matched t hs pos k → 1 ≤ n → segs < length node₀ → segs < length len₀ → n < at t.len k
       → Resolved t hs (path_list_of node₀ len₀) (path_list_of (set node segs k) (set len segs n)) (match_at (segs + 1) (pos + n) k n)
-  walk-part w e h m f a b low = walk_end (rw (ne_eqb n (at t.len k) (λ q. omega arith)) at (walk_turn (rw e at w) h m f a b))
-
--- ---- what the child that was looked for tells
-
-pub next-some : (t : Tree) (hs : List ℕ) (pos p : ℕ) {k : ℕ} → pos < length hs → found_of (At k) ≡ child t p (at hs pos) → next_child t hs pos p ≡ some k
-next-some t hs pos p h e = sym (next-is t hs pos p h) ∙ sym e
-
-pub next-nothing : (t : Tree) (hs : List ℕ) (pos p : ℕ) → pos < length hs → found_of Nothing ≡ child t p (at hs pos) → next_child t hs pos p ≡ none
-next-nothing t hs pos p h e = sym (next-is t hs pos p h) ∙ sym e
+  walk-part w e h m f a b low = walk_end (rw (ne_eqb n (at t.len k) (λ q. omega arith)) at (walk_turn (rw (next-some t hs pos cur h e) at w) h m f a b))
 
 -- its hashes can be read, and there is a place for its segment
-pub entered : {t : Tree} {hs : List ℕ} {l₀ l : PathList} {k segs pos cur last : ℕ} → Walkable t → PathFits l₀ → pos < length hs → next_child t hs pos cur ≡ some k
+pub entered : {t : Tree} {hs : List ℕ} {l₀ l : PathList} {k segs pos cur last : ℕ} → Walkable t → PathFits l₀ → pos < length hs → Some k ≡ child t cur (at hs pos)
     → Walking t hs l₀ (next_child t hs pos cur) (match_at segs pos cur last) l
     → Stored t.len t.run t.words k × (segs < length l₀.node) × (segs < length l₀.len)
-entered {t} {hs} {k = k} {pos = pos} {cur} v f h e w =
+entered {t} {hs} {k = k} {pos = pos} {cur} v f h found w =
+    let e = next-some t hs pos cur h found in
     let c = (subst (λ (o : Option ℕ). Next t hs pos cur o) e (next-child t hs pos cur)).0 in
     let room = walk-room (rw e at w) h in
     (v.stored k c.not_root c.in_use, omega (arith, v.few hs, f.node), omega (arith, v.few hs, f.len))

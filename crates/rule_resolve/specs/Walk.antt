@@ -18,10 +18,6 @@ pub record Scanned (ps rs ws : List ℕ) (nodes : ℕ) : Type 0 where
   pub run : nodes ≤ length rs
   pub words : Each 1 nodes (λ k. at rs k < length ws)
 
--- p is the parent of none of the nodes from a up to b
-pub record Others (ps : List ℕ) (p a b : ℕ) : Type 0 where
-  pub differ : Each a b (λ k. at ps k ≡ p → ⊥)
-
 -- node k stands in the columns of lengths and of runs, it has a block or more, and its hashes stand in the words
 pub record Stored (ls rs ws : List ℕ) (k : ℕ) : Type 0 where
   pub len : k < length ls

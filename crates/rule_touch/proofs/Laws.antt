@@ -10,7 +10,7 @@ use native.Mathlib.Omega.{arith}
 use lib.ListN.{length, set, length-append}
 use lib.Dec.{ltb, leb, eqb}
 use lib.Ieee.{Float}
-use borrow.Author.Tests.{ltb-true, ltb-false, le-leb, lt-leb, eq-eqb, ne_eqb}
+use borrow.Author.Tests.{ltb-true, ltb-false, le-leb, lt-leb}
 use Rattle.model.specs.declared.Span.{Span}
 use Rattle.model.specs.State.{Tree, Ranges, Range, at, range_at}
 use Rattle.model.specs.Store.{Store, ranges, lay_ranges, meets, part, put, plus}
@@ -21,66 +21,38 @@ use Rattle.theory_touch.proofs.Recut.{Met, met}
 use Rattle.theory_lay.proofs.Rows.{ranges_length}
 use Rattle.pool_range.specs.Part.{Sized, cut_range}
 use Rattle.rule_resolve.specs.Span.{only_depth}
-use Rattle.rule_overlap.specs.Overlap.{Cuttable, only_spans, at_place, halves}
+use Rattle.rule_overlap.specs.Overlap.{Cuttable, at_place, halves}
 use Rattle.rule_overlap.proofs.Laid.{back, sized-laid, laid-at, laid-read, then_wide, then_narrow, edited}
 use Rattle.rule_overlap.proofs.Lists.{Miss, restamp_skip, recut_skip, new_skip, at_seam}
 use Rattle.rule_overlap.proofs.Places.{ranges_cut0, ranges_cons, ranges-none, ranges_seam, misses_before, misses_after, hits-are, new-hits}
 use Rattle.rule_overlap.proofs.Laws.{at_here, end-here, stamp-here, cut-here, one-new, plus-sum}
 use Rattle.rule_touch.specs.Touch.{halves_if, merged, touched_ranges, Refreshed, Touching}
 
--- ---- marks, bytes, one range inside
+-- ---- one range inside
 
-pub mark_off : (counted : Bool) (sp : Span) (ms : List ℕ) → counted ≡ false → ms ≡ mark_read counted sp ms
-mark_off true sp ms e = absurd (true≢false e)
-mark_off false sp ms e = refl
-
-pub mark_on : (counted : Bool) (sp : Span) (ms : List ℕ) (k : ℕ) → counted ≡ true → k ≡ max (at ms sp.node) sp.end → set ms sp.node k ≡ mark_read counted sp ms
-mark_on true sp ms k e q = ap (set ms sp.node) q
-mark_on false sp ms k e q = absurd (false≢true e)
-
-pub read_off : (counted : Bool) (t : Tree) (table : List ℕ) (sp : Span) (hits : List Range) → counted ≡ false → 0 ≡ bytes_read counted t table sp hits
-read_off true t table sp hits e = absurd (true≢false e)
-read_off false t table sp hits e = refl
-
-pub read-on : (counted : Bool) (t : Tree) (table : List ℕ) (sp : Span) (hits : List Range) (k : ℕ) → counted ≡ true
-    → k ≡ held_bytes t table sp.node sp.start sp.end hits → k ≡ bytes_read counted t table sp hits
-read-on true t table sp hits k e q = q
-read-on false t table sp hits k e q = absurd (false≢true e)
-
-module _ (start end : List ℕ) (sp : Span) (lo hi : ℕ) (h : lo < hi) where
-  abbrev d : Ranges
-  d = only_spans start end
-
+module _ (c : Ranges) (sp : Span) (lo hi : ℕ) (h : lo < hi) where
   two_outside : (r q : Range) (rs : List Range) → one_inside sp.start sp.end (r ∷ q ∷ rs) ≡ false
   two_outside r q rs = refl
 
-  pub inside-many : (hi - lo ≡ 1 → ⊥) → false ≡ one_inside sp.start sp.end (ranges d lo (hi - lo))
+  pub inside-many : (hi - lo ≡ 1 → ⊥) → false ≡ one_inside sp.start sp.end (ranges c lo (hi - lo))
   inside-many n =
       let l : lo + 1 < hi = omega (arith, n) in
-      sym (ap (one_inside sp.start sp.end) (ranges_cons d lo hi h ∙ ap (λ t. range_at d lo ∷ t) (ranges_cons d (lo + 1) hi l))
-      ∙ two_outside (range_at d lo) (range_at d (lo + 1)) (ranges d (lo + 1 + 1) (hi - (lo + 1 + 1))))
+      sym (ap (one_inside sp.start sp.end) (ranges_cons c lo hi h ∙ ap (λ t. range_at c lo ∷ t) (ranges_cons c (lo + 1) hi l))
+      ∙ two_outside (range_at c lo) (range_at c (lo + 1)) (ranges c (lo + 1 + 1) (hi - (lo + 1 + 1))))
 
   module _ (one : hi - lo ≡ 1) where
-    alone : ranges d lo (hi - lo) ≡ range_at d lo ∷ []
-    alone = ranges_cons d lo hi h ∙ ap (λ t. range_at d lo ∷ t) (ranges-none d (lo + 1) hi (omega arith))
+    alone : ranges c lo (hi - lo) ≡ range_at c lo ∷ []
+    alone = ranges_cons c lo hi h ∙ ap (λ t. range_at c lo ∷ t) (ranges-none c (lo + 1) hi (omega arith))
 
-    pub inside-head : at start lo < sp.start → false ≡ one_inside sp.start sp.end (ranges d lo (hi - lo))
-    inside-head l = sym (ap (one_inside sp.start sp.end) alone ∙ rw (lt-leb sp.start (at start lo) l))
+    pub inside-head : at c.start lo < sp.start → false ≡ one_inside sp.start sp.end (ranges c lo (hi - lo))
+    inside-head l = sym (ap (one_inside sp.start sp.end) alone ∙ rw (lt-leb sp.start (at c.start lo) l))
 
-    pub inside_one : sp.start ≤ at start lo → leb (at end lo) sp.end ≡ one_inside sp.start sp.end (ranges d lo (hi - lo))
-    inside_one l = sym (ap (one_inside sp.start sp.end) alone ∙ rw (le-leb sp.start (at start lo) l))
+    pub inside_one : sp.start ≤ at c.start lo → leb (at c.end lo) sp.end ≡ one_inside sp.start sp.end (ranges c lo (hi - lo))
+    inside_one l = sym (ap (one_inside sp.start sp.end) alone ∙ rw (le-leb sp.start (at c.start lo) l))
 
 -- ---- a split, or none
 
 module _ (c : Ranges) (s : Sized 128 c) (i n : ℕ) (h : i < n) (on : Bool) (m new : ℕ) where
-  pub split-on : on ≡ true → (c' : Ranges) → c' ≡ lay_ranges 0 (n + 1) (at_place i (halves m new) (ranges c 0 n)) c
-      → (c' ≡ lay_ranges 0 (n + 1) (at_place i (halves_if on m new) (ranges c 0 n)) c) × (1 ≡ plus on 0)
-  split-on e c' w = go on e
-    where
-      go : (b : Bool) → b ≡ true → (c' ≡ lay_ranges 0 (n + 1) (at_place i (halves_if b m new) (ranges c 0 n)) c) × (1 ≡ plus b 0)
-      go true e = (w, refl)
-      go false e = absurd (false≢true e)
-
   pub split_off : on ≡ false → n ≤ 128 → (c ≡ lay_ranges 0 (n + 0) (at_place i (halves_if on m new) (ranges c 0 n)) c) × (0 ≡ plus on 0)
   split_off e g = go on e
     where
@@ -221,29 +193,41 @@ module _ (c : Ranges) (s : Sized 128 c) (i n : ℕ) (h : i < n) (v a z stamp : �
     pub room-tail : n + k + plus T 0 ≤ 128
     room-tail = omega (arith, plus-sum H T)
 
-    pub one-is : (c₂ : Ranges) (t : ℕ) → c₂ ≡ lay_ranges 0 (n + k + t) (at_place (i + k) (halves_if T z (next + k)) (ranges c₁ 0 (n + k))) c₁ → t ≡ plus T 0
-        → (edited c₂ c₂.start c₂.end (set c₂.stamp (i + k) stamp) (set c₂.touched (i + k) time)
-        ≡ lay_ranges 0 (n + (k + t)) (at_place i (pieces v a z stamp time next) (ranges c 0 n)) c) × (k + t ≡ plus T (plus H 0))
-    one-is c₂ t e₂ t-is =
-        let F = at_place (i + k) (halves_if T z (next + k)) in
-        let G = at_place (i + k) (stamped stamp time) in
-        let most : n + k + t ≤ 128 = omega (arith, room-tail) in
-        let e₂' : c₂ ≡ lay_ranges 0 (n + k + t) (F rs₁) c = then_wide c s F (n + k) (n + k + t) rs₁ c₁ c₂ e₁ long₁ (omega arith) most e₂ in
-        let read : ranges c₁ 0 (n + k) ≡ rs₁ = ap (λ d. ranges d 0 (n + k)) e₁ ∙ laid-read c s (n + k) (n + k) rs₁ long₁ (omega arith) few₁ in
-        let long₂ : length (F rs₁) ≡ n + k + t =
-        ap (λ l. length (F l)) (sym read) ∙ at_long c₁ sized₁ (i + k) (n + k) (omega arith) T z (next + k) ∙ ap (λ x. n + k + x) (sym t-is) in
-        let sized₂ : Sized 128 c₂ = rw e₂' (sized-laid c s (n + k + t) (F rs₁) (omega (arith, long₂)) most) in
-        let xs = ranges c 0 i in
-        let r = range_at c i in
-        let ys = ranges c (i + 1) (n - (i + 1)) in
-        let list : G (F rs₁) ≡ at_place i (pieces v a z stamp time next) (ranges c 0 n) =
-        ap (λ l. G (F (at_place i (halves_if H a next) l))) (ranges_seam c i n h)
-        ∙ cut_list v a z stamp time next xs r ys i (ranges_length c 0 i) az hit k k-is ∙ sym (at_here c s i n h (pieces v a z stamp time next)) in
-        let w : n + k + t ≡ n + (k + t) = omega arith in (
+    pub place : i + k < 128
+    place = omega (arith, few₁)
+
+    module _ (c₂ : Ranges) (t : ℕ) (e₂ : c₂ ≡ lay_ranges 0 (n + k + t) (at_place (i + k) (halves_if T z (next + k)) (ranges c₁ 0 (n + k))) c₁) (t-is : t ≡ plus T 0) where
+      most : n + k + t ≤ 128
+      most = omega (arith, room-tail)
+
+      e₂' : c₂ ≡ lay_ranges 0 (n + k + t) (at_place (i + k) (halves_if T z (next + k)) rs₁) c
+      e₂' = then_wide c s (at_place (i + k) (halves_if T z (next + k))) (n + k) (n + k + t) rs₁ c₁ c₂ e₁ long₁ (omega arith) most e₂
+
+      read : ranges c₁ 0 (n + k) ≡ rs₁
+      read = ap (λ d. ranges d 0 (n + k)) e₁ ∙ laid-read c s (n + k) (n + k) rs₁ long₁ (omega arith) few₁
+
+      long₂ : length (at_place (i + k) (halves_if T z (next + k)) rs₁) ≡ n + k + t
+      long₂ =
+          ap (λ l. length (at_place (i + k) (halves_if T z (next + k)) l)) (sym read)
+          ∙ at_long c₁ sized₁ (i + k) (n + k) (omega arith) T z (next + k) ∙ ap (λ x. n + k + x) (sym t-is)
+
+      pub sized₂ : Sized 128 c₂
+      sized₂ = rw e₂' (sized-laid c s (n + k + t) (at_place (i + k) (halves_if T z (next + k)) rs₁) (omega (arith, long₂)) most)
+
+      pub one-is : edited c₂ c₂.start c₂.end (set c₂.stamp (i + k) stamp) (set c₂.touched (i + k) time)
+          ≡ lay_ranges 0 (n + (k + t)) (at_place i (pieces v a z stamp time next) (ranges c 0 n)) c
+      one-is =
+          let F = at_place (i + k) (halves_if T z (next + k)) in
+          let G = at_place (i + k) (stamped stamp time) in
+          let xs = ranges c 0 i in
+          let r = range_at c i in
+          let ys = ranges c (i + 1) (n - (i + 1)) in
+          let list : G (F rs₁) ≡ at_place i (pieces v a z stamp time next) (ranges c 0 n) =
+          ap (λ l. G (F (at_place i (halves_if H a next) l))) (ranges_seam c i n h)
+          ∙ cut_list v a z stamp time next xs r ys i (ranges_length c 0 i) az hit k k-is ∙ sym (at_here c s i n h (pieces v a z stamp time next)) in
+          let w : n + k + t ≡ n + (k + t) = omega arith in
           then_wide c s G (n + k + t) (n + k + t) (F rs₁) c₂ _ e₂' long₂ (omega arith) most (stamp-here c₂ sized₂ (i + k) (n + k + t) (omega arith) most stamp time)
-              ∙ ap (λ l. lay_ranges 0 (n + k + t) l c) list ∙ ap (λ x. lay_ranges 0 x (at_place i (pieces v a z stamp time next) (ranges c 0 n)) c) w,
-          omega (arith, plus-sum H T),
-        )
+          ∙ ap (λ l. lay_ranges 0 (n + k + t) l c) list ∙ ap (λ x. lay_ranges 0 x (at_place i (pieces v a z stamp time next) (ranges c 0 n)) c) w
 
 -- ---- the loop that cuts: the pieces that stand so far, and the records to come
 
@@ -391,16 +375,16 @@ module _ (c₀ c : Ranges) (n lo hi : ℕ) (sp : Span) (stamp : ℕ) (time : Flo
     recutting_room = omega (arith, ends-are, count-here)
 
     pub recutting_turn : (c' : Ranges) (k : ℕ)
-        → (c' ≡ lay_ranges 0 (n + p + k) (at_place (j + p) (pieces sp.node sp.start sp.end stamp time (next + p)) (ranges c 0 (n + p))) c)
-        × (k ≡ plus (ltb sp.end (at c.end (j + p))) (plus (ltb (at c.start (j + p)) sp.start) 0))
+        → c' ≡ lay_ranges 0 (n + p + k) (at_place (j + p) (pieces sp.node sp.start sp.end stamp time (next + p)) (ranges c 0 (n + p))) c
+        → k ≡ plus (ltb sp.end (at c.end (j + p))) (plus (ltb (at c.start (j + p)) sp.start) 0)
         → Recutting c₀ c' n lo hi sp stamp time next (p + k) (j + 1)
-    recutting_turn c' k e =
+    recutting_turn c' k e f =
         let v = sp.node in
         let a = sp.start in
         let z = sp.end in
         let ps = pieces v a z stamp time (next + p) r [] in
         let F = at_place (j + p) (pieces v a z stamp time (next + p)) in
-        let k-is : k ≡ plus (has_tail v a z r) (plus (has_head v a z r) 0) = e.1 ∙ ends-are in
+        let k-is : k ≡ plus (has_tail v a z r) (plus (has_head v a z r) 0) = f ∙ ends-are in
         let m : n + p + k ≡ n + (p + k) = omega arith in
         let list : F (s.done ++ (r ∷ rest)) ≡ (s.done ++ ps) ++ rest =
         at_seam (pieces v a z stamp time (next + p)) (j + p) s.done r rest s.long ∙ ap (λ t. s.done ++ t) (pieces-front v a z stamp time (next + p) r rest)
@@ -411,7 +395,7 @@ module _ (c₀ c : Ranges) (n lo hi : ℕ) (sp : Span) (stamp : ℕ) (time : Flo
           done = s.done ++ ps;
           long = omega (arith, length-append s.done ps, pieces-long v a z stamp time (next + p) r, s.long, k-is);
           columns =
-              then_wide c₀ w.sized F (n + p) (n + p + k) (s.done ++ (r ∷ rest)) c c' at_hand as_long (omega arith) (omega (arith, count-here, k-is)) e.0
+              then_wide c₀ w.sized F (n + p) (n + p + k) (s.done ++ (r ∷ rest)) c c' at_hand as_long (omega arith) (omega (arith, count-here, k-is)) e
               ∙ ap (λ t. lay_ranges 0 (n + p + k) t c₀) list ∙ ap (λ t. lay_ranges 0 t ((s.done ++ ps) ++ rest) c₀) m;
           todo =
               s.todo
@@ -435,25 +419,6 @@ module _ (c₀ c : Ranges) (n lo hi : ℕ) (sp : Span) (stamp : ℕ) (time : Flo
       )
 
 -- ---- two neighbours
-
-module _ (v a b e s t u x y : ℕ) where
-  abbrev all_same : Bool
-  all_same = eqb a v && (eqb b v && (eqb e s && (eqb t u && eqb x y)))
-
-  pub off-left : (a ≡ v → ⊥) → false ≡ all_same
-  off-left d = rw (ne_eqb a v d)
-
-  pub off-right : a ≡ v → (b ≡ v → ⊥) → false ≡ all_same
-  off-right p d = rw (eq-eqb a v p, ne_eqb b v d)
-
-  pub apart-ends : a ≡ v → b ≡ v → (e ≡ s → ⊥) → false ≡ all_same
-  apart-ends p q d = rw (eq-eqb a v p, eq-eqb b v q, ne_eqb e s d)
-
-  pub other-stamp : a ≡ v → b ≡ v → e ≡ s → (t ≡ u → ⊥) → false ≡ all_same
-  other-stamp p q r d = rw (eq-eqb a v p, eq-eqb b v q, eq-eqb e s r, ne_eqb t u d)
-
-  pub by-write : a ≡ v → b ≡ v → e ≡ s → t ≡ u → eqb x y ≡ all_same
-  by-write p q r w = rw (eq-eqb a v p, eq-eqb b v q, eq-eqb e s r, eq-eqb t u w)
 
 pub merge_is : (c : Ranges) → Sized 128 c → (i n : ℕ) → i + 1 < n → n ≤ 128 → (c' : Ranges)
     → c' ≡ cut_range (i + 1) n (edited c c.start (set c.end i (at c.end (i + 1))) c.stamp c.touched)
@@ -650,19 +615,10 @@ restamp_miss : (v a z stamp : ℕ) (time : Float) (rs : List Range) → All (Mis
 restamp_miss v a z stamp time rs k =
     ap (restamp v a z stamp time) (sym (append-nil rs)) ∙ restamp_skip v a z stamp time rs [] k ∙ ap (λ t. rs ++ t) (restamp_nil v a z stamp time) ∙ append-nil rs
 
-inside-same : (a z : ℕ) (c : Ranges) (i m : ℕ) → one_inside a z (ranges (only_spans c.start c.end) i m) ≡ one_inside a z (ranges c i m)
-unfolding ranges
-inside-same a z c i zero = refl
-inside-same a z c i (suc zero) = refl
-inside-same a z c i (suc (suc m)) = refl
-
 module _ (c : Ranges) (n lo hi : ℕ) (sp : Span) (top : ℕ) (time : Float) (next : ℕ) (some : lo < hi) (w : Cuttable c n lo hi sp) (one : Bool)
-    (told : one ≡ one_inside sp.start sp.end (ranges (only_spans c.start c.end) lo (hi - lo))) where
+    (told : one ≡ one_inside sp.start sp.end (ranges c lo (hi - lo))) where
   in_n : lo < n
   in_n = omega (arith, w.over.high)
-
-  is_one : one ≡ one_inside sp.start sp.end (ranges c lo (hi - lo))
-  is_one = told ∙ inside-same sp.start sp.end c lo (hi - lo)
 
   pub refreshed_one : one ≡ true
       → Refreshed sp (suc top) time next c (edited c c.start c.end (set c.stamp lo (top + 1)) (set c.touched lo time)) n lo (hi - lo) n 0
@@ -682,7 +638,7 @@ module _ (c : Ranges) (n lo hi : ℕ) (sp : Span) (top : ℕ) (time : Float) (ne
       (restamp-hit v a z (suc top) time r ys (w.over.hits lo (omega arith) some)
       ∙ ap (λ t. renewed r r.start r.end r.id (suc top) time ∷ t) (restamp_miss v a z (suc top) time ys behind)) in
       let same : touched_ranges (one_inside a z (ranges c lo (hi - lo))) sp (suc top) time next (ranges c 0 n) ≡ restamp v a z (suc top) time (ranges c 0 n) =
-      ap (λ t. touched_ranges t sp (suc top) time next (ranges c 0 n)) (sym is_one ∙ e) in
+      ap (λ t. touched_ranges t sp (suc top) time next (ranges c 0 n)) (sym told ∙ e) in
       record {
         columns =
             stamp-here c w.sized lo n in_n w.few (top + 1) time
@@ -690,37 +646,48 @@ module _ (c : Ranges) (n lo hi : ℕ) (sp : Span) (top : ℕ) (time : Float) (ne
             ∙ ap (λ t. lay_ranges 0 n t c) (at_here c w.sized lo n in_n (λ r rs. renewed r r.start r.end r.id (suc top) time ∷ rs) ∙ sym (same ∙ list))
             ∙ ap (λ t. lay_ranges 0 t (touched_ranges (one_inside a z (ranges c lo (hi - lo))) sp (suc top) time next (ranges c 0 n)) c) (sym (add-zero n));
         records = sym (ap length (same ∙ list) ∙ omega (arith, in_n, length-append xs (renewed r r.start r.end r.id (suc top) time ∷ ys), ranges_length c 0 lo, ranges_length c (lo + 1) (n - (lo + 1))));
-        needs = sym (new-hits v a z (ranges c 0 n) ∙ ap (new_pieces v a z) (hits-are c n sp lo hi w.over) ∙ one-new v a z (ranges c lo (hi - lo)) (sym is_one ∙ e));
+        needs = sym (new-hits v a z (ranges c 0 n) ∙ ap (new_pieces v a z) (hits-are c n sp lo hi w.over) ∙ one-new v a z (ranges c lo (hi - lo)) (sym told ∙ e));
       }
     where
       only : Dec (hi - lo ≡ 1) → lo + 1 ≡ hi
       only (yes l) = omega arith
-      only (no l) = absurd (false≢true (inside-many c.start c.end sp lo hi some l ∙ sym told ∙ e))
+      only (no l) = absurd (false≢true (inside-many c sp lo hi some l ∙ sym told ∙ e))
 
-  pub refreshed_cut : one ≡ false → n + new_pieces sp.node sp.start sp.end (ranges c 0 n) ≤ 128 → (c₁ c₂ : Ranges) (p m : ℕ)
-      → (c₁ ≡ lay_ranges 0 (n + p) (recut sp.node sp.start sp.end (top + 1) time next (ranges c 0 n)) c) × (p ≡ new_pieces sp.node sp.start sp.end (ranges c 0 n))
-      → (c₂ ≡ lay_ranges 0 (n + p) (join sp.node (ranges c₁ 0 (n + p))) c₁) × (m ≡ length (join sp.node (ranges c₁ 0 (n + p)))) × (m ≤ n + p)
-      → Refreshed sp (suc top) time next c c₂ n lo (hi - lo) m p
-  refreshed_cut e room c₁ c₂ p m f g =
-      let v = sp.node in
-      let a = sp.start in
-      let z = sp.end in
-      let rs₁ = recut v a z (top + 1) time next (ranges c 0 n) in
-      let few : n + p ≤ 128 = omega (arith, f.1) in
-      let long : length rs₁ ≡ n + p = omega (arith, recut-long v a z (top + 1) time next (ranges c 0 n), ranges_length c 0 n, f.1) in
-      let read : ranges c₁ 0 (n + p) ≡ rs₁ = ap (λ t. ranges t 0 (n + p)) f.0 ∙ laid-read c w.sized (n + p) (n + p) rs₁ long (omega arith) few in
-      let same : touched_ranges (one_inside a z (ranges c lo (hi - lo))) sp (suc top) time next (ranges c 0 n) ≡ join v rs₁ =
-      ap (λ t. touched_ranges t sp (suc top) time next (ranges c 0 n)) (sym is_one ∙ e) ∙ ap (λ t. join v (recut v a z t time next (ranges c 0 n))) (sym (add-one top)) in
-      record {
-        columns =
-            then_wide c w.sized (join v) (n + p) (n + p) rs₁ c₁ c₂ f.0 long (omega arith) few g.0 ∙ ap (λ t. lay_ranges 0 (n + p) t c) (sym same);
-        records = g.1 ∙ ap (λ t. length (join v t)) read ∙ ap length (sym same);
-        needs = f.1;
-      }
+  module _ (room : n + new_pieces sp.node sp.start sp.end (ranges c 0 n) ≤ 128) (c₁ : Ranges) (p : ℕ)
+      (cut : c₁ ≡ lay_ranges 0 (n + p) (recut sp.node sp.start sp.end (top + 1) time next (ranges c 0 n)) c)
+      (new : p ≡ new_pieces sp.node sp.start sp.end (ranges c 0 n)) where
+    abbrev now_cut : List Range
+    now_cut = recut sp.node sp.start sp.end (top + 1) time next (ranges c 0 n)
+
+    few : n + p ≤ 128
+    few = omega (arith, new)
+
+    long : length now_cut ≡ n + p
+    long = omega (arith, recut-long sp.node sp.start sp.end (top + 1) time next (ranges c 0 n), ranges_length c 0 n, new)
+
+    pub recut_sized : Sized 128 c₁
+    recut_sized = rw cut (sized-laid c w.sized (n + p) now_cut (omega (arith, long)) few)
+
+    pub refreshed_cut : one ≡ false → (c₂ : Ranges) (m : ℕ)
+        → c₂ ≡ lay_ranges 0 (n + p) (join sp.node (ranges c₁ 0 (n + p))) c₁ → m ≡ length (join sp.node (ranges c₁ 0 (n + p)))
+        → Refreshed sp (suc top) time next c c₂ n lo (hi - lo) m p
+    refreshed_cut e c₂ m joined count =
+        let v = sp.node in
+        let a = sp.start in
+        let z = sp.end in
+        let read : ranges c₁ 0 (n + p) ≡ now_cut = ap (λ t. ranges t 0 (n + p)) cut ∙ laid-read c w.sized (n + p) (n + p) now_cut long (omega arith) few in
+        let same : touched_ranges (one_inside a z (ranges c lo (hi - lo))) sp (suc top) time next (ranges c 0 n) ≡ join v now_cut =
+        ap (λ t. touched_ranges t sp (suc top) time next (ranges c 0 n)) (sym told ∙ e) ∙ ap (λ t. join v (recut v a z t time next (ranges c 0 n))) (sym (add-one top)) in
+        record {
+          columns =
+              then_wide c w.sized (join v) (n + p) (n + p) now_cut c₁ c₂ cut long (omega arith) few joined ∙ ap (λ t. lay_ranges 0 (n + p) t c) (sym same);
+          records = count ∙ ap (λ t. length (join v t)) read ∙ ap length (sym same);
+          needs = new;
+        }
 
 -- bytes look at the depths of a tree, and at starts and ends
 held_same : (t : Tree) (depth table : List ℕ) (v a z : ℕ) (c : Ranges) → t.depth ≡ depth → (i m : ℕ)
-    → held_bytes (only_depth depth) table v a z (ranges (only_spans c.start c.end) i m) ≡ held_bytes t table v a z (ranges c i m)
+    → held_bytes (only_depth depth) table v a z (ranges c i m) ≡ held_bytes t table v a z (ranges c i m)
 unfolding held_bytes ranges
 held_same t depth table v a z c e i zero = refl
 held_same t depth table v a z c e i (suc m) =
@@ -728,7 +695,7 @@ held_same t depth table v a z c e i (suc m) =
     ∙ ap (λ d. (at table (at d v + min z (at c.end i)) - at table (at d v + max a (at c.start i))) + held_bytes t table v a z (ranges c (suc i) m)) (sym e)
 
 read_same : (counted : Bool) (t : Tree) (depth table : List ℕ) (sp : Span) (c : Ranges) → t.depth ≡ depth → (i m : ℕ)
-    → bytes_read counted (only_depth depth) table sp (ranges (only_spans c.start c.end) i m) ≡ bytes_read counted t table sp (ranges c i m)
+    → bytes_read counted (only_depth depth) table sp (ranges c i m) ≡ bytes_read counted t table sp (ranges c i m)
 read_same true t depth table sp c e i m = held_same t depth table sp.node sp.start sp.end c e i m
 read_same false t depth table sp c e i m = refl
 
@@ -755,7 +722,7 @@ module _ (c : Ranges) (n lo hi : ℕ) (sp : Span) (next : ℕ) (time : Float) (c
       (record { columns = as_it_was; marks = sym q; records = as_many; need = refl; stamps = refl; bytes = refl })
 
   module _ (d : lo ≡ hi → ⊥) (depth : List ℕ) (deep : t.depth ≡ depth) (read : ℕ)
-      (read_is : read ≡ bytes_read counted (only_depth depth) table sp (ranges (only_spans c.start c.end) lo (hi - lo)))
+      (read_is : read ≡ bytes_read counted (only_depth depth) table sp (ranges c lo (hi - lo)))
       (ms ms' : List ℕ) (q : x.marks ≡ ms) (marked : ms' ≡ mark_read counted sp ms) where
     abbrev r₀ : Range
     r₀ = range_at c lo
@@ -832,14 +799,6 @@ module _ (c : Ranges) (n lo hi : ℕ) (sp : Span) (next : ℕ) (time : Float) (c
 
 -- ---- room for a test's record
 
-pub room-on : (on : Bool) (n : ℕ) → n + plus on 0 ≤ 128 → on ≡ true → n < 128
-room-on true n h e = omega arith
-room-on false n h e = absurd (false≢true e)
-
 pub room-off : (on : Bool) (n : ℕ) → n + plus on 0 ≤ 128 → n ≤ 128
 room-off true n h = omega arith
 room-off false n h = omega arith
-
-pub plus-most : (on : Bool) (k : ℕ) → k ≡ plus on 0 → k ≤ 1
-plus-most true k e = omega arith
-plus-most false k e = omega arith

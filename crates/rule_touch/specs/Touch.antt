@@ -4,7 +4,6 @@ use Rattle.model.specs.declared.Span.{Span}
 use Rattle.model.specs.State.{Ranges, Range}
 use Rattle.model.specs.Store.{ranges, lay_ranges, part}
 use Rattle.model.specs.Touch.{one_inside, restamp, recut, new_pieces, join, Touched}
-use Rattle.shape_state.specs.Lent.{ranges_of}
 use Rattle.rule_overlap.specs.Overlap.{halves}
 use Rattle.rule_touch.specs.declared.Used.{Used}
 
@@ -16,10 +15,6 @@ halves_if false m i r rs = r ∷ rs
 abbrev pub merged : Range → List Range → List Range
 merged r [] = r ∷ []
 merged r (q ∷ rs) = part r r.node r.start q.end r.id ∷ rs
-
--- the columns of which only these are looked at
-abbrev pub only_joins : List ℕ → List ℕ → List ℕ → List ℕ → List ℕ → Ranges
-only_joins node start end stamp write = ranges_of node start end [] stamp [] write
 
 -- the ranges after a touch: restamped in place where `one` is told, otherwise cut and joined
 abbrev pub touched_ranges : Bool → Span → ℕ → Float → ℕ → List Range → List Range

@@ -4,7 +4,7 @@ use Prim.Native.Nat.{ℕ, zero, suc, ◌+◌, ◌-◌, ◌%◌, ◌≤◌, ◌<�
 use mathlib.Core.Path.{◌≡◌, refl, sym, ap, subst, ◌∙◌}
 use mathlib.Core.Bool.{Bool, true, false, not}
 use mathlib.Core.List.{List, [], ◌∷◌, ◌++◌, append_assoc, append-nil}
-use mathlib.Core.Option.{Option, none, some}
+use Rattle.std.specs.Prelude.{Option, None, Some}
 use native.Mathlib.Nat.{le_refl}
 use native.Mathlib.Omega.{arith}
 use lib.ListN.{length, length-set, length-append}
@@ -25,9 +25,6 @@ use Rattle.rule_resolve.specs.Span.{only_depth}
 use Rattle.pool_range.specs.Part.{Sized}
 use Rattle.pool_out.specs.Evicted.{out_of, set_out}
 use Rattle.pool_out.proofs.Laws.{out-more}
-use Rattle.pool_number.specs.declared.Found.{Found}
-use Rattle.pool_number.specs.declared.Found.TheVariants.{At, Nothing}
-use Rattle.pool_number.specs.Found.{found_of}
 use Rattle.rule_evict.specs.declared.Gone.{Gone}
 use Rattle.rule_evict.specs.Evict.{Left, left, evict_cols, Reach, Tabled, EntryGone}
 use Rattle.rule_evict.specs.Given.{Ready, GivenOut}
@@ -235,18 +232,18 @@ unfolding chosen
 chosen-now ps zero rs h = absurd (omega arith)
 chosen-now ps (suc e) rs h = refl
 
-chosen-zero : (ps : List Pin) (rs : List Range) → chosen ps 0 rs ≡ none
+chosen-zero : (ps : List Pin) (rs : List Range) → chosen ps 0 rs ≡ None
 unfolding chosen
 chosen-zero ps rs = refl
 
 by-none : (t : Tree) (table : List ℕ) (ps : List Pin) (n e : ℕ) (rs : List Range) (ms : List ℕ)
-    → trim_by asked t table ps n e none rs ms ≡ record { ranges = rs; marks = ms; outs = []; stalled = ltb 0 e }
+    → trim_by asked t table ps n e None rs ms ≡ record { ranges = rs; marks = ms; outs = []; stalled = ltb 0 e }
 unfolding trim_by
 by-none t table ps zero e rs ms = refl
 by-none t table ps (suc n) e rs ms = refl
 
 by-some : (t : Tree) (table : List ℕ) (ps : List Pin) (n e i k : ℕ) (rs : List Range) (ms : List ℕ) → k ≡ amount asked e (nth rs i)
-    → trim_by asked t table ps (suc n) e (some i) rs ms
+    → trim_by asked t table ps (suc n) e (Some i) rs ms
     ≡ also (told t table ms (nth rs i) ((nth rs i).end - k) (nth rs i).end) (trim_by asked t table ps n (e - k) (chosen ps (e - k) (evict rs i k)) (evict rs i k) (unmark (nth rs i).node (evict rs i k) ms))
 unfolding trim_by
 by-some t table ps n e i k rs ms q = rw q
@@ -275,16 +272,16 @@ module _ {depth table : List ℕ} {n₀ h₀ : ℕ} {c₀ : Ranges} {ms₀ : Lis
       found p e = chosen-now ps (h - capacity) s.rs (omega arith) ∙ ap (first (λ r. not (is_pinned ps r))) (sym (going-read ready s.going)) ∙ sym e
 
       -- all is pinned
-      pub trim_stuck : {p : Found} → found_of p ≡ first (λ r. not (is_pinned ps r)) (ranges c 0 k) → p ≡ Nothing
+      pub trim_stuck : {p : Option ℕ} → p ≡ first (λ r. not (is_pinned ps r)) (ranges c 0 k) → p ≡ None
           → GivenOut (trim (only_depth depth) table ps capacity (ranges c₀ 0 n₀) ms₀) n₀ v₀ c₀ l₀ c ms l k h o v true
       trim_stuck q here =
           let z : ltb 0 (h - capacity) ≡ true = lt-ltb 0 (h - capacity) (omega arith) in
-          let e = rw (found none (sym (ap found_of here) ∙ q), by-none (only_depth depth) table ps (n₀ - o) (h - capacity) s.rs ms, z) at s.todo in
+          let e = rw (found None (sym here ∙ q), by-none (only_depth depth) table ps (n₀ - o) (h - capacity) s.rs ms, z) at s.todo in
           subst (λ (w : Trimmed). GivenOut w n₀ v₀ c₀ l₀ c ms l k h o v true) (before-none s.os s.rs ms true ∙ e) (going_end ready s.going true)
 
-      module _ {p : Found} {i : ℕ} (choice : found_of p ≡ first (λ r. not (is_pinned ps r)) (ranges c 0 k)) (here : p ≡ At i) where
-        some_first : some i ≡ first (λ r. not (is_pinned ps r)) (ranges c 0 k)
-        some_first = sym (ap found_of here) ∙ choice
+      module _ {p : Option ℕ} {i : ℕ} (choice : p ≡ first (λ r. not (is_pinned ps r)) (ranges c 0 k)) (here : p ≡ Some i) where
+        some_first : Some i ≡ first (λ r. not (is_pinned ps r)) (ranges c 0 k)
+        some_first = sym here ∙ choice
 
         pub trim-place : i < k
         trim-place = omega (arith, (first_some (λ r. not (is_pinned ps r)) (ranges c 0 k) i (sym some_first)).0, ranges_length c 0 k)
@@ -323,7 +320,7 @@ module _ {depth table : List ℕ} {n₀ h₀ : ℕ} {c₀ : Ranges} {ms₀ : Lis
                   let d : h - e.taken - capacity ≡ h - capacity - a = omega (arith, taken) in
                   rw (before-also, d, going-marks ready s.going trim-place trim-room refl gone put)
                   (ap (before s.os) (sym (by-some (only_depth depth) table ps (n₀ - (o + 1)) (h - capacity) i a s.rs ms refl))
-                  ∙ (rw (found (some i) some_first, f) at s.todo))
+                  ∙ (rw (found (Some i) some_first, f) at s.todo))
 
 -- ---- bytes look at the depths of a tree alone, so a trim does
 
@@ -331,8 +328,8 @@ by-depth : (t : Tree) (table : List ℕ) (ps : List Pin) (n e : ℕ) (c : Option
     → trim_by asked (only_depth t.depth) table ps n e c rs ms ≡ trim_by asked t table ps n e c rs ms
 unfolding trim_by
 by-depth t table ps zero e c rs ms = refl
-by-depth t table ps (suc n) e none rs ms = refl
-by-depth t table ps (suc n) e (some i) rs ms =
+by-depth t table ps (suc n) e None rs ms = refl
+by-depth t table ps (suc n) e (Some i) rs ms =
     let r = nth rs i in
     let k = amount asked e r in
     let rest = evict rs i k in

@@ -53,9 +53,6 @@ module _ {m : ℕ} {on from upto : List ℕ} {n : ℕ} {sps : List Span} {i : �
       let count = spans_length on from upto in
       (omega (arith, count, r.most, l), omega (arith, count, r.most, l), omega (arith, count, r.most, l))
 
-  pub in_array : i < n → i < m
-  in_array l = omega (arith, r.most, l)
-
   pub read_more : {v : Span} → i < n → v ≡ span (at on i) (at from i) (at upto i) → Reading m on from upto n (set sps i v) (i + 1)
   read_more {v} l e =
       let spans = spans_of on from upto in

@@ -7,10 +7,10 @@ use native.Mathlib.Omega.{arith}
 use lib.ListN.{length}
 use lib.Seq.{sets, sets-eq}
 use lib.Ieee.{Float}
+use Rattle.std.specs.Prelude.{Option, None, Some}
 use Rattle.model.specs.declared.Span.{Span}
 use Rattle.model.specs.declared.Path.{Path}
-use Rattle.model.specs.declared.Split.{Split}
-use Rattle.model.specs.declared.Split.TheVariants as SplitIs
+use Rattle.model.specs.declared.Cut.{Cut}
 use Rattle.model.specs.declared.ResolveAnswer.{ResolveAnswer}
 use Rattle.model.specs.declared.InsertAnswer.{InsertAnswer}
 use Rattle.model.specs.declared.BringAnswer.{BringAnswer}
@@ -63,10 +63,10 @@ resolve-told = by_value resolve_at resolve_values back
 pub insert-told : (a : Answer InsertAnswer) → Told insert_at insert_values a
 insert-told = by_value insert_at insert_values back
   where
-    cut : (l : List ℕ) → length l ≡ 19 → (p : Path) (s : Split)
+    cut : (l : List ℕ) → length l ≡ 19 → (p : Path) (s : Option Cut)
         → insert_at (sets l 0 (insert_values (record { path = p; split = s }))) ≡ record { path = p; split = s }
-    cut l long p SplitIs.No = ap insert_at (sets-eq (insert_values (record { path = p; split = SplitIs.No })) l 0 (omega arith))
-    cut l long p (SplitIs.At c) = ap insert_at (sets-eq (insert_values (record { path = p; split = SplitIs.At c })) l 0 (omega arith))
+    cut l long p None = ap insert_at (sets-eq (insert_values (record { path = p; split = None })) l 0 (omega arith))
+    cut l long p (Some c) = ap insert_at (sets-eq (insert_values (record { path = p; split = Some c })) l 0 (omega arith))
 
     back : (l : List ℕ) → length l ≡ 19 → (v : InsertAnswer) → insert_at (sets l 0 (insert_values v)) ≡ v
     back l long v = cut l long v.path v.split

@@ -1,9 +1,8 @@
 -- An answer as a number and a lent list: 0 and the values, or the refusal's number and the list as it was. Assumes nothing.
-use Rattle.std.specs.Prelude.{ℕ, zero, suc, ◌≡◌, List, [], ◌∷◌, ◌++◌, drop}
+use Rattle.std.specs.Prelude.{ℕ, zero, suc, ◌≡◌, List, [], ◌∷◌, ◌++◌, drop, Option, None, Some}
 use Rattle.std.proofs.lemmas.List.Edits.{sets}
 use Rattle.model.specs.declared.Path.{Path}
-use Rattle.model.specs.declared.Split.{Split}
-use Rattle.model.specs.declared.Split.TheVariants as SplitIs
+use Rattle.model.specs.declared.Cut.{Cut}
 use Rattle.model.specs.declared.ResolveAnswer.{ResolveAnswer}
 use Rattle.model.specs.declared.InsertAnswer.{InsertAnswer}
 use Rattle.model.specs.declared.BringAnswer.{BringAnswer}
@@ -36,9 +35,9 @@ abbrev pub resolve_at : List ℕ → ResolveAnswer
 resolve_at l = record { path = path_at l }
 
 -- no cut, or the cut node, the blocks that it keeps and the new node
-abbrev pub split_at : ℕ → List ℕ → Split
-split_at zero l = SplitIs.No
-split_at (suc k) l = SplitIs.At (record { node = at l 3; at = at l 4; new = at l 5 })
+abbrev pub split_at : ℕ → List ℕ → Option Cut
+split_at zero l = None
+split_at (suc k) l = Some (record { node = at l 3; at = at l 4; new = at l 5 })
 
 abbrev pub insert_at : List ℕ → InsertAnswer
 insert_at l = record { path = path_at l; split = split_at (at l 2) l }
@@ -75,9 +74,9 @@ count_values k = k ∷ []
 abbrev pub resolve_values : ResolveAnswer → List ℕ
 resolve_values v = v.path.segs ∷ v.path.blocks ∷ []
 
-abbrev pub split_values : Split → List ℕ
-split_values SplitIs.No = 0 ∷ []
-split_values (SplitIs.At c) = 1 ∷ c.node ∷ c.at ∷ c.new ∷ []
+abbrev pub split_values : Option Cut → List ℕ
+split_values None = 0 ∷ []
+split_values (Some c) = 1 ∷ c.node ∷ c.at ∷ c.new ∷ []
 
 abbrev pub insert_values : InsertAnswer → List ℕ
 insert_values v = v.path.segs ∷ v.path.blocks ∷ split_values v.split

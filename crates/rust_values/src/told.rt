@@ -1,5 +1,5 @@
 // An answer told as a number and a list: 0 and the values, or the refusal's number with the list as it was.
-ghost use Rattle.std.specs.Prelude.{◌≡◌};
+ghost use Rattle.std.specs.Prelude.{◌≡◌, ◌+◌, ◌≤◌};
 ghost use Rattle.std.proofs.lemmas.List.Edits.{sets};
 ghost use Rattle.model.specs.Lookup.{sums_in};
 ghost use Rattle.shape_answer.specs.Answers.{plain_of, count_of, resolved_of, inserted_of, looked_of};
@@ -7,7 +7,7 @@ ghost use Rattle.shape_answer.specs.Answers.{store_inserted_of, store_used_of, s
 ghost use Rattle.rust_values.specs.Told.{number_of, laid, count_values, resolve_values, insert_values};
 ghost use Rattle.rust_values.specs.Told.{bring_values, touch_values, remove_values, expire_values, lookup_values};
 
-use model::{EachTier, Split};
+use model::EachTier;
 use shape_answer::{
     Count, Inserted, Looked, Plain, Resolved, StoreExpired, StoreInserted, StoreRemoved, StoreUsed,
 };
@@ -54,13 +54,12 @@ pub fn inserted(answer: &mut [u64; 19], a: Inserted) -> u8
         Inserted::Done(v) => {
             answer[0] = v.path.segs as u64;
             answer[1] = v.path.blocks as u64;
-            let split = v.split;
-            match split {
-                Split::No => {
+            match v.split {
+                None => {
                     answer[2] = 0;
                     0
                 }
-                Split::At(c) => {
+                Some(c) => {
                     answer[2] = 1;
                     answer[3] = c.node as u64;
                     answer[4] = c.at as u64;
@@ -122,30 +121,14 @@ pub fn store_expired(answer: &mut [u64; 19], a: StoreExpired) -> u8
     }
 }
 
-fn tell_blocks(answer: &mut [u64; 19], t: EachTier)
-    ensures { answer.new ≡ sets answer.old 3 (sums_in t) }
+// Eight sums, from the place `at` on.
+fn tell_sums(answer: &mut [u64; 19], at: usize, t: EachTier)
+    requires { at + 8 ≤ 19 }
+    ensures { answer.new ≡ sets answer.old at (sums_in t) }
 {
-    answer[3] = t.first;
-    answer[4] = t.second;
-    answer[5] = t.third;
-    answer[6] = t.fourth;
-    answer[7] = t.fifth;
-    answer[8] = t.sixth;
-    answer[9] = t.seventh;
-    answer[10] = t.eighth;
-}
-
-fn tell_bytes(answer: &mut [u64; 19], t: EachTier)
-    ensures { answer.new ≡ sets answer.old 11 (sums_in t) }
-{
-    answer[11] = t.first;
-    answer[12] = t.second;
-    answer[13] = t.third;
-    answer[14] = t.fourth;
-    answer[15] = t.fifth;
-    answer[16] = t.sixth;
-    answer[17] = t.seventh;
-    answer[18] = t.eighth;
+    answer[at..at + 8].copy_from_slice(&[
+        t.first, t.second, t.third, t.fourth, t.fifth, t.sixth, t.seventh, t.eighth,
+    ]);
 }
 
 pub fn looked(answer: &mut [u64; 19], a: Looked) -> u8
@@ -157,8 +140,8 @@ pub fn looked(answer: &mut [u64; 19], a: Looked) -> u8
             answer[0] = v.path.segs as u64;
             answer[1] = v.path.blocks as u64;
             answer[2] = v.spans as u64;
-            tell_blocks(answer, v.blocks);
-            tell_bytes(answer, v.bytes);
+            tell_sums(answer, 3, v.blocks);
+            tell_sums(answer, 11, v.bytes);
             0
         }
     }

@@ -1,3 +1,2 @@
-pub mod Infinities
 pub mod Laws
 pub mod Need

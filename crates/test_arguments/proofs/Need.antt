@@ -1,28 +1,17 @@
--- What is needed passes a limit or fits below it: each way gives its number. Assumes nothing.
-use Prim.Native.Nat.{ℕ, ◌+◌, ◌≤◌, ◌<◌}
+-- What is needed fits below each limit where the number is 0, and only there. Assumes nothing.
+use Prim.Native.Nat.{ℕ, ◌+◌, ◌≤◌}
 use mathlib.Core.Path.{◌≡◌, refl}
 use mathlib.Core.Bool.{Bool, true, false, ◌||◌}
 use native.Mathlib.Omega.{arith}
 use lib.Dec.{ltb}
-use borrow.Author.Tests.{lt-ltb, le-ltb, ltb-false}
+use borrow.Author.Tests.{le-ltb, ltb-false}
 use Rattle.model.specs.Words.{pick}
 use Rattle.model.specs.Sizes.{store_records, max_stamp}
 use Rattle.test_arguments.specs.Need.{need_number}
 
 module _ (n need top stamps next : ℕ) where
-  pub number_8 : store_records < n + need → 8 ≡ need_number n need top stamps next
-  number_8 h = simp (lt-ltb store_records (n + need) h)
-
-  module _ (room : n + need ≤ store_records) where
-    pub number_11 : max_stamp < top + stamps → 11 ≡ need_number n need top stamps next
-    number_11 h = simp (le-ltb store_records (n + need) room, lt-ltb max_stamp (top + stamps) h)
-
-    module _ (early : top + stamps ≤ max_stamp) where
-      pub number-late : max_stamp < next + need → 11 ≡ need_number n need top stamps next
-      number-late h = simp (le-ltb store_records (n + need) room, le-ltb max_stamp (top + stamps) early, lt-ltb max_stamp (next + need) h)
-
-      pub number_0 : next + need ≤ max_stamp → 0 ≡ need_number n need top stamps next
-      number_0 h = simp (le-ltb store_records (n + need) room, le-ltb max_stamp (top + stamps) early, le-ltb max_stamp (next + need) h)
+  pub number_0 : n + need ≤ store_records → top + stamps ≤ max_stamp → next + need ≤ max_stamp → 0 ≡ need_number n need top stamps next
+  number_0 room early late = simp (le-ltb store_records (n + need) room, le-ltb max_stamp (top + stamps) early, le-ltb max_stamp (next + need) late)
 
   -- and the other way round: 0 says that all fits
   pub number_fits : 0 ≡ need_number n need top stamps next → (n + need ≤ store_records) × (top + stamps ≤ max_stamp) × (next + need ≤ max_stamp)

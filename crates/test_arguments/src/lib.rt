@@ -14,17 +14,13 @@ ghost use Rattle.test_arguments.specs.Room.{Roomy};
 
 use model::Span;
 
+const MAX_STAMP: u64 = 281474976710655;
+
 // Neither infinite nor no number.
 pub fn finite(x: f64) -> bool
     ensures { Says result (Finite x) }
 {
-    let inf = 1.0 / 0.0;
-    if x < inf {
-        if -inf < x {
-            return true;
-        }
-    }
-    false
+    x.is_finite()
 }
 
 // Is the span of a node in use, nonempty and inside it?
@@ -32,29 +28,13 @@ pub fn span_in(len: &[usize], nodes: usize, sp: Span) -> bool
     requires { nodes ≤ length len.now }
     ensures { (t : Tree) → t.len ≡ len.now → t.nodes ≡ nodes → result ≡ span_in t sp }
 {
-    let v = sp.node;
-    if nodes <= v {
-        return false;
-    }
-    if sp.end <= sp.start {
-        return false;
-    }
-    if len[v] < sp.end {
-        return false;
-    }
-    true
+    sp.node < nodes && sp.start < sp.end && sp.end <= len[sp.node]
 }
 
 pub fn path_fits(node: &[usize], len: &[usize]) -> bool
     ensures { Says result (PathFits (path_list_of node.now len.now)) }
 {
-    if node.len() < 255 {
-        return false;
-    }
-    if len.len() < 255 {
-        return false;
-    }
-    true
+    node.len() >= 255 && len.len() >= 255
 }
 
 pub fn outs_fit(
@@ -67,62 +47,31 @@ pub fn outs_fit(
 ) -> bool
     ensures { Says result (OutFits (out_list node.now start.now end.now write.now bytes.now dead.now)) }
 {
-    if node.len() < 128 {
-        return false;
-    }
-    if start.len() < 128 {
-        return false;
-    }
-    if end.len() < 128 {
-        return false;
-    }
-    if write.len() < 128 {
-        return false;
-    }
-    if bytes.len() < 128 {
-        return false;
-    }
-    if dead.len() < 128 {
-        return false;
-    }
-    true
+    node.len() >= 128
+        && start.len() >= 128
+        && end.len() >= 128
+        && write.len() >= 128
+        && bytes.len() >= 128
+        && dead.len() >= 128
 }
 
 pub fn writes_fit(list: &[u32]) -> bool
     ensures { Says result (out_places ≤ length list.now) }
 {
-    if list.len() < 128 {
-        return false;
-    }
-    true
+    list.len() >= 128
 }
 
 pub fn tiers_fit(tier: &[usize], node: &[usize], start: &[usize], end: &[usize]) -> bool
     ensures { Says result (TierFits (record { tier = tier.now; node = node.now; start = start.now; end = end.now })) }
 {
-    if tier.len() < 1024 {
-        return false;
-    }
-    if node.len() < 1024 {
-        return false;
-    }
-    if start.len() < 1024 {
-        return false;
-    }
-    if end.len() < 1024 {
-        return false;
-    }
-    true
+    tier.len() >= 1024 && node.len() >= 1024 && start.len() >= 1024 && end.len() >= 1024
 }
 
 // Are n tiers too many?
 pub fn many_tiers(n: usize) -> bool
     ensures { Says result (max_tiers < n) }
 {
-    if 8 < n {
-        return true;
-    }
-    false
+    8 < n
 }
 
 // Would a pin of so many blocks exceed the store's entries or its pinned blocks?
@@ -130,16 +79,7 @@ pub fn too_many(there: bool, n: usize, pinned: u64, blocks: usize) -> bool
     requires { (n ≤ 32) × (pinned ≤ max_pinned) }
     ensures { result ≡ (ltb 32 (n + plus (not there) 0) || ltb max_pinned (pinned + blocks)) }
 {
-    if 1000000 - pinned < blocks as u64 {
-        return true;
-    }
-    if there {
-        return false;
-    }
-    if n < 32 {
-        return false;
-    }
-    true
+    1000000 - pinned < blocks as u64 || (!there && 32 <= n)
 }
 
 // No turn of `count` spans can be refused: each needs two records and ids and one stamp at most.
@@ -147,16 +87,9 @@ pub fn roomy(n: usize, top: u64, next: u64, count: usize) -> bool
     requires { (count ≤ 64) × (n ≤ 128) × (top ≤ max_stamp) × (next ≤ max_stamp) }
     ensures { Says result (Roomy n top next count) }
 {
-    if 128 < n + 2 * count {
-        return false;
-    }
-    if 281474976710655 - top < count as u64 {
-        return false;
-    }
-    if 281474976710655 - next < 2 * (count as u64) {
-        return false;
-    }
-    true
+    n + 2 * count <= 128
+        && count as u64 <= MAX_STAMP - top
+        && 2 * (count as u64) <= MAX_STAMP - next
 }
 
 // What new records, ids and stamps are refused for in a store with n records, the last stamp `top` and the next id: 8, 11 or nothing, 0. Tested by
@@ -166,13 +99,10 @@ pub fn need_number(n: usize, need: usize, top: u64, stamps: u64, next: u64) -> u
     ensures { result ≡ need_number n need top stamps next }
 {
     if 128 - n < need {
-        return 8;
+        8
+    } else if MAX_STAMP - top < stamps || MAX_STAMP - next < need as u64 {
+        11
+    } else {
+        0
     }
-    if 281474976710655 - top < stamps {
-        return 11;
-    }
-    if 281474976710655 - next < need as u64 {
-        return 11;
-    }
-    0
 }

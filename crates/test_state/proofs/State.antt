@@ -1,16 +1,21 @@
 -- What the tests find is what the model says, fact by fact: the same numbers at the same places of the pools. Assumes nothing.
-use Prim.Native.Nat.{ℕ, zero, suc, ◌*◌}
+use Prim.Native.Nat.{ℕ, zero, suc, ◌*◌, ◌≤◌}
 use mathlib.Core.Path.{◌≡◌, refl, sym, ◌∙◌}
+use mathlib.Core.Bool.{Bool, true, false}
+use lib.ListN.{length}
 use native.Mathlib.Omega.{arith}
-use Rattle.model.specs.Words.{Each}
-use Rattle.model.specs.Sizes.{store_records, store_pins}
+use Rattle.model.specs.Words.{Each, Says}
+use Rattle.model.specs.Sizes.{store_records, store_pins, max_marks, max_numbers}
 use Rattle.model.specs.State.{State, at, range_at, pin_at, stores_of, next_id_of, records_of, stamp_of, entries_of}
-use Rattle.model.specs.Sound.{Sound, Inside, Before, IdBetween, StampBetween, PinInside, PinBefore, held_by, pinned_by}
+use Rattle.model.specs.Sound.{Sound, RangesLent, PinsLent, Inside, Before, IdBetween, StampBetween, PinInside, PinBefore, held_by, pinned_by}
 use Rattle.model.specs.Sound.{RecordsStand, RecordsInside, HeldIsSum, HeldNoneAtZero, IdsBelowNext, StampsUpToStores, TimesFinite}
 use Rattle.model.specs.Sound.{PinsStand, PinsInside, PinnedIsSum, MarksNone, MarksWithin}
 use Rattle.test_store.specs.Records.{InsideAt, BeforeAt, NumberedAt, FiniteAt, held_from}
 use Rattle.test_store.specs.Pins.{PinBeforeAt, CountedAt, pinned_from}
-use Rattle.test_state.specs.Stores.{StoreRecords, StorePins, StoreMarks, Tested}
+use Rattle.test_state.specs.Stores.{NumbersFit, CountsFit, StoreRecords, StorePins, StoreMarks, Tested}
+use Rattle.test_tree.specs.Nodes.{Table}
+use Rattle.test_tree.specs.Tree.{TreeSound}
+use Rattle.test_state.specs.Ids.{Differ}
 use Rattle.test_state.proofs.Places.{each_of, each_at, pairs_of, pairs-at}
 use Rattle.test_state.proofs.Ids.{ids-of, ids_at}
 
@@ -231,3 +236,14 @@ module _ (st : State) where
     marks_none = marks-none-of t;
     marks_within = marks-within-of t;
   }
+
+  -- the last test says whether the state is sound, where the others passed
+  pub sound_says : (r : Bool) → RangesLent st.ranges → PinsLent st.pins → max_marks ≤ length st.marks → max_numbers ≤ length st.books → NumbersFit st.books
+      → Each 0 (stores_of st) (CountsFit st.books) → Table st.bytes → TreeSound st.tree
+      → Each 0 (stores_of st) (StoreRecords st.tree.len st.ranges.node st.ranges.start st.ranges.end st.ranges.id st.ranges.stamp st.ranges.touched st.tree.nodes st.books)
+      → Each 0 (stores_of st) (StorePins st.tree.len st.pins.node st.pins.start st.pins.end st.pins.count st.tree.nodes st.books)
+      → Each 0 (stores_of st) (StoreMarks st.tree.len st.ranges.node st.marks st.tree.nodes st.books)
+      → Says r (Differ st.ranges.id st.books (store_records * stores_of st)) → Says r (Sound st)
+  sound_says true a b c d e f g h i j k l =
+      sound-of (record { ranges = a; pins = b; marks = c; books = d; numbers = e; counts = f; table = g; tree = h; records = i; entries = j; marked = k; ids = l })
+  sound_says false a b c d e f g h i j k l = λ s. l (tested-of s).ids

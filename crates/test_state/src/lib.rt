@@ -6,58 +6,32 @@ ghost use Rattle.model.specs.Sizes.{max_numbers};
 ghost use Rattle.model.specs.State.{at, nodes_in, used_in, stores_in, book_in};
 ghost use Rattle.model.specs.Sound.{StoreCounts, Sound};
 ghost use Rattle.shape_state.specs.Lent.{tree_of, ranges_of, pins_of, state_of};
-ghost use Rattle.test_tree.specs.Chain.{Chain};
+ghost use Rattle.test_tree.specs.Chain.{Chain, reach};
 ghost use Rattle.test_state.specs.Ids.{Live, Differ, Fresh, id_bucket};
 ghost use Rattle.test_state.specs.Stores.{NumbersFit, CountsFit, StoreRecords, StorePins, StoreMarks};
 
 use model::Book;
 
+const MAX_STAMP: u64 = 281474976710655;
+
+const MAX_STALLS: u64 = 281474976710656;
+
 fn numbers_fit(books: &[u64]) -> bool
     requires { max_numbers ≤ length books.now }
     ensures { Says result (NumbersFit books.now) }
 {
-    let stores = books[2];
-    if stores < 1 {
-        return false;
-    }
-    if 8 < stores {
-        return false;
-    }
-    let next = books[3];
-    if next < 1 {
-        return false;
-    }
-    if 281474976710655 < next {
-        return false;
-    }
-    if 281474976710656 < books[4] {
-        return false;
-    }
-    true
+    (1..=8).contains(&books[2]) && (1..=MAX_STAMP).contains(&books[3]) && books[4] <= MAX_STALLS
 }
 
 fn counts_fit(b: Book) -> bool
     ensures { Says result (StoreCounts b) }
 {
-    if 1000000 < b.capacity {
-        return false;
-    }
-    if 1 < b.policy {
-        return false;
-    }
-    if 128 < b.records {
-        return false;
-    }
-    if 32 < b.entries {
-        return false;
-    }
-    if 1000000 < b.pinned {
-        return false;
-    }
-    if 281474976710655 < b.stamp {
-        return false;
-    }
-    true
+    b.capacity <= 1000000
+        && b.policy <= 1
+        && b.records <= 128
+        && b.entries <= 32
+        && b.pinned <= 1000000
+        && b.stamp <= MAX_STAMP
 }
 
 fn all_counts_fit(books: &[u64]) -> bool
@@ -65,15 +39,7 @@ fn all_counts_fit(books: &[u64]) -> bool
     ensures { Says result (Each 0 (stores_in books.now) (CountsFit books.now)) }
 {
     let stores = books[2] as usize;
-    let mut s = 0;
-    while s < stores {
-        let b = pool_book::book_of(books, s);
-        if !counts_fit(b) {
-            return false;
-        }
-        s += 1;
-    }
-    true
+    (0..stores).all(|s| counts_fit(pool_book::book_of(books, s)))
 }
 
 // Each store's records: its 128 places of the pool of ranges.
@@ -106,10 +72,9 @@ fn all_records_fit(
     let nodes = books[0] as usize;
     let stores = books[2] as usize;
     let next = books[3];
-    let mut s = 0;
-    while s < stores {
+    (0..stores).all(|s| {
         let b = pool_book::book_of(books, s);
-        if !test_store::records_fit(
+        test_store::records_fit(
             len,
             node,
             start,
@@ -124,12 +89,8 @@ fn all_records_fit(
             b.stamp,
             b.held,
             b.capacity,
-        ) {
-            return false;
-        }
-        s += 1;
-    }
-    true
+        )
+    })
 }
 
 // Each store's pin entries: its 32 places of the pool of pin entries.
@@ -157,16 +118,20 @@ fn all_pins_fit(
 {
     let nodes = books[0] as usize;
     let stores = books[2] as usize;
-    let mut s = 0;
-    while s < stores {
+    (0..stores).all(|s| {
         let b = pool_book::book_of(books, s);
-        let a = 32 * s;
-        if !test_store::pins_fit(len, node, start, end, count, nodes, a, b.entries, b.pinned) {
-            return false;
-        }
-        s += 1;
-    }
-    true
+        test_store::pins_fit(
+            len,
+            node,
+            start,
+            end,
+            count,
+            nodes,
+            32 * s,
+            b.entries,
+            b.pinned,
+        )
+    })
 }
 
 // Each store's marks: its 256 places of the pool of marks.
@@ -186,29 +151,24 @@ fn all_marks_fit(len: &[usize], node: &[usize], marks: &[usize], books: &[u64]) 
 {
     let nodes = books[0] as usize;
     let stores = books[2] as usize;
-    let mut s = 0;
-    while s < stores {
-        let b = pool_book::book_of(books, s);
+    (0..stores).all(|s| {
         let a = 128 * s;
-        if !test_store::marks_fit(len, node, marks, nodes, a, a + b.records, 256 * s) {
-            return false;
-        }
-        s += 1;
-    }
-    true
+        let b = a + pool_book::book_of(books, s).records;
+        test_store::marks_fit(len, node, marks, nodes, a, b, 256 * s)
+    })
 }
 
 // No record of the chain that begins at the link `from` has the id `y`.
-fn fresh(id: &[u64], books: &[u64], prev: &[usize], from: usize, y: u64) -> bool
-    requires { (from ≤ length id.now)
-        × (from ≤ length prev.now)
-        × Chain (id_bucket id.now) (Live books.now) prev.now from
-        × ((j : ℕ) → from ≡ j + 1 → Live books.now j × (id_bucket id.now j ≡ y % 1024)) }
-    ensures { Says result (Fresh id.now books.now from y) }
+fn fresh(id: &[u64], books: &[u64], prev: &[Option<u16>], from: Option<u16>, y: u64) -> bool
+    requires { (reach from ≤ length id.now)
+        × (reach from ≤ length prev.now)
+        × Chain (id_bucket id.now) (Live books.now) prev.now (reach from)
+        × ((j : ℕ) → reach from ≡ j + 1 → Live books.now j × (id_bucket id.now j ≡ y % 1024)) }
+    ensures { Says result (Fresh id.now books.now (reach from) y) }
 {
     let mut link = from;
-    while 0 < link {
-        let j = link - 1;
+    while let Some(j) = link {
+        let j = usize::from(j);
         if id[j] == y {
             return false;
         }
@@ -221,15 +181,12 @@ fn ids_differ(id: &[u64], books: &[u64]) -> bool
     requires { (max_numbers ≤ length books.now) × (stores_in books.now ≤ 8) × (1024 ≤ length id.now) }
     ensures { Says result (Differ id.now books.now (128 * stores_in books.now)) }
 {
-    let mut last = [0usize; 1024];
-    let mut prev = [0usize; 1024];
+    let mut last = [None; 1024];
+    let mut prev = [None; 1024];
     let stores = books[2] as usize;
     let records = pool_book::records_of(books);
     let n = 128 * stores;
-    let mut i = 0;
-    while i < n {
-        let k = i;
-        i += 1;
+    for k in 0..n {
         if records[k / 128] <= k % 128 {
             continue;
         }
@@ -240,12 +197,13 @@ fn ids_differ(id: &[u64], books: &[u64]) -> bool
             return false;
         }
         prev[k] = from;
-        last[bucket] = i;
+        last[bucket] = Some(k as u16);
     }
     true
 }
 
 // Whether the state is sound, on any pools and any small numbers, of any length.
+#[tactic(auto, using(crate::proofs::State::sound_says))]
 pub fn sound_state(
     parent: &[usize],
     depth: &[usize],
@@ -277,43 +235,24 @@ pub fn sound_state(
         (pins_of pin_node.now pin_start.now pin_end.now pin_count.now)
         marks.now bytes.now books.now)) }
 {
-    if !pool_book::long_enough(books) {
-        return false;
-    }
-    if !numbers_fit(books) {
-        return false;
-    }
-    if !all_counts_fit(books) {
-        return false;
-    }
-    if !test_tree::ranges_lent(node, start, end, id, stamp, touched, write) {
-        return false;
-    }
-    if !test_tree::pins_lent(pin_node, pin_start, pin_end, pin_count) {
-        return false;
-    }
-    if marks.len() < 2048 {
-        return false;
-    }
-    if !test_tree::table_rises(bytes) {
-        return false;
-    }
-    let nodes = books[0] as usize;
-    let used = books[1] as usize;
-    if !test_tree::tree_sound(parent, depth, len, run, words, nodes, used) {
-        return false;
-    }
-    if !all_records_fit(len, node, start, end, id, stamp, touched, books) {
-        return false;
-    }
-    if !all_pins_fit(len, pin_node, pin_start, pin_end, pin_count, books) {
-        return false;
-    }
-    if !all_marks_fit(len, node, marks, books) {
-        return false;
-    }
-    if !ids_differ(id, books) {
-        return false;
-    }
-    true
+    pool_book::long_enough(books)
+        && numbers_fit(books)
+        && all_counts_fit(books)
+        && test_tree::ranges_lent(node, start, end, id, stamp, touched, write)
+        && test_tree::pins_lent(pin_node, pin_start, pin_end, pin_count)
+        && marks.len() >= 2048
+        && test_tree::table_rises(bytes)
+        && test_tree::tree_sound(
+            parent,
+            depth,
+            len,
+            run,
+            words,
+            books[0] as usize,
+            books[1] as usize,
+        )
+        && all_records_fit(len, node, start, end, id, stamp, touched, books)
+        && all_pins_fit(len, pin_node, pin_start, pin_end, pin_count, books)
+        && all_marks_fit(len, node, marks, books)
+        && ids_differ(id, books)
 }

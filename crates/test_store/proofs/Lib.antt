@@ -1,4 +1,3 @@
 pub mod Places
 pub mod Sums
 pub mod Marks
-pub mod Ends

@@ -1,33 +1,29 @@
--- A loop over neighbours shows R of every two places from a on, where R goes on over the last but one. Assumes nothing.
-use Prim.Native.Nat.{ℕ, ◌+◌, ◌-◌, ◌≤◌, ◌<◌}
-use mathlib.Core.Path.{◌≡◌}
-use mathlib.Core.List.{List}
+-- A test of neighbours tells of every two places, where R goes on over the one between. Assumes nothing.
+use Rattle.std.proofs.Common.{◌≡◌, ℕ, zero, suc, ◌+◌, ◌-◌, ◌≤◌, ◌<◌, Bool, true, false, List, subst, arith}
 use mathlib.Core.Logic.{⊎_elim}
 use native.Mathlib.Nat.{eq-or-lt_of_le}
-use native.Mathlib.Omega.{arith}
+use Rattle.model.specs.Words.{Says, Each}
 use Rattle.model.specs.State.{at}
 use Rattle.test_store.specs.Places.{PairsFrom}
 use Rattle.test_store.specs.Records.{BeforeAt}
 use Rattle.test_store.specs.Pins.{PinBeforeAt}
 
-pub pairs-none : (R : ℕ → ℕ → Type 0) (a : ℕ) → PairsFrom a (a + 1) R
-pairs-none R a j k h l g = absurd (omega arith)
-
-module _ {R : ℕ → ℕ → Type 0} {a i : ℕ} where
-  pub pairs-more : a < i → ((j : ℕ) → a ≤ j → j < i - 1 → R j (i - 1) → R (i - 1) i → R j i) → PairsFrom a i R → R (i - 1) i → PairsFrom a (i + 1) R
-  pairs-more pos over all here j k h l g =
-      ⊎_elim (λ (e : k ≡ i). rw e (last (omega arith))) (λ (lt : k < i). all j k h l lt) (let f : k ≤ i = omega arith in eq-or-lt_of_le f)
+module _ {R : ℕ → ℕ → Type 0} {a b : ℕ} where
+  pub pairs_says : (r : Bool) → ((i j k : ℕ) → a ≤ i → i < j → j < k → k < b → R i j → R j k → R i k) → Says r (Each (a + 1) b (λ i. R (i - 1) i))
+      → Says r (PairsFrom a b R)
+  pairs_says true over near = λ j k. go k j
     where
-      last : j < i → R j i
-      last m =
-          ⊎_elim (λ (e : j ≡ i - 1). rw e here) (λ (lt : j < i - 1). over j h lt (all j (i - 1) h lt (omega arith)) here)
-          (let f : j ≤ i - 1 = omega arith in eq-or-lt_of_le f)
+      next : (i : ℕ) → a ≤ i → suc i < b → R i (suc i)
+      next i h l = let d : suc i - 1 ≡ i = omega arith in subst (λ (n : ℕ). R n (suc i)) d (near (suc i) (omega arith) l)
 
-  pub pairs-whole : {n : ℕ} → PairsFrom a i R → n ≤ i → PairsFrom a n R
-  pairs-whole all m j k h l g = all j k h l (omega arith)
-
-  pub pairs_not : {n : ℕ} → a < i → i < n → (R (i - 1) i → ⊥) → PairsFrom a n R → ⊥
-  pairs_not pos l miss all = miss (all (i - 1) i (omega arith) (omega arith) l)
+      go : (k j : ℕ) → a ≤ j → j < k → k < b → R j k
+      go zero j h l g = absurd (omega arith)
+      go (suc k) j h l g =
+          ⊎_elim
+          (λ (e : j ≡ k). let d : k ≡ j = omega arith in subst (λ (n : ℕ). R n (suc k)) d (next k (omega arith) g))
+          (λ (lt : j < k). over j k (suc k) h lt (omega arith) g (go k j h lt (omega arith)) (next k (omega arith) g))
+          (let f : j ≤ k = omega arith in eq-or-lt_of_le f)
+  pairs_says false over far = λ all. far (λ i h l. all (i - 1) i (omega arith) (omega arith) l)
 
 module _ {node start end : List ℕ} {i j k : ℕ} where
   pub before-over : at start j < at end j → BeforeAt node start end i j → BeforeAt node start end j k → BeforeAt node start end i k

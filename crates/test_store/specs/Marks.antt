@@ -1,5 +1,5 @@
 -- One store's read marks: the 256 places from m of the pool of marks. Its records are those from a up to b. Assumes nothing.
-use Rattle.std.specs.Prelude.{ℕ, ◌+◌, ◌≤◌, ◌<◌, ◌≡◌, List, length}
+use Rattle.std.specs.Prelude.{ℕ, ◌+◌, ◌≤◌, ◌<◌, ◌≡◌, Bool, true, false, List, length, get_or}
 use Rattle.model.specs.Words.{Each}
 use Rattle.model.specs.State.{at}
 
@@ -12,8 +12,8 @@ pub record MarkFits (len node marks : List ℕ) (nodes a b m v : ℕ) : Type 0 w
   pub none : NoneOn node a b v → at marks (m + v) ≡ 0
   pub within : v < nodes → at marks (m + v) ≤ at len v
 
--- flags tell the nodes of the records from a up to i: flag v is 0, or one more than the place of a record on v
-pub record Flags (node flags : List ℕ) (a i : ℕ) : Type 0 where
+-- flags tell the nodes of the records from a up to i
+pub record Flags (node : List ℕ) (flags : List Bool) (a i : ℕ) : Type 0 where
   pub long : length flags ≡ 256
-  pub set : Each a i (λ k. at flags (at node k) ≡ 0 → ⊥)
-  pub real : (v k : ℕ) → at flags v ≡ k + 1 → (a ≤ k) × (k < i) × (at node k ≡ v)
+  pub set : Each a i (λ k. get_or flags (at node k) false ≡ true)
+  pub real : (v : ℕ) → get_or flags v false ≡ true → (k : ℕ) × (a ≤ k) × (k < i) × (at node k ≡ v)

@@ -20,17 +20,7 @@ fn inside(
     ensures { Says result (InsideAt len.now node.now start.now end.now nodes i) }
 {
     let v = node[i];
-    if nodes <= v {
-        return false;
-    }
-    let e = end[i];
-    if e <= start[i] {
-        return false;
-    }
-    if len[v] < e {
-        return false;
-    }
-    true
+    v < nodes && start[i] < end[i] && end[i] <= len[v]
 }
 
 fn all_inside(
@@ -45,81 +35,35 @@ fn all_inside(
     requires { (nodes ≤ length len.now) × (b ≤ length node.now) × (b ≤ length start.now) × (b ≤ length end.now) }
     ensures { Says result (Each a b (InsideAt len.now node.now start.now end.now nodes)) }
 {
-    let mut i = a;
-    while i < b {
-        if !inside(len, node, start, end, nodes, i) {
-            return false;
-        }
-        i += 1;
-    }
-    true
+    (a..b).all(|i| inside(len, node, start, end, nodes, i))
 }
 
 fn numbered(id: &[u64], stamp: &[u64], next: u64, top: u64, i: usize) -> bool
     requires { (i < length id.now) × (i < length stamp.now) }
     ensures { Says result (NumberedAt id.now stamp.now next top i) }
 {
-    let d = id[i];
-    if d < 1 {
-        return false;
-    }
-    if next <= d {
-        return false;
-    }
-    let t = stamp[i];
-    if t < 1 {
-        return false;
-    }
-    if top < t {
-        return false;
-    }
-    true
+    (1..next).contains(&id[i]) && (1..=top).contains(&stamp[i])
 }
 
 fn all_numbered(id: &[u64], stamp: &[u64], next: u64, top: u64, a: usize, b: usize) -> bool
     requires { (b ≤ length id.now) × (b ≤ length stamp.now) }
     ensures { Says result (Each a b (NumberedAt id.now stamp.now next top)) }
 {
-    let mut i = a;
-    while i < b {
-        if !numbered(id, stamp, next, top, i) {
-            return false;
-        }
-        i += 1;
-    }
-    true
+    (a..b).all(|i| numbered(id, stamp, next, top, i))
 }
 
 fn all_finite(touched: &[f64], a: usize, b: usize) -> bool
     requires { b ≤ length touched.now }
     ensures { Says result (Each a b (FiniteAt touched.now)) }
 {
-    let mut i = a;
-    while i < b {
-        if !test_arguments::finite(touched[i]) {
-            return false;
-        }
-        i += 1;
-    }
-    true
+    (a..b).all(|i| test_arguments::finite(touched[i]))
 }
 
 fn stands(node: &[usize], start: &[usize], end: &[usize], j: usize, k: usize) -> bool
     requires { (j < k) × (k < length node.now) × (k < length start.now) × (k < length end.now) }
     ensures { Says result (BeforeAt node.now start.now end.now j k) }
 {
-    let v = node[j];
-    let w = node[k];
-    if v < w {
-        return true;
-    }
-    if w < v {
-        return false;
-    }
-    if start[k] < end[j] {
-        return false;
-    }
-    true
+    node[j] < node[k] || (node[j] == node[k] && end[j] <= start[k])
 }
 
 // Neighbours in order, and every range nonempty: all in order.
@@ -132,14 +76,7 @@ fn all_stand(node: &[usize], start: &[usize], end: &[usize], a: usize, b: usize)
         × Each a b (λ (i : ℕ). at start.now i < at end.now i) }
     ensures { Says result (PairsFrom a b (BeforeAt node.now start.now end.now)) }
 {
-    let mut i = a + 1;
-    while i < b {
-        if !stands(node, start, end, i - 1, i) {
-            return false;
-        }
-        i += 1;
-    }
-    true
+    (a + 1..b).all(|i| stands(node, start, end, i - 1, i))
 }
 
 fn held_is(start: &[usize], end: &[usize], a: usize, n: usize, held: u64) -> bool
@@ -150,83 +87,38 @@ fn held_is(start: &[usize], end: &[usize], a: usize, n: usize, held: u64) -> boo
         × Each a (a + n) (λ (i : ℕ). (at start.now i < at end.now i) × (at end.now i ≤ 1024)) }
     ensures { Says result (held ≡ held_from start.now end.now a n) }
 {
-    let mut sum: usize = 0;
-    let mut i = 0;
-    while i < n {
-        let k = a + i;
+    let mut sum = 0;
+    for k in a..a + n {
         sum += end[k] - start[k];
-        i += 1;
     }
-    if sum as u64 != held {
-        return false;
-    }
-    true
+    sum as u64 == held
 }
 
 fn none_at_zero(capacity: u64, held: u64) -> bool
     ensures { Says result (capacity ≡ 0 → held ≡ 0) }
 {
-    if capacity != 0 {
-        return true;
-    }
-    if held != 0 {
-        return false;
-    }
-    true
+    capacity != 0 || held == 0
 }
 
 fn pin_stands(node: &[usize], start: &[usize], end: &[usize], j: usize, k: usize) -> bool
     requires { (j < k) × (k < length node.now) × (k < length start.now) × (k < length end.now) }
     ensures { Says result (PinBeforeAt node.now start.now end.now j k) }
 {
-    let v = node[j];
-    let w = node[k];
-    if v < w {
-        return true;
-    }
-    if w < v {
-        return false;
-    }
-    let s = start[j];
-    let t = start[k];
-    if s < t {
-        return true;
-    }
-    if t < s {
-        return false;
-    }
-    if end[k] <= end[j] {
-        return false;
-    }
-    true
+    (node[j], start[j], end[j]) < (node[k], start[k], end[k])
 }
 
 fn all_pins_stand(node: &[usize], start: &[usize], end: &[usize], a: usize, b: usize) -> bool
     requires { (a ≤ b) × (b ≤ 1024) × (b ≤ length node.now) × (b ≤ length start.now) × (b ≤ length end.now) }
     ensures { Says result (PairsFrom a b (PinBeforeAt node.now start.now end.now)) }
 {
-    let mut i = a + 1;
-    while i < b {
-        if !pin_stands(node, start, end, i - 1, i) {
-            return false;
-        }
-        i += 1;
-    }
-    true
+    (a + 1..b).all(|i| pin_stands(node, start, end, i - 1, i))
 }
 
 fn all_counted(count: &[u64], a: usize, b: usize) -> bool
     requires { b ≤ length count.now }
     ensures { Says result (Each a b (CountedAt count.now)) }
 {
-    let mut i = a;
-    while i < b {
-        if count[i] < 1 {
-            return false;
-        }
-        i += 1;
-    }
-    true
+    (a..b).all(|i| count[i] >= 1)
 }
 
 // A count above 1,000,000 cannot be in a sum of at most that, and is not multiplied.
@@ -240,41 +132,33 @@ fn pinned_is(start: &[usize], end: &[usize], count: &[u64], a: usize, n: usize, 
         × Each a (a + n) (λ (i : ℕ). (at start.now i < at end.now i) × (at end.now i ≤ 1024)) }
     ensures { Says result (pinned ≡ pinned_from start.now end.now count.now a n) }
 {
-    let mut sum: u64 = 0;
-    let mut i = 0;
-    while i < n {
-        let k = a + i;
-        let c = count[k];
-        if 1000000 < c {
+    let mut sum = 0;
+    for k in a..a + n {
+        if count[k] > 1000000 {
             return false;
         }
-        let l = end[k] - start[k];
-        sum += l as u64 * c;
-        i += 1;
+        sum += (end[k] - start[k]) as u64 * count[k];
     }
-    if sum != pinned {
-        return false;
-    }
-    true
+    sum == pinned
 }
 
-fn flag_nodes(node: &[usize], flags: &mut [usize; 256], a: usize, b: usize)
-    requires { (a ≤ b) × (b ≤ 1024) × (b ≤ length node.now) × Each a b (λ (i : ℕ). at node.now i < 256) × Flags node.now flags.old a a }
-    ensures { Flags node.now flags.new a b }
+// Which nodes have one of the records from `a` up to `b`.
+fn held_nodes(node: &[usize], a: usize, b: usize) -> [bool; 256]
+    requires { (a ≤ b) × (b ≤ length node.now) × Each a b (λ (i : ℕ). at node.now i < 256) }
+    ensures { Flags node.now result a b }
 {
-    let mut i = a;
-    while i < b {
-        let v = node[i];
-        i += 1;
-        flags[v] = i;
+    let mut held = [false; 256];
+    for v in &node[a..b] {
+        held[*v] = true;
     }
+    held
 }
 
 fn mark_fits(
     len: &[usize],
     node: &[usize],
     marks: &[usize],
-    flags: &[usize; 256],
+    held: &[bool; 256],
     nodes: usize,
     a: usize,
     b: usize,
@@ -286,20 +170,11 @@ fn mark_fits(
         × (v < length len.now)
         × (m + v < length marks.now)
         × Each a b (λ (i : ℕ). at node.now i < nodes)
-        × Flags node.now flags.now a b }
+        × Flags node.now held.now a b }
     ensures { Says result (MarkFits len.now node.now marks.now nodes a b m v) }
 {
     let mark = marks[m + v];
-    if mark == 0 {
-        return true;
-    }
-    if flags[v] == 0 {
-        return false;
-    }
-    if len[v] < mark {
-        return false;
-    }
-    true
+    mark == 0 || (held[v] && mark <= len[v])
 }
 
 // The marks from `m` of a store whose records are those from `a` up to `b`.
@@ -322,16 +197,8 @@ pub fn marks_fit(
         × Each a b (λ (i : ℕ). at node.now i < nodes) }
     ensures { Says result (Each 0 256 (MarkFits len.now node.now marks.now nodes a b m)) }
 {
-    let mut flags = [0usize; 256];
-    flag_nodes(node, &mut flags, a, b);
-    let mut v = 0;
-    while v < 256 {
-        if !mark_fits(len, node, marks, &flags, nodes, a, b, m, v) {
-            return false;
-        }
-        v += 1;
-    }
-    true
+    let held = held_nodes(node, a, b);
+    (0..256).all(|v| mark_fits(len, node, marks, &held, nodes, a, b, m, v))
 }
 
 // The `n` records from place `a`, of a store with this last stamp, these held blocks and this capacity.
@@ -366,25 +233,12 @@ pub fn records_fit(
         touched.now nodes next a n top held capacity) }
 {
     let b = a + n;
-    if !all_inside(len, node, start, end, nodes, a, b) {
-        return false;
-    }
-    if !all_stand(node, start, end, a, b) {
-        return false;
-    }
-    if !all_numbered(id, stamp, next, top, a, b) {
-        return false;
-    }
-    if !all_finite(touched, a, b) {
-        return false;
-    }
-    if !held_is(start, end, a, n, held) {
-        return false;
-    }
-    if !none_at_zero(capacity, held) {
-        return false;
-    }
-    true
+    all_inside(len, node, start, end, nodes, a, b)
+        && all_stand(node, start, end, a, b)
+        && all_numbered(id, stamp, next, top, a, b)
+        && all_finite(touched, a, b)
+        && held_is(start, end, a, n, held)
+        && none_at_zero(capacity, held)
 }
 
 // The `n` pin entries from place `a`, of a store with these pinned blocks.
@@ -411,17 +265,8 @@ pub fn pins_fit(
     ensures { Says result (PinsFit len.now node.now start.now end.now count.now nodes a n pinned) }
 {
     let b = a + n;
-    if !all_inside(len, node, start, end, nodes, a, b) {
-        return false;
-    }
-    if !all_counted(count, a, b) {
-        return false;
-    }
-    if !all_pins_stand(node, start, end, a, b) {
-        return false;
-    }
-    if !pinned_is(start, end, count, a, n, pinned) {
-        return false;
-    }
-    true
+    all_inside(len, node, start, end, nodes, a, b)
+        && all_counted(count, a, b)
+        && all_pins_stand(node, start, end, a, b)
+        && pinned_is(start, end, count, a, n, pinned)
 }

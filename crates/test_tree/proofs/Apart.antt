@@ -6,17 +6,18 @@ use mathlib.Core.Logic.{⊎_elim}
 use native.Mathlib.Omega.{arith}
 use lib.ListN.{length, get_or, set, length-set, replicate, length-replicate}
 use Rattle.theory_refuse.proofs.Says.{le_or_lt}
-use Rattle.test_tree.specs.Chain.{Chain, Heads, Apart, New}
+use Rattle.std.proofs.Common.{Option, None, Some}
+use Rattle.test_tree.specs.Chain.{Chain, Heads, Apart, New, linked}
 use Rattle.test_tree.proofs.Chain.{lt_more, chain-none, heads-none, chain_skip, heads_skip, chain-add, heads-add}
 
-pub record Met (size : ℕ) (b : ℕ → ℕ) (U : ℕ → Type 0) (Same : ℕ → ℕ → Type 0) (last prev : List ℕ) (i : ℕ) : Type 0 where
+pub record Met (size : ℕ) (b : ℕ → ℕ) (U : ℕ → Type 0) (Same : ℕ → ℕ → Type 0) (last prev : List (Option ℕ)) (i : ℕ) : Type 0 where
   pub nlast : length last ≡ size
   pub nprev : length prev ≡ size
   pub chain : Chain b U prev i
   pub heads : Heads b U last i
   pub apart : Apart U Same i
 
-module _ {size : ℕ} {b : ℕ → ℕ} {U : ℕ → Type 0} {Same : ℕ → ℕ → Type 0} {last prev : List ℕ} {i : ℕ} where
+module _ {size : ℕ} {b : ℕ → ℕ} {U : ℕ → Type 0} {Same : ℕ → ℕ → Type 0} {last prev : List (Option ℕ)} {i : ℕ} where
   pub met_skip : Met size b U Same last prev i → (U i → ⊥) → Met size b U Same last prev (i + 1)
   met_skip s out = record {
     nlast = s.nlast;
@@ -30,10 +31,10 @@ module _ {size : ℕ} {b : ℕ → ℕ} {U : ℕ → Type 0} {Same : ℕ → ℕ
       less j l u = ⊎_elim (λ e. absurd (out (subst U e u))) (λ q. q) (lt_more l)
 
   pub met_add : Met size b U Same last prev i → ((j k : ℕ) → Same j k → b j ≡ b k) → ((j k : ℕ) → Same j k → Same k j)
-      → i < size → b i < size → U i → New U Same (get_or last (b i) 0) i → Met size b U Same (set last (b i) (i + 1)) (set prev i (get_or last (b i) 0)) (i + 1)
+      → i < size → b i < size → U i → New U Same (linked last (b i)) i → Met size b U Same (set last (b i) (Some i)) (set prev i (get_or last (b i) None)) (i + 1)
   met_add s keep turn l lb u f = record {
-    nlast = length-set last (b i) (i + 1) ∙ s.nlast;
-    nprev = length-set prev i (get_or last (b i) 0) ∙ s.nprev;
+    nlast = length-set last (b i) (Some i) ∙ s.nlast;
+    nprev = length-set prev i (get_or last (b i) None) ∙ s.nprev;
     chain = chain-add s.chain s.heads (omega (arith, s.nprev)) u;
     heads = heads-add s.heads (omega (arith, s.nlast)) u;
     apart = λ j k lj lk uj uk e. ⊎_elim
@@ -44,21 +45,21 @@ module _ {size : ℕ} {b : ℕ → ℕ} {U : ℕ → Type 0} {Same : ℕ → ℕ
     where
       new : (k : ℕ) → k < i → U k → Same k i → ⊥
       new k lt uk e = ⊎_elim
-          (λ (g : get_or last (b i) 0 ≤ k). s.heads.gap k lt uk (rw (keep k i e) g))
+          (λ (g : linked last (b i) ≤ k). s.heads.gap k lt uk (rw (keep k i e) g))
           (λ g. f k g uk e)
-          (le_or_lt (get_or last (b i) 0) k)
+          (le_or_lt (linked last (b i)) k)
 
-  pub met_miss : {n : ℕ} → Met size b U Same last prev i → i < n → U i → (New U Same (get_or last (b i) 0) i → ⊥) → Apart U Same n → ⊥
+  pub met_miss : {n : ℕ} → Met size b U Same last prev i → i < n → U i → (New U Same (linked last (b i)) i → ⊥) → Apart U Same n → ⊥
   met_miss s l u miss d =
       miss (λ k g uk e. let h = s.heads.top (b i) in let q : k ≡ i = d k i (omega arith) l uk u e in omega arith)
 
   pub met_all : {n : ℕ} → Met size b U Same last prev i → n ≤ i → Apart U Same n
   met_all s h j k lj lk = s.apart j k (omega arith) (omega arith)
 
-pub met_none : (size : ℕ) (b : ℕ → ℕ) (U : ℕ → Type 0) (Same : ℕ → ℕ → Type 0) → Met size b U Same (replicate size 0) (replicate size 0) 0
+pub met_none : (size : ℕ) (b : ℕ → ℕ) (U : ℕ → Type 0) (Same : ℕ → ℕ → Type 0) → Met size b U Same (replicate size None) (replicate size None) 0
 met_none size b U Same = record {
-  nlast = length-replicate {A = ℕ} size 0;
-  nprev = length-replicate {A = ℕ} size 0;
+  nlast = length-replicate {A = Option ℕ} size None;
+  nprev = length-replicate {A = Option ℕ} size None;
   chain = chain-none _ _ _;
   heads = heads-none _ _ size;
   apart = λ j k l. absurd (omega arith);

@@ -3,3 +3,4 @@ pub mod Runs
 pub mod Chain
 pub mod Apart
 pub mod Tree
+pub mod Table

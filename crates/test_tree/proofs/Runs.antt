@@ -7,50 +7,37 @@ use mathlib.Core.Path.{◌≡◌, refl, sym, ◌∙◌}
 use mathlib.Core.List.{List}
 use mathlib.Core.Logic.{◌⊎◌, ⊎_elim, inl, inr}
 use native.Mathlib.Omega.{arith}
-use lib.ListN.{length, get_or, set, length-set, replicate, length-replicate}
-use lib.Seq.{get_or-set_same, get_or-set_other}
+use lib.ListN.{length, get_or, replicate, length-replicate}
 use Rattle.theory_refuse.proofs.Says.{le_or_lt}
 use Rattle.test_tree.specs.Runs.{In, OneOwner, Filled, Free}
-use Rattle.test_tree.proofs.Each.{each_none, each_more}
+use Rattle.std.proofs.Common.{Bool, true, false, ◌-◌, ◌≢◌, rules}
+use Rattle.std.specs.Bool.{MatchBool}
+use Rattle.std.specs.List.{AllWithin, HoldsAt, between}
+use Rattle.std.proofs.lemmas.List.Edits.{length-between, get_or-between}
+use Rattle.std.proofs.lemmas.List.{places}
+use borrow.Rule.Slice.PartMut.{put_mid}
+use Rattle.model.specs.Words.{Says}
 
--- from a to i is done
-pub record Claiming (e x : List ℕ) (a b who i : ℕ) : Type 0 where
-  pub long : length x ≡ length e
-  pub lo : a ≤ i
-  pub hi : i ≤ b
-  pub free : Free e a i
-  pub filled : Filled e x a i who
-
-pub claiming_none : (e : List ℕ) (a b who : ℕ) → a ≤ b → Claiming e e a b who a
+-- the test of each word from a up to b says whether all are free
+pub free_says : (r : Bool) (e : List ℕ) (a b : ℕ) → a ≤ b → b ≤ length e
+    → MatchBool r (AllWithin (λ x. x ≡ 0) (between a b e) 0 (length (between a b e))) ((k : ℕ) × (k < length (between a b e)) × HoldsAt (λ x. x ≢ 0) (between a b e) k)
+    → Says r (Free e a b)
 unfolding Free
-claiming_none e a b who h = record {
-  long = refl;
-  lo = omega arith;
-  hi = h;
-  free = each_none _ a;
-  filled = record { inside = each_none _ a; below = λ j l. refl; above = λ j l. refl };
+free_says true e a b le n m = λ j f l.
+    let long : length (between a b e) ≡ b - a = length-between e a b n in
+    let here : a + (j - a) ≡ j = omega arith in
+    rw (← here) (sym (get_or-between e a b (j - a) 0 (omega arith)) ∙ m (j - a) 0 (omega arith) (omega arith))
+free_says false e a b le n m = λ f.
+    let long : length (between a b e) ≡ b - a = length-between e a b n in
+    m.2 0 (get_or-between e a b m.0 0 (omega (arith, m.1)) ∙ f (a + m.0) (omega arith) (omega (arith, m.1)))
+
+-- filled with who from a up to b
+pub filled-with : (e ys : List ℕ) (a b who : ℕ) → a ≤ b → b ≤ length e → ys ≡ replicate (b - a) who → Filled e (put_mid a (b - a) e ys) a b who
+filled-with e ys a b who le n f = record {
+  inside = λ j g l. rw f (search (rules, places));
+  below = λ j l. rw f (search (rules, places));
+  above = λ j l. rw f (search (rules, places));
 }
-
-pub claiming_more : {e x : List ℕ} {a b who i : ℕ} → Claiming e x a b who i → i < b → b ≤ length e → get_or x i 0 ≡ 0 → Claiming e (set x i who) a b who (i + 1)
-unfolding Free
-claiming_more {e} {x} {a} {b} {who} {i} c l n z = record {
-  long = length-set x i who ∙ c.long;
-  lo = omega arith;
-  hi = omega arith;
-  free = each_more c.free (sym (c.filled.above i (omega arith)) ∙ z);
-  filled = record {
-    inside = each_more (λ j h g. get_or-set_other x i j who 0 (omega arith) ∙ c.filled.inside j h g) (get_or-set_same x i who 0 (omega arith));
-    below = λ j h. get_or-set_other x i j who 0 (omega arith) ∙ c.filled.below j h;
-    above = λ j h. get_or-set_other x i j who 0 (omega arith) ∙ c.filled.above j (omega arith);
-  };
-}
-
-pub claiming_miss : {e x : List ℕ} {a b who i : ℕ} → Claiming e x a b who i → i < b → (get_or x i 0 ≡ 0 → ⊥) → Free e a b → ⊥
-unfolding Free
-claiming_miss {i = i} c l z f = z (c.filled.above i (omega arith) ∙ f i c.lo l)
-
-pub claimed : {e x : List ℕ} {a b who i : ℕ} → Claiming e x a b who i → b ≤ i → Free e a b × Filled e x a b who
-claimed {e} {x} {a} {b} {who} {i} c l = let q : i ≡ b = omega arith in (rw q at c.free, rw q at c.filled)
 
 -- the marks after the nodes before i: each word of a run has its node's number, and any other word 0
 pub record Owned (start len own : List ℕ) (i : ℕ) : Type 0 where
@@ -58,7 +45,7 @@ pub record Owned (start len own : List ℕ) (i : ℕ) : Type 0 where
   pub owner : (j k : ℕ) → 1 ≤ k → k < i → In start len k j → get_or own j 0 ≡ k
   pub known : (j : ℕ) → (get_or own j 0 ≡ 0 → ⊥) → In start len (get_or own j 0) j × (1 ≤ get_or own j 0) × (get_or own j 0 < i)
 
-pub zeros : (n j : ℕ) → ◌≡◌ {A = ℕ} (get_or (replicate n 0) j 0) 0
+zeros : (n j : ℕ) → ◌≡◌ {A = ℕ} (get_or (replicate n 0) j 0) 0
 zeros zero j = refl
 zeros (suc n) zero = refl
 zeros (suc n) (suc j) = zeros n j

@@ -7,34 +7,18 @@ ghost use Rattle.model.specs.Sound.{RangesLent, PinsLent};
 ghost use Rattle.shape_state.specs.Lent.{tree_of, ranges_of, pins_of};
 ghost use Rattle.test_tree.specs.Nodes.{Table, NodeFits};
 ghost use Rattle.test_tree.specs.Runs.{OneOwner, Filled, Free};
-ghost use Rattle.test_tree.specs.Chain.{Chain};
+ghost use Rattle.test_tree.specs.Chain.{Chain, reach};
 ghost use Rattle.test_tree.specs.Siblings.{NotRoot, Twins, Unlike, Alone, bucket_of, hash_bucket};
 ghost use Rattle.test_tree.specs.Tree.{TreeSized, TreeSound};
 
 const MOST_BYTES: u64 = 281474976710656;
 
 // The byte table has 1,025 numbers, never falls and stays at or below 2^48.
+#[tactic(auto, using(crate::proofs::Table::table_says))]
 pub fn table_rises(bytes: &[u64]) -> bool
     ensures { Says result (Table bytes.now) }
 {
-    if bytes.len() < 1025 {
-        return false;
-    }
-    let mut i = 0;
-    while i < 1024 {
-        let b = bytes[i];
-        if MOST_BYTES < b {
-            return false;
-        }
-        if bytes[i + 1] < b {
-            return false;
-        }
-        i += 1;
-    }
-    if MOST_BYTES < bytes[1024] {
-        return false;
-    }
-    true
+    bytes.len() >= 1025 && bytes[1024] <= MOST_BYTES && bytes[..1025].is_sorted()
 }
 
 // The lent columns of the ranges are each as long as eight stores need, or longer.
@@ -52,47 +36,20 @@ pub fn ranges_lent(
         (ranges_of node.now start.now end.now id.now stamp.now touched.now
         write.now)) }
 {
-    if node.len() < 1024 {
-        return false;
-    }
-    if start.len() < 1024 {
-        return false;
-    }
-    if end.len() < 1024 {
-        return false;
-    }
-    if id.len() < 1024 {
-        return false;
-    }
-    if stamp.len() < 1024 {
-        return false;
-    }
-    if touched.len() < 1024 {
-        return false;
-    }
-    if write.len() < 1024 {
-        return false;
-    }
-    true
+    node.len() >= 1024
+        && start.len() >= 1024
+        && end.len() >= 1024
+        && id.len() >= 1024
+        && stamp.len() >= 1024
+        && touched.len() >= 1024
+        && write.len() >= 1024
 }
 
 // The same of the pins.
 pub fn pins_lent(node: &[usize], start: &[usize], end: &[usize], count: &[u64]) -> bool
     ensures { Says result (PinsLent (pins_of node.now start.now end.now count.now)) }
 {
-    if node.len() < 256 {
-        return false;
-    }
-    if start.len() < 256 {
-        return false;
-    }
-    if end.len() < 256 {
-        return false;
-    }
-    if count.len() < 256 {
-        return false;
-    }
-    true
+    node.len() >= 256 && start.len() >= 256 && end.len() >= 256 && count.len() >= 256
 }
 
 fn tree_sized(
@@ -106,37 +63,16 @@ fn tree_sized(
 ) -> bool
     ensures { Says result (TreeSized (tree_of parent.now depth.now len.now run.now words.now nodes used)) }
 {
-    if parent.len() < 256 {
-        return false;
-    }
-    if depth.len() < 256 {
-        return false;
-    }
-    if len.len() < 256 {
-        return false;
-    }
-    if run.len() < 256 {
-        return false;
-    }
-    if words.len() < 4096 {
-        return false;
-    }
-    if nodes < 1 {
-        return false;
-    }
-    if 256 < nodes {
-        return false;
-    }
-    if 4096 < used {
-        return false;
-    }
-    if len[0] != 0 {
-        return false;
-    }
-    if depth[0] != 0 {
-        return false;
-    }
-    true
+    parent.len() >= 256
+        && depth.len() >= 256
+        && len.len() >= 256
+        && run.len() >= 256
+        && words.len() >= 4096
+        && nodes >= 1
+        && nodes <= 256
+        && used <= 4096
+        && len[0] == 0
+        && depth[0] == 0
 }
 
 fn node_fits(
@@ -152,35 +88,13 @@ fn node_fits(
     ensures { Says result (NodeFits parent.now depth.now len.now run.now nodes used k) }
 {
     let p = parent[k];
-    if nodes <= p {
-        return false;
-    }
     let d = depth[k];
-    let a = depth[p];
-    if d < a {
-        return false;
-    }
-    if d - a != len[p] {
-        return false;
-    }
     let n = len[k];
-    if n < 1 {
-        return false;
-    }
-    if 1024 < d {
-        return false;
-    }
-    if 1024 - d < n {
-        return false;
-    }
-    let f = run[k];
-    if used < f {
-        return false;
-    }
-    if used - f < n {
-        return false;
-    }
-    true
+    p < nodes
+        && d.checked_sub(depth[p]) == Some(len[p])
+        && n >= 1
+        && n <= 1024usize.saturating_sub(d)
+        && n <= used.saturating_sub(run[k])
 }
 
 fn nodes_fit(
@@ -194,14 +108,7 @@ fn nodes_fit(
     requires { (nodes ≤ length parent.now) × (nodes ≤ length depth.now) × (nodes ≤ length len.now) × (nodes ≤ length run.now) }
     ensures { Says result (Each 1 nodes (NodeFits parent.now depth.now len.now run.now nodes used)) }
 {
-    let mut i = 1;
-    while i < nodes {
-        if !node_fits(parent, depth, len, run, nodes, used, i) {
-            return false;
-        }
-        i += 1;
-    }
-    true
+    (1..nodes).all(|k| node_fits(parent, depth, len, run, nodes, used, k))
 }
 
 // Marks the words from `from` up to `to` with `who`, unless one of them is marked already.
@@ -209,15 +116,12 @@ fn claim(own: &mut [u16], who: u16, from: usize, to: usize) -> bool
     requires { (from ≤ to) × (to ≤ length own.old) }
     ensures { Says result (Free own.old from to) × (result ≡ true → Filled own.old own.new from to who) }
 {
-    let mut i = from;
-    while i < to {
-        if own[i] != 0 {
-            return false;
-        }
-        own[i] = who;
-        i += 1;
+    let words = &mut own[from..to];
+    let free = words.iter().all(|w| *w == 0);
+    if free {
+        words.fill(who);
     }
-    true
+    free
 }
 
 fn runs_apart(len: &[usize], run: &[usize], nodes: usize) -> bool
@@ -228,21 +132,20 @@ fn runs_apart(len: &[usize], run: &[usize], nodes: usize) -> bool
     ensures { Says result (OneOwner run.now len.now nodes) }
 {
     let mut own = [0u16; 4096];
-    let mut i = 1;
-    while i < nodes {
+    for i in 1..nodes {
         let from = run[i];
-        let to = from + len[i];
-        if !claim(&mut own, i as u16, from, to) {
+        if !claim(&mut own, i as u16, from, from + len[i]) {
             return false;
         }
-        i += 1;
     }
     true
 }
 
 // A bucket for a first hash under a parent. Each half of the hash has a factor, so that hashes spread over the buckets whichever of their bits differ.
+#[tactic(auto, unfolding(crate::specs::Siblings::bucket_of))]
 fn bucket(h: u64, p: usize) -> usize
-    ensures { result ≡ bucket_of h p }
+    ensures is { result ≡ bucket_of h p }
+    ensures below { result < 256 }
 {
     let spread = h / 4294967296 * 1906780815 + h % 4294967296 * 1425409027;
     ((spread / 16777216 % 256) as usize + p % 256) % 256
@@ -257,15 +160,7 @@ fn twins(parent: &[usize], run: &[usize], words: &[u64], j: usize, k: usize) -> 
         × (at run.now k < length words.now) }
     ensures { Says result (Twins parent.now run.now words.now j k) }
 {
-    if parent[j] != parent[k] {
-        return false;
-    }
-    let f = run[j];
-    let g = run[k];
-    if words[f] != words[g] {
-        return false;
-    }
-    true
+    parent[j] == parent[k] && words[run[j]] == words[run[k]]
 }
 
 // Node `i` has no twin in the chain that begins at the link `from`.
@@ -273,23 +168,23 @@ fn alone(
     parent: &[usize],
     run: &[usize],
     words: &[u64],
-    prev: &[usize],
-    from: usize,
+    prev: &[Option<u16>],
+    from: Option<u16>,
     i: usize,
 ) -> bool
-    requires { (from ≤ i)
+    requires { (reach from ≤ i)
         × (i < length parent.now)
         × (i < length run.now)
         × (i < length prev.now)
         × ((k : ℕ) → k ≤ i → NotRoot k → at run.now k < length words.now)
         × NotRoot i
-        × Chain (hash_bucket parent.now run.now words.now) NotRoot prev.now from
-        × ((j : ℕ) → from ≡ j + 1 → NotRoot j × (hash_bucket parent.now run.now words.now j ≡ hash_bucket parent.now run.now words.now i)) }
-    ensures { Says result (Alone parent.now run.now words.now from i) }
+        × Chain (hash_bucket parent.now run.now words.now) NotRoot prev.now (reach from)
+        × ((j : ℕ) → reach from ≡ j + 1 → NotRoot j × (hash_bucket parent.now run.now words.now j ≡ hash_bucket parent.now run.now words.now i)) }
+    ensures { Says result (Alone parent.now run.now words.now (reach from) i) }
 {
     let mut link = from;
-    while 0 < link {
-        let j = link - 1;
+    while let Some(j) = link {
+        let j = usize::from(j);
         if twins(parent, run, words, j, i) {
             return false;
         }
@@ -305,19 +200,16 @@ fn siblings_differ(parent: &[usize], run: &[usize], words: &[u64], nodes: usize)
         × ((k : ℕ) → k < nodes → NotRoot k → at run.now k < length words.now) }
     ensures { Says result (Unlike parent.now run.now words.now nodes) }
 {
-    let mut last = [0usize; 256];
-    let mut prev = [0usize; 256];
-    let mut i = 1;
-    while i < nodes {
-        let f = run[i];
-        let b = bucket(words[f], parent[i]);
+    let mut last = [None; 256];
+    let mut prev = [None; 256];
+    for i in 1..nodes {
+        let b = bucket(words[run[i]], parent[i]);
         let from = last[b];
         if !alone(parent, run, words, &prev, from, i) {
             return false;
         }
         prev[i] = from;
-        i += 1;
-        last[b] = i;
+        last[b] = Some(i as u16);
     }
     true
 }
@@ -334,17 +226,8 @@ pub fn tree_sound(
 ) -> bool
     ensures { Says result (TreeSound (tree_of parent.now depth.now len.now run.now words.now nodes used)) }
 {
-    if !tree_sized(parent, depth, len, run, words, nodes, used) {
-        return false;
-    }
-    if !nodes_fit(parent, depth, len, run, nodes, used) {
-        return false;
-    }
-    if !runs_apart(len, run, nodes) {
-        return false;
-    }
-    if !siblings_differ(parent, run, words, nodes) {
-        return false;
-    }
-    true
+    tree_sized(parent, depth, len, run, words, nodes, used)
+        && nodes_fit(parent, depth, len, run, nodes, used)
+        && runs_apart(len, run, nodes)
+        && siblings_differ(parent, run, words, nodes)
 }

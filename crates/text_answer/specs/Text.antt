@@ -1,5 +1,5 @@
--- What the printers promise, and that an answer's lists are within their places. Assumes nothing.
-use Rattle.std.specs.Prelude.{ℕ, ◌+◌, ◌≤◌}
+-- An answer's lists are within their places. Assumes nothing.
+use Rattle.std.specs.Prelude.{ℕ, ◌≤◌}
 use Rattle.shape_answer.specs.declared.Resolved.{Resolved}
 use Rattle.shape_answer.specs.declared.Resolved.TheVariants as ResolvedIs
 use Rattle.shape_answer.specs.declared.Inserted.{Inserted}
@@ -12,13 +12,6 @@ use Rattle.shape_answer.specs.declared.StoreRemoved.{StoreRemoved}
 use Rattle.shape_answer.specs.declared.StoreRemoved.TheVariants as StoreRemovedIs
 use Rattle.shape_answer.specs.declared.Looked.{Looked}
 use Rattle.shape_answer.specs.declared.Looked.TheVariants as LookedIs
-
--- at most k bytes were written from `from` on, and r is the place past them
-pub record Wrote (from k r : ℕ) : Type 0 where
-  pub low : from ≤ r
-  pub high : r ≤ from + k
-
--- ---- an answer's lists are within their places
 
 abbrev pub PathIn : Resolved → Type 0
 PathIn (ResolvedIs.Refused n) = Unit {0}

@@ -1,258 +1,277 @@
 #![tactic(auto)]
-// The answers in the replay form, written into a buffer that the caller lends. Each function answers the place past what it wrote.
-ghost use Rattle.std.specs.Prelude.{◌+◌, ◌≤◌, ◌<◌, length};
-ghost use Rattle.text_answer.specs.Text.{Wrote, PathIn, InsertIn, BringIn, ExpireIn, RemoveIn, LookupIn};
+// The answers in the replay form, written on a page.
+ghost use Rattle.std.specs.Prelude.{◌≡◌, ◌+◌, ◌*◌, ◌≤◌, ◌<◌, length, replicate};
+ghost use Rattle.text_page.specs.Page.{Wrote};
+ghost use Rattle.text_answer.specs.Text.{PathIn, InsertIn, BringIn, ExpireIn, RemoveIn, LookupIn};
 
-use model::{Cut, EachTier, LookupAnswer, Path, Split};
+use model::{Cut, EachTier, LookupAnswer, Path};
 use shape_answer::{
     Inserted, Looked, Plain, Resolved, StoreExpired, StoreInserted, StoreRemoved, StoreUsed,
 };
+use text_page::Page;
+
+// ---- the lists that come with an answer, each a column
+
+// The segments of a path.
+#[derive(Drop)]
+pub struct Segments {
+    pub node: [usize; 255],
+    pub len: [usize; 255],
+}
+
+impl Segments {
+    pub fn new() -> Self
+        ensures { (result.node ≡ replicate 255 0)
+            × (result.len ≡ replicate 255 0) }
+    {
+        Segments {
+            node: [0; 255],
+            len: [0; 255],
+        }
+    }
+}
+
+// The spans that a call gave out.
+#[derive(Drop)]
+pub struct Outs {
+    pub node: [usize; 128],
+    pub start: [usize; 128],
+    pub end: [usize; 128],
+    pub write: [u32; 128],
+    pub bytes: [u64; 128],
+    pub dead: [u64; 128],
+}
+
+impl Outs {
+    pub fn new() -> Self
+        ensures { (result.node ≡ replicate 128 0)
+            × (result.start ≡ replicate 128 0)
+            × (result.end ≡ replicate 128 0)
+            × (result.write ≡ replicate 128 0)
+            × (result.bytes ≡ replicate 128 0)
+            × (result.dead ≡ replicate 128 0) }
+    {
+        Outs {
+            node: [0; 128],
+            start: [0; 128],
+            end: [0; 128],
+            write: [0; 128],
+            bytes: [0; 128],
+            dead: [0; 128],
+        }
+    }
+}
+
+// The spans that a lookup found, each in its tier.
+#[derive(Drop)]
+pub struct TierSpans {
+    pub tier: [usize; 1024],
+    pub node: [usize; 1024],
+    pub start: [usize; 1024],
+    pub end: [usize; 1024],
+}
+
+impl TierSpans {
+    pub fn new() -> Self
+        ensures { (result.tier ≡ replicate 1024 0)
+            × (result.node ≡ replicate 1024 0)
+            × (result.start ≡ replicate 1024 0)
+            × (result.end ≡ replicate 1024 0) }
+    {
+        TierSpans {
+            tier: [0; 1024],
+            node: [0; 1024],
+            start: [0; 1024],
+            end: [0; 1024],
+        }
+    }
+}
 
 // ---- parts of a line
 
-// A short text, then a number.
-pub fn put_field(out: &mut [u8], at: usize, name: &[u8], n: u64) -> usize
-    requires { (length name.now ≤ 12) × (at + 32 ≤ length out.old) }
-    ensures { Wrote at (length name.now + 20) result }
-{
-    let next = text_print::put_bytes(out, at, name);
-    text_print::put_number(out, next, n)
-}
-
 // ` NODE:LEN`
-fn put_segment(out: &mut [u8], at: usize, node: usize, len: usize) -> usize
-    requires { at + 64 ≤ length out.old }
-    ensures { Wrote at 42 result }
+fn put_segment<const N: usize>(page: &mut Page<N>, node: usize, len: usize)
+    requires { length page.old + 64 ≤ N }
+    ensures { Wrote 42 page.old page.new }
 {
-    let next = put_field(out, at, b" ", node as u64);
-    put_field(out, next, b":", len as u64)
+    page.push_field(b" ", node as u64);
+    page.push_field(b":", len as u64);
 }
 
 // `NODE:START-END` after a short text.
-pub fn put_span(
-    out: &mut [u8],
-    at: usize,
+pub fn put_span<const N: usize>(
+    page: &mut Page<N>,
     name: &[u8],
     node: usize,
     start: usize,
     end: usize,
-) -> usize
-    requires { (length name.now ≤ 1) × (at + 96 ≤ length out.old) }
-    ensures { Wrote at 63 result }
+)
+    requires { (length name.now ≤ 1) × (length page.old + 96 ≤ N) }
+    ensures { Wrote 63 page.old page.new }
 {
-    let a = put_field(out, at, name, node as u64);
-    let b = put_field(out, a, b":", start as u64);
-    put_field(out, b, b"-", end as u64)
+    page.push_field(name, node as u64);
+    page.push_field(b":", start as u64);
+    page.push_field(b"-", end as u64);
 }
 
-// ` NODE:START-END,w=WRITE,bytes=BYTES,dead=DEAD`
-fn put_out(
-    out: &mut [u8],
-    at: usize,
-    node: usize,
-    start: usize,
-    end: usize,
-    write: u32,
-    bytes: u64,
-    dead: u64,
-) -> usize
-    requires { at + 160 ≤ length out.old }
-    ensures { Wrote at 139 result }
+// ` NODE:START-END,w=WRITE,bytes=BYTES,dead=DEAD` of the span at place i.
+fn put_out<const N: usize>(page: &mut Page<N>, outs: &Outs, i: usize)
+    requires { (i < 128) × (length page.old + 160 ≤ N) }
+    ensures { Wrote 139 page.old page.new }
 {
-    let a = put_span(out, at, b" ", node, start, end);
-    let b = put_field(out, a, b",w=", write as u64);
-    let c = put_field(out, b, b",bytes=", bytes);
-    put_field(out, c, b",dead=", dead)
+    put_span(page, b" ", outs.node[i], outs.start[i], outs.end[i]);
+    page.push_field(b",w=", outs.write[i] as u64);
+    page.push_field(b",bytes=", outs.bytes[i]);
+    page.push_field(b",dead=", outs.dead[i]);
+}
+
+// ` NUMBER` for each.
+fn put_numbers<const N: usize, T: Copy + Into<u64>>(page: &mut Page<N>, numbers: &[T])
+    requires { length page.old + 21 * length numbers.now ≤ N }
+    ensures { Wrote (21 * length numbers.now) page.old page.new }
+{
+    for n in numbers {
+        page.push_field(b" ", (*n).into());
+    }
 }
 
 // The first n segments.
-fn put_segments(out: &mut [u8], at: usize, node: &[usize], len: &[usize], n: usize) -> usize
-    requires { (n ≤ 255) × (n ≤ length node.now) × (n ≤ length len.now) × (at + 16384 ≤ length out.old) }
-    ensures { Wrote at 10710 result }
+fn put_segments<const N: usize>(page: &mut Page<N>, path: &Segments, n: usize)
+    requires { (n ≤ 255) × (length page.old + 16384 ≤ N) }
+    ensures { Wrote 10710 page.old page.new }
 {
-    let mut next = at;
-    let mut i = 0;
-    while i < n {
-        next = put_segment(out, next, node[i], len[i]);
-        i += 1;
+    for i in 0..n {
+        put_segment(page, path.node[i], path.len[i]);
     }
-    next
 }
 
 // ` path NODE:LEN .. blocks B`, after `ok`.
-fn put_path(out: &mut [u8], at: usize, node: &[usize], len: &[usize], p: Path) -> usize
-    requires { (p.segs ≤ 255) × (p.segs ≤ length node.now) × (p.segs ≤ length len.now) × (at + 20000 ≤ length out.old) }
-    ensures { Wrote at 10800 result }
+fn put_path<const N: usize>(page: &mut Page<N>, path: &Segments, p: Path)
+    requires { (p.segs ≤ 255) × (length page.old + 20000 ≤ N) }
+    ensures { Wrote 10800 page.old page.new }
 {
-    let a = text_print::put_bytes(out, at, b"ok path");
-    let b = put_segments(out, a, node, len, p.segs);
-    put_field(out, b, b" blocks ", p.blocks as u64)
+    page.push_bytes(b"ok path");
+    put_segments(page, path, p.segs);
+    page.push_field(b" blocks ", p.blocks as u64);
 }
 
-pub fn put_end(out: &mut [u8], at: usize) -> usize
-    requires { at < length out.old }
-    ensures { Wrote at 1 result }
+// ` S cap=CAPACITY pol=POLICY` after a short text.
+pub fn put_rules<const N: usize>(
+    page: &mut Page<N>,
+    name: &[u8],
+    s: usize,
+    capacity: u64,
+    refreshes: bool,
+)
+    requires { (length name.now ≤ 6) × (length page.old + 128 ≤ N) }
+    ensures { Wrote 64 page.old page.new }
 {
-    text_print::put_byte(out, at, b'\n')
+    page.push_field(name, s as u64);
+    page.push_field(b" cap=", capacity);
+    if refreshes {
+        page.push_bytes(b" pol=refresh");
+    } else {
+        page.push_bytes(b" pol=fifo");
+    }
 }
 
 // ---- answers
 
-pub fn put_refused(out: &mut [u8], at: usize, n: u8) -> usize
-    requires { at + 64 ≤ length out.old }
-    ensures { Wrote at 64 result }
+pub fn put_refused<const N: usize>(page: &mut Page<N>, n: u8)
+    requires { length page.old + 64 ≤ N }
+    ensures { Wrote 64 page.old page.new }
 {
-    let next = put_field(out, at, b"refused ", n as u64);
-    put_end(out, next)
+    page.push_field(b"refused ", n as u64);
+    page.end_line();
 }
 
-pub fn put_line(out: &mut [u8], at: usize, w: &[u8]) -> usize
-    requires { (length w.now ≤ 32) × (at + 64 ≤ length out.old) }
-    ensures { Wrote at 64 result }
+pub fn put_line<const N: usize>(page: &mut Page<N>, w: &[u8])
+    requires { (length w.now ≤ 32) × (length page.old + 64 ≤ N) }
+    ensures { Wrote 64 page.old page.new }
 {
-    let next = text_print::put_bytes(out, at, w);
-    put_end(out, next)
+    page.push_bytes(w);
+    page.end_line();
 }
 
 // Set-up, pin and unpin.
-pub fn put_plain(out: &mut [u8], at: usize, a: Plain) -> usize
-    requires { at + 64 ≤ length out.old }
-    ensures { Wrote at 64 result }
+pub fn put_plain<const N: usize>(page: &mut Page<N>, a: Plain)
+    requires { length page.old + 64 ≤ N }
+    ensures { Wrote 64 page.old page.new }
 {
     match a {
-        Plain::Refused(n) => put_refused(out, at, n),
-        Plain::Done => put_line(out, at, b"ok"),
+        Plain::Refused(n) => put_refused(page, n),
+        Plain::Done => put_line(page, b"ok"),
     }
 }
 
 // Touch.
-pub fn put_bytes_read(out: &mut [u8], at: usize, a: StoreUsed) -> usize
-    requires { at + 64 ≤ length out.old }
-    ensures { Wrote at 64 result }
+pub fn put_bytes_read<const N: usize>(page: &mut Page<N>, a: StoreUsed)
+    requires { length page.old + 64 ≤ N }
+    ensures { Wrote 64 page.old page.new }
 {
     match a {
-        StoreUsed::Refused(n) => put_refused(out, at, n),
+        StoreUsed::Refused(n) => put_refused(page, n),
         StoreUsed::Done(d) => {
-            let next = put_field(out, at, b"ok bytes ", d.bytes);
-            put_end(out, next)
+            page.push_field(b"ok bytes ", d.bytes);
+            page.end_line();
         }
     }
 }
 
 // A path.
-fn put_whole(out: &mut [u8], at: usize, node: &[usize], len: &[usize], p: Path) -> usize
-    requires { (p.segs ≤ 255) × (p.segs ≤ length node.now) × (p.segs ≤ length len.now) × (at + 32768 ≤ length out.old) }
-    ensures { Wrote at 32768 result }
+fn put_whole<const N: usize>(page: &mut Page<N>, path: &Segments, p: Path)
+    requires { (p.segs ≤ 255) × (length page.old + 32768 ≤ N) }
+    ensures { Wrote 32768 page.old page.new }
 {
-    let next = put_path(out, at, node, len, p);
-    put_end(out, next)
+    put_path(page, path, p);
+    page.end_line();
 }
 
 // An inserted path, and the cut.
-fn put_split(out: &mut [u8], at: usize, node: &[usize], len: &[usize], p: Path, c: Cut) -> usize
-    requires { (p.segs ≤ 255) × (p.segs ≤ length node.now) × (p.segs ≤ length len.now) × (at + 32768 ≤ length out.old) }
-    ensures { Wrote at 32768 result }
+fn put_split<const N: usize>(page: &mut Page<N>, path: &Segments, p: Path, c: Cut)
+    requires { (p.segs ≤ 255) × (length page.old + 32768 ≤ N) }
+    ensures { Wrote 32768 page.old page.new }
 {
-    let a = put_path(out, at, node, len, p);
-    let b = put_field(out, a, b" cut ", c.node as u64);
-    let d = put_field(out, b, b" ", c.at as u64);
-    let e = put_field(out, d, b" ", c.new as u64);
-    put_end(out, e)
+    put_path(page, path, p);
+    page.push_field(b" cut ", c.node as u64);
+    page.push_field(b" ", c.at as u64);
+    page.push_field(b" ", c.new as u64);
+    page.end_line();
 }
 
 // The first n spans given out.
-fn put_outs(
-    out: &mut [u8],
-    at: usize,
-    node: &[usize],
-    start: &[usize],
-    end: &[usize],
-    write: &[u32],
-    bytes: &[u64],
-    dead: &[u64],
-    n: usize,
-) -> usize
-    requires { (n ≤ 128)
-        × (n ≤ length node.now)
-        × (n ≤ length start.now)
-        × (n ≤ length end.now)
-        × (n ≤ length write.now)
-        × (n ≤ length bytes.now)
-        × (n ≤ length dead.now)
-        × (at + 32768 ≤ length out.old) }
-    ensures { Wrote at 32768 result }
+fn put_outs<const N: usize>(page: &mut Page<N>, outs: &Outs, n: usize)
+    requires { (n ≤ 128) × (length page.old + 32768 ≤ N) }
+    ensures { Wrote 32768 page.old page.new }
 {
-    let mut next = text_print::put_bytes(out, at, b"ok out");
-    let mut i = 0;
-    while i < n {
-        next = put_out(
-            out, next, node[i], start[i], end[i], write[i], bytes[i], dead[i],
-        );
-        i += 1;
+    page.push_bytes(b"ok out");
+    for i in 0..n {
+        put_out(page, outs, i);
     }
-    put_end(out, next)
-}
-
-fn wide(x: u32) -> u64 {
-    x as u64
+    page.end_line();
 }
 
 // The first n write numbers.
-fn put_writes(out: &mut [u8], at: usize, write: &[u32], n: usize) -> usize
-    requires { (n ≤ 128) × (n ≤ length write.now) × (at + 32768 ≤ length out.old) }
-    ensures { Wrote at 32768 result }
+fn put_writes<const N: usize>(page: &mut Page<N>, write: &[u32; 128], n: usize)
+    requires { (n ≤ 128) × (length page.old + 32768 ≤ N) }
+    ensures { Wrote 32768 page.old page.new }
 {
-    let mut next = text_print::put_bytes(out, at, b"ok writes");
-    let mut i = 0;
-    while i < n {
-        next = put_field(out, next, b" ", wide(write[i]));
-        i += 1;
-    }
-    put_end(out, next)
+    page.push_bytes(b"ok writes");
+    put_numbers(page, &write[..n]);
+    page.end_line();
 }
 
 // ---- a lookup's answer
 
 // ` TIER:NODE:START-END` for the first n tier spans.
-fn put_tier_spans(
-    out: &mut [u8],
-    at: usize,
-    tier: &[usize],
-    node: &[usize],
-    start: &[usize],
-    end: &[usize],
-    n: usize,
-) -> usize
-    requires { (n ≤ 1024)
-        × (n ≤ length tier.now)
-        × (n ≤ length node.now)
-        × (n ≤ length start.now)
-        × (n ≤ length end.now)
-        × (at + 86144 ≤ length out.old) }
-    ensures { Wrote at 86016 result }
+fn put_tier_spans<const N: usize>(page: &mut Page<N>, spans: &TierSpans, n: usize)
+    requires { (n ≤ 1024) × (length page.old + 86144 ≤ N) }
+    ensures { Wrote 86016 page.old page.new }
 {
-    let mut next = at;
-    let mut i = 0;
-    while i < n {
-        let a = put_field(out, next, b" ", tier[i] as u64);
-        next = put_span(out, a, b":", node[i], start[i], end[i]);
-        i += 1;
+    for i in 0..n {
+        page.push_field(b" ", spans.tier[i] as u64);
+        put_span(page, b":", spans.node[i], spans.start[i], spans.end[i]);
     }
-    next
-}
-
-// The sums of the first n tiers.
-fn put_sums(out: &mut [u8], at: usize, sums: [u64; 8], n: usize) -> usize
-    requires { (n ≤ 8) × (at + 256 ≤ length out.old) }
-    ensures { Wrote at 168 result }
-{
-    let mut next = at;
-    let mut i = 0;
-    while i < n {
-        next = put_field(out, next, b" ", sums[i]);
-        i += 1;
-    }
-    next
 }
 
 fn sums_of(t: EachTier) -> [u64; 8] {
@@ -262,191 +281,110 @@ fn sums_of(t: EachTier) -> [u64; 8] {
 }
 
 // `blocks B0 B1 .. bytes Y0 Y1 ..`
-fn put_all_sums(out: &mut [u8], at: usize, blocks: EachTier, bytes: EachTier, n: usize) -> usize
-    requires { (n ≤ 8) × (at + 1024 ≤ length out.old) }
-    ensures { Wrote at 512 result }
+fn put_all_sums<const N: usize>(page: &mut Page<N>, blocks: EachTier, bytes: EachTier, n: usize)
+    requires { (n ≤ 8) × (length page.old + 1024 ≤ N) }
+    ensures { Wrote 512 page.old page.new }
 {
-    let a = text_print::put_bytes(out, at, b" blocks");
-    let b = put_sums(out, a, sums_of(blocks), n);
-    let c = text_print::put_bytes(out, b, b" bytes");
-    let d = put_sums(out, c, sums_of(bytes), n);
-    put_end(out, d)
+    let blocks = sums_of(blocks);
+    let bytes = sums_of(bytes);
+    page.push_bytes(b" blocks");
+    put_numbers(page, &blocks[..n]);
+    page.push_bytes(b" bytes");
+    put_numbers(page, &bytes[..n]);
+    page.end_line();
 }
 
 // A lookup through n tiers: the path, the tier spans, the sums.
-fn put_looked(
-    out: &mut [u8],
-    at: usize,
-    node: &[usize],
-    len: &[usize],
-    tier: &[usize],
-    span_node: &[usize],
-    start: &[usize],
-    end: &[usize],
+fn put_looked<const N: usize>(
+    page: &mut Page<N>,
+    path: &Segments,
+    spans: &TierSpans,
     d: LookupAnswer,
     n: usize,
-) -> usize
-    requires { (d.path.segs ≤ 255)
-        × (d.path.segs ≤ length node.now)
-        × (d.path.segs ≤ length len.now)
-        × (d.spans ≤ 1024)
-        × (d.spans ≤ length tier.now)
-        × (d.spans ≤ length span_node.now)
-        × (d.spans ≤ length start.now)
-        × (d.spans ≤ length end.now)
-        × (n ≤ 8)
-        × (at + 131072 ≤ length out.old) }
-    ensures { Wrote at 131072 result }
+)
+    requires { (d.path.segs ≤ 255) × (d.spans ≤ 1024) × (n ≤ 8) × (length page.old + 131072 ≤ N) }
+    ensures { Wrote 131072 page.old page.new }
 {
-    let a = text_print::put_bytes(out, at, b"ok path");
-    let b = put_segments(out, a, node, len, d.path.segs);
-    let c = text_print::put_bytes(out, b, b" spans");
-    let e = put_tier_spans(out, c, tier, span_node, start, end, d.spans);
-    put_all_sums(out, e, d.blocks, d.bytes, n)
+    page.push_bytes(b"ok path");
+    put_segments(page, path, d.path.segs);
+    page.push_bytes(b" spans");
+    put_tier_spans(page, spans, d.spans);
+    put_all_sums(page, d.blocks, d.bytes, n);
 }
 
 // ---- an answer of each call that has a list
 
 // A resolved path.
-pub fn put_resolved(out: &mut [u8], at: usize, node: &[usize], len: &[usize], a: Resolved) -> usize
-    requires { PathIn a × (255 ≤ length node.now) × (255 ≤ length len.now) × (at + 32768 ≤ length out.old) }
-    ensures { Wrote at 32768 result }
+pub fn put_resolved<const N: usize>(page: &mut Page<N>, path: &Segments, a: Resolved)
+    requires { PathIn a × (length page.old + 32768 ≤ N) }
+    ensures { Wrote 32768 page.old page.new }
 {
     match a {
-        Resolved::Refused(n) => put_refused(out, at, n),
-        Resolved::Done(d) => put_whole(out, at, node, len, d.path),
+        Resolved::Refused(n) => put_refused(page, n),
+        Resolved::Done(d) => put_whole(page, path, d.path),
     }
 }
 
 // An inserted path.
-pub fn put_inserted(out: &mut [u8], at: usize, node: &[usize], len: &[usize], a: Inserted) -> usize
-    requires { InsertIn a × (255 ≤ length node.now) × (255 ≤ length len.now) × (at + 32768 ≤ length out.old) }
-    ensures { Wrote at 32768 result }
+pub fn put_inserted<const N: usize>(page: &mut Page<N>, path: &Segments, a: Inserted)
+    requires { InsertIn a × (length page.old + 32768 ≤ N) }
+    ensures { Wrote 32768 page.old page.new }
 {
     match a {
-        Inserted::Refused(n) => put_refused(out, at, n),
-        Inserted::Done(d) => {
-            let s = d.split;
-            match s {
-                Split::No => put_whole(out, at, node, len, d.path),
-                Split::At(c) => put_split(out, at, node, len, d.path, c),
-            }
-        }
+        Inserted::Refused(n) => put_refused(page, n),
+        Inserted::Done(d) => match d.split {
+            None => put_whole(page, path, d.path),
+            Some(c) => put_split(page, path, d.path, c),
+        },
     }
 }
 
 // Bring-in.
-pub fn put_brought(
-    out: &mut [u8],
-    at: usize,
-    node: &[usize],
-    start: &[usize],
-    end: &[usize],
-    write: &[u32],
-    bytes: &[u64],
-    dead: &[u64],
-    a: StoreInserted,
-) -> usize
-    requires { BringIn a
-        × (128 ≤ length node.now)
-        × (128 ≤ length start.now)
-        × (128 ≤ length end.now)
-        × (128 ≤ length write.now)
-        × (128 ≤ length bytes.now)
-        × (128 ≤ length dead.now)
-        × (at + 32768 ≤ length out.old) }
-    ensures { Wrote at 32768 result }
+pub fn put_brought<const N: usize>(page: &mut Page<N>, outs: &Outs, a: StoreInserted)
+    requires { BringIn a × (length page.old + 32768 ≤ N) }
+    ensures { Wrote 32768 page.old page.new }
 {
     match a {
-        StoreInserted::Refused(n) => put_refused(out, at, n),
-        StoreInserted::Done(d) => put_outs(
-            out,
-            at,
-            node,
-            start,
-            end,
-            write,
-            bytes,
-            dead,
-            d.outs as usize,
-        ),
+        StoreInserted::Refused(n) => put_refused(page, n),
+        StoreInserted::Done(d) => put_outs(page, outs, d.outs as usize),
     }
 }
 
 // Expiry.
-pub fn put_expired(
-    out: &mut [u8],
-    at: usize,
-    node: &[usize],
-    start: &[usize],
-    end: &[usize],
-    write: &[u32],
-    bytes: &[u64],
-    dead: &[u64],
-    a: StoreExpired,
-) -> usize
-    requires { ExpireIn a
-        × (128 ≤ length node.now)
-        × (128 ≤ length start.now)
-        × (128 ≤ length end.now)
-        × (128 ≤ length write.now)
-        × (128 ≤ length bytes.now)
-        × (128 ≤ length dead.now)
-        × (at + 32768 ≤ length out.old) }
-    ensures { Wrote at 32768 result }
+pub fn put_expired<const N: usize>(page: &mut Page<N>, outs: &Outs, a: StoreExpired)
+    requires { ExpireIn a × (length page.old + 32768 ≤ N) }
+    ensures { Wrote 32768 page.old page.new }
 {
     match a {
-        StoreExpired::Refused(n) => put_refused(out, at, n),
-        StoreExpired::Done(d) => put_outs(
-            out,
-            at,
-            node,
-            start,
-            end,
-            write,
-            bytes,
-            dead,
-            d.outs as usize,
-        ),
+        StoreExpired::Refused(n) => put_refused(page, n),
+        StoreExpired::Done(d) => put_outs(page, outs, d.outs as usize),
     }
 }
 
 // Removal.
-pub fn put_removed(out: &mut [u8], at: usize, write: &[u32], a: StoreRemoved) -> usize
-    requires { RemoveIn a × (128 ≤ length write.now) × (at + 32768 ≤ length out.old) }
-    ensures { Wrote at 32768 result }
+pub fn put_removed<const N: usize>(page: &mut Page<N>, write: &[u32; 128], a: StoreRemoved)
+    requires { RemoveIn a × (length page.old + 32768 ≤ N) }
+    ensures { Wrote 32768 page.old page.new }
 {
     match a {
-        StoreRemoved::Refused(n) => put_refused(out, at, n),
-        StoreRemoved::Done(d) => put_writes(out, at, write, d.writes as usize),
+        StoreRemoved::Refused(n) => put_refused(page, n),
+        StoreRemoved::Done(d) => put_writes(page, write, d.writes as usize),
     }
 }
 
 // A lookup through n tiers.
-pub fn put_looked_up(
-    out: &mut [u8],
-    at: usize,
-    node: &[usize],
-    len: &[usize],
-    tier: &[usize],
-    span_node: &[usize],
-    start: &[usize],
-    end: &[usize],
+pub fn put_looked_up<const N: usize>(
+    page: &mut Page<N>,
+    path: &Segments,
+    spans: &TierSpans,
     a: Looked,
     n: usize,
-) -> usize
-    requires { LookupIn n a
-        × (255 ≤ length node.now)
-        × (255 ≤ length len.now)
-        × (1024 ≤ length tier.now)
-        × (1024 ≤ length span_node.now)
-        × (1024 ≤ length start.now)
-        × (1024 ≤ length end.now)
-        × (at + 131072 ≤ length out.old) }
-    ensures { Wrote at 131072 result }
+)
+    requires { LookupIn n a × (length page.old + 131072 ≤ N) }
+    ensures { Wrote 131072 page.old page.new }
 {
     match a {
-        Looked::Refused(m) => put_refused(out, at, m),
-        Looked::Done(d) => put_looked(out, at, node, len, tier, span_node, start, end, d, n),
+        Looked::Refused(m) => put_refused(page, m),
+        Looked::Done(d) => put_looked(page, path, spans, d, n),
     }
 }

@@ -1,320 +1,168 @@
 #![tactic(auto)]
-// What a reader gives, a line at a time, in bounded memory; and a buffer's front, to standard output.
-ghost use Rattle.std.specs.Prelude.{◌≡◌, ◌≤◌, IfOk, OnErr, IsFalse, length};
+// What a reader gives, a line at a time, in bounded memory.
+ghost use Rattle.std.specs.Prelude.{◌≡◌, ◌≤◌, IfOk, IfSome, OnErr, IsFalse};
 ghost use Rattle.text_words.specs.Words.{First, is};
 ghost use Rattle.text_lines.specs.Lines.{Filled};
-ghost use Rattle.text_input.specs.Input.{Within};
 
 use std::io::{Read, Result};
-use text_lines::Op;
+use text_lines::{Lists, Op};
 
-// The part of the buffer that is read and not used yet, and whether the input has ended. In a line that is too long to keep, `seen` says what was passed of
-// it: 1 spaces, 2 a remark, 3 anything else, 4 spaces and a CR, which the line's LF may follow; 0 where there is no such line.
-#[derive(Drop)]
-pub struct Cursor {
-    pub from: usize,
-    pub to: usize,
-    pub ended: bool,
-    pub seen: u8,
+// ---- a line that is too long to keep
+
+// What was passed of it.
+#[derive(Clone, Copy, Debug, PartialEq, Eq)]
+pub enum Seen {
+    Spaces,
+    // spaces and a CR, which the line's LF may follow
+    SpacesCr,
+    Remark,
+    Other,
 }
 
-// What the next line asks for, and whether there is none any more. A turn that only reads on asks for nothing.
-#[derive(Drop)]
-pub struct Next {
-    pub op: Op,
-    pub cursor: Cursor,
-    pub over: bool,
-}
-
-// ---- a line that is too long
-
-fn seen_after(seen: u8, b: u8) -> u8 {
-    if seen == 2 {
-        return 2;
-    }
-    if seen != 1 {
-        return 3;
-    }
-    if b == b' ' {
-        return 1;
-    }
-    if b == b'#' {
-        return 2;
-    }
-    if b == b'\r' {
-        return 4;
-    }
-    3
-}
-
-fn see(buf: &[u8], from: usize, to: usize, seen: u8) -> u8
-    requires { to ≤ length buf.now }
-{
-    let mut now = seen;
-    let mut k = from;
-    while k < to {
-        now = seen_after(now, buf[k]);
-        k += 1;
-    }
-    now
-}
-
-// Such a line is unreadable, but where it is empty or a remark.
-fn long_line(seen: u8, whole: bool) -> Op
-    ensures { Filled result }
-{
-    if seen == 3 {
-        return Op::Unreadable;
-    }
-    if seen == 4 {
-        if !whole {
-            return Op::Unreadable;
+impl Seen {
+    fn after(self, b: u8) -> Seen {
+        match (self, b) {
+            (Seen::Remark, _) => Seen::Remark,
+            (Seen::Spaces, b' ') => Seen::Spaces,
+            (Seen::Spaces, b'\r') => Seen::SpacesCr,
+            (Seen::Spaces, b'#') => Seen::Remark,
+            _ => Seen::Other,
         }
     }
-    Op::Blank
-}
 
-// ---- reading on
-
-// What is left goes to the front of the buffer.
-fn shift(buf: &mut [u8; 131072], from: usize, to: usize) -> usize
-    requires { Within from to }
-    ensures { result ≤ 131072 }
-{
-    let n = to - from;
-    let mut i = 0;
-    while i < n {
-        buf[i] = buf[from + i];
-        i += 1;
+    fn after_all(self, bytes: &[u8]) -> Seen {
+        bytes.iter().fold(self, |seen, b| seen.after(*b))
     }
-    n
-}
 
-fn least(a: usize, b: usize) -> usize
-    ensures { result ≤ b }
-{
-    if a < b {
-        return a;
+    // Such a line is unreadable, but where it is empty or a remark.
+    fn op(self, whole: bool) -> Op
+        ensures { Filled result }
+    {
+        match self {
+            Seen::Other => Op::Unreadable,
+            Seen::SpacesCr if !whole => Op::Unreadable,
+            _ => Op::Blank,
+        }
     }
-    b
-}
-
-fn refill<R: Read>(input: &mut R, buf: &mut [u8], at: usize, seen: u8) -> Result<Cursor>
-    requires { (at ≤ length buf.old) × (length buf.old ≤ 131072) }
-    ensures { IfOk result (λ c. Within c.from c.to) }
-{
-    let got = input.read(&mut buf[at..])?;
-    let n = least(got, buf.len() - at);
-    Ok(Cursor {
-        from: 0,
-        to: at + n,
-        ended: n == 0,
-        seen,
-    })
-}
-
-fn read_on<R: Read>(input: &mut R, buf: &mut [u8; 131072], c: Cursor) -> Result<Cursor>
-    requires { Within c.from c.to }
-    ensures { IfOk result (λ c. Within c.from c.to) }
-{
-    if c.seen != 0 {
-        let seen = see(&*buf, c.from, c.to, c.seen);
-        return refill(input, buf, 0, seen);
-    }
-    if 65536 < c.to - c.from {
-        let seen = see(&*buf, c.from, c.to, 1);
-        return refill(input, buf, 0, seen);
-    }
-    let n = shift(buf, c.from, c.to);
-    refill(input, buf, n, 0)
 }
 
 // ---- lines
 
-// The line's end without a CR.
-fn without_cr(buf: &[u8; 131072], from: usize, z: usize) -> usize
-    requires { Within from z }
-    ensures { Within from result }
-{
-    if from < z {
-        if buf[z - 1] == b'\r' {
-            return z - 1;
-        }
-    }
-    z
+fn without_cr(line: &[u8]) -> &[u8] {
+    line.strip_suffix(b"\r").unwrap_or(line)
 }
 
-fn read_line(
-    buf: &[u8],
-    list: &mut [u64; 1026],
-    spans: &mut [usize; 192],
-    tiers: &mut [usize; 9],
-    capacity: &mut [u64; 9],
-    refreshes: &mut [bool; 9],
-    from: usize,
-    z: usize,
-    whole: bool,
-) -> Op
-    requires { (from ≤ z) × (z ≤ length buf.now) }
+fn read_line(line: &[u8], lists: &mut Lists, whole: bool) -> Op
     ensures { Filled result }
 {
-    if 65535 < z - from {
-        return long_line(see(buf, from, z, 1), whole);
+    if 65535 < line.len() {
+        return Seen::Spaces.after_all(line).op(whole);
     }
-    text_lines::read(&buf[from..z], list, spans, tiers, capacity, refreshes)
+    text_lines::read(line, lists)
 }
 
-// What is left where the input has ended.
-fn last_line(
-    buf: &[u8; 131072],
-    list: &mut [u64; 1026],
-    spans: &mut [usize; 192],
-    tiers: &mut [usize; 9],
-    capacity: &mut [u64; 9],
-    refreshes: &mut [bool; 9],
-    c: Cursor,
-) -> Next
-    requires { Within c.from c.to }
-    ensures { Filled result.op × Within result.cursor.from result.cursor.to }
-{
-    let from = c.from;
-    let to = c.to;
-    let cursor = Cursor {
-        from: to,
-        to,
-        ended: true,
-        seen: 0,
-    };
-    if c.seen != 0 {
-        let op = long_line(see(buf, from, to, c.seen), false);
-        return Next {
-            op,
-            cursor,
-            over: false,
-        };
-    }
-    let op = read_line(
-        buf, list, spans, tiers, capacity, refreshes, from, to, false,
-    );
-    Next {
-        op,
-        cursor,
-        over: from == to,
-    }
+// The part of the buffer from `from` up to `to` is read and not used yet.
+#[derive(Drop)]
+pub struct Lines {
+    pub buf: [u8; 131072],
+    pub from: usize,
+    pub to: usize,
+    // whether the input has ended
+    pub ended: bool,
+    // of a line that is too long to keep, what was passed of it
+    pub seen: Option<Seen>,
+    pub ghost within: { (from ≤ to) × (to ≤ 131072) },
 }
 
-// It reads on, and fails where the read fails, only where no line's end is left in the buffer and the input has not ended. Then no line was read: but for the
-// reader, only the buffer may have changed.
-pub fn next_op<R: Read>(
-    input: &mut R,
-    buf: &mut [u8; 131072],
-    list: &mut [u64; 1026],
-    spans: &mut [usize; 192],
-    tiers: &mut [usize; 9],
-    capacity: &mut [u64; 9],
-    refreshes: &mut [bool; 9],
-    c: Cursor,
-) -> Result<Next>
-    requires { Within c.from c.to }
-    ensures ok { IfOk result (λ n. Filled n.op × Within n.cursor.from n.cursor.to) }
-    ensures read_on { OnErr result (First (is 10) buf.old c.from c.to c.to) }
-    ensures not_ended { OnErr result (IsFalse c.ended) }
-    ensures list { OnErr result (list.new ≡ list.old) }
-    ensures spans { OnErr result (spans.new ≡ spans.old) }
-    ensures tiers { OnErr result (tiers.new ≡ tiers.old) }
-    ensures capacity { OnErr result (capacity.new ≡ capacity.old) }
-    ensures refreshes { OnErr result (refreshes.new ≡ refreshes.old) }
-{
-    let from = c.from;
-    let to = c.to;
-    let z = text_words::next_byte(&*buf, from, to, b'\n');
-    if z < to {
-        let cursor = Cursor {
-            from: z + 1,
-            to,
-            ended: c.ended,
-            seen: 0,
-        };
-        if c.seen != 0 {
-            let op = long_line(see(&*buf, from, z, c.seen), true);
-            return Ok(Next {
-                op,
-                cursor,
-                over: false,
-            });
+impl Lines {
+    pub fn new() -> Self {
+        Lines {
+            buf: [0; 131072],
+            from: 0,
+            to: 0,
+            ended: false,
+            seen: None,
         }
-        let e = without_cr(&*buf, from, z);
-        let op = read_line(
-            &*buf, list, spans, tiers, capacity, refreshes, from, e, true,
-        );
-        return Ok(Next {
-            op,
-            cursor,
-            over: false,
-        });
     }
-    if c.ended {
-        return Ok(last_line(&*buf, list, spans, tiers, capacity, refreshes, c));
-    }
-    let cursor = read_on(input, buf, c)?;
-    Ok(Next {
-        op: Op::Blank,
-        cursor,
-        over: false,
-    })
-}
 
-// The first line that asks for something, or none: the turns are counted down, as in a program's own loop.
-pub fn first_op<R: Read>(
-    input: &mut R,
-    buf: &mut [u8; 131072],
-    list: &mut [u64; 1026],
-    spans: &mut [usize; 192],
-    tiers: &mut [usize; 9],
-    capacity: &mut [u64; 9],
-    refreshes: &mut [bool; 9],
-) -> Result<Next>
-    ensures { IfOk result (λ n. Filled n.op × Within n.cursor.from n.cursor.to) }
-{
-    let mut c = Cursor {
-        from: 0,
-        to: 0,
-        ended: false,
-        seen: 0,
-    };
-    let mut turns = u64::MAX;
-    while turns > 0 {
-        let n = next_op(input, buf, list, spans, tiers, capacity, refreshes, c)?;
-        if n.over {
-            return Ok(n);
+    // What is left goes to the front of the buffer; of a line that is too long to keep, what was seen is left.
+    fn make_room(&mut self) {
+        let n = self.to - self.from;
+        if self.seen.is_some() || 65536 < n {
+            let seen = self.seen.unwrap_or(Seen::Spaces);
+            self.seen = Some(seen.after_all(&self.buf[self.from..self.to]));
+            self.to = 0;
+        } else {
+            self.buf.copy_within(self.from..self.to, 0);
+            self.to = n;
         }
-        c = n.cursor;
-        let op: Op = n.op;
-        match op {
-            Op::Blank => {}
-            _ => {
-                return Ok(Next {
-                    op,
-                    cursor: c,
-                    over: false,
-                })
+        self.from = 0;
+    }
+
+    fn read_on<R: Read>(&mut self, input: &mut R) -> Result<()> {
+        self.make_room();
+        let got = input.read(&mut self.buf[self.to..])?;
+        let n = got.min(131072 - self.to);
+        self.to += n;
+        self.ended = n == 0;
+        Ok(())
+    }
+
+    // What is left where the input has ended.
+    fn last_op(&mut self, lists: &mut Lists) -> Option<Op>
+        ensures { IfSome result Filled }
+    {
+        let seen = self.seen.take();
+        let rest = &self.buf[self.from..self.to];
+        let op = match seen {
+            Some(seen) => seen.after_all(rest).op(false),
+            None if rest.is_empty() => return None,
+            None => read_line(rest, lists, false),
+        };
+        self.from = self.to;
+        Some(op)
+    }
+
+    // What the next line asks for; none where there is none any more. A turn that only reads on asks for nothing.
+    //
+    // It reads on, and fails where the read fails, only where no line's end is left in the buffer and the input has not ended. Then no line was read: but for
+    // the reader, only the buffer may have changed.
+    pub fn next_op<R: Read>(&mut self, input: &mut R, lists: &mut Lists) -> Result<Option<Op>>
+        ensures ok { IfOk result (λ o. IfSome o Filled) }
+        ensures read_on { OnErr result (First (is 10) self.old.buf self.old.from self.old.to self.old.to) }
+        ensures not_ended { OnErr result (IsFalse self.old.ended) }
+        ensures lists { OnErr result (lists.new ≡ lists.old) }
+    {
+        let z = text_words::next_byte(&self.buf, self.from, self.to, b'\n');
+        if z < self.to {
+            let seen = self.seen.take();
+            let line = &self.buf[self.from..z];
+            let op = match seen {
+                Some(seen) => seen.after_all(line).op(true),
+                None => read_line(without_cr(line), lists, true),
+            };
+            self.from = z + 1;
+            return Ok(Some(op));
+        }
+        if self.ended {
+            return Ok(self.last_op(lists));
+        }
+        self.read_on(input)?;
+        Ok(Some(Op::Blank))
+    }
+
+    // The first line that asks for something, or none: the turns are counted, as in a program's own loop.
+    pub fn first_op<R: Read>(&mut self, input: &mut R, lists: &mut Lists) -> Result<Option<Op>>
+        ensures { IfOk result (λ o. IfSome o Filled) }
+    {
+        for _ in 0..u64::MAX {
+            match self.next_op(input, lists)? {
+                Some(Op::Blank) => {}
+                op => return Ok(op),
             }
         }
-        turns -= 1;
+        Ok(None)
     }
-    Ok(Next {
-        op: Op::Blank,
-        cursor: c,
-        over: true,
-    })
-}
-
-// ---- writing
-
-pub fn write_front(out: &[u8], n: usize)
-    requires { n ≤ length out.now }
-{
-    io::write_all(1, &out[..n]);
 }
 
 #[cfg(test)]

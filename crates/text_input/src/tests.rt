@@ -1,7 +1,7 @@
 // The first line that asks for something, from a reader that gives a byte at a time.
-use super::first_op;
+use super::Lines;
 use std::io::{Error, Read, Result};
-use text_lines::Op;
+use text_lines::{Lists, Op};
 
 // After its bytes it ends, or fails.
 #[derive(Drop)]
@@ -34,32 +34,12 @@ impl<'a> Read for Bytes<'a> {
 // What `first_op` finds: 0 where the read fails, 1 where there is no such line, 2 where the line inserts 7 and 8, else 3.
 fn found(text: &[u8], fails: bool) -> u8 {
     let mut input = Bytes { left: text, fails };
-    let mut buf = [0u8; 131072];
-    let mut list = [0u64; 1026];
-    let mut spans = [0usize; 192];
-    let mut tiers = [0usize; 9];
-    let mut capacity = [0u64; 9];
-    let mut refreshes = [false; 9];
-    let first = first_op(
-        &mut input,
-        &mut buf,
-        &mut list,
-        &mut spans,
-        &mut tiers,
-        &mut capacity,
-        &mut refreshes,
-    );
-    match first {
+    let mut lists = Lists::new();
+    match Lines::new().first_op(&mut input, &mut lists) {
         Err(_) => 0,
-        Ok(next) => {
-            if next.over {
-                return 1;
-            }
-            match next.op {
-                Op::Insert(2) if list[0] == 7 && list[1] == 8 => 2,
-                _ => 3,
-            }
-        }
+        Ok(None) => 1,
+        Ok(Some(Op::Insert(2))) if lists.numbers[0] == 7 && lists.numbers[1] == 8 => 2,
+        Ok(Some(_)) => 3,
     }
 }
 

@@ -1,24 +1,23 @@
 -- What the readers of a line promise. Assumes nothing.
-use Rattle.std.specs.Prelude.{Bool, true, false, List, ℕ, ◌≤◌, ◌<◌, length}
+use Rattle.std.specs.Prelude.{◌≡◌, List, ℕ, ◌-◌, ◌≤◌, ◌<◌, length, drop}
+use Rattle.std.proofs.Math.Seq.{slice}
 use Rattle.text_words.specs.Words.{First, is, other}
 use Rattle.text_lines.specs.declared.Op.{Op}
 use Rattle.text_lines.specs.declared.Op.TheVariants.{Blank, Unreadable, SetUp, Insert, Resolve, Bring, Touch, Remove, Expire, Pin, Unpin, Lookup, State}
 
--- the next word of s from i on stands from `from` up to `to`
-pub record WordAt (s : List ℕ) (i from to : ℕ) : Type 0 where
-  pub spaces : First (other 32) s i (length s) from
+-- w is the next word of s, and r is what stands after it
+pub record NextWord (s w r : List ℕ) : Type 0 where
+  pub from : ℕ
+  pub to : ℕ
+  pub spaces : First (other 32) s 0 (length s) from
   pub ends : First (is 32) s from (length s) to
+  pub word : w ≡ slice from to s
+  pub rest : r ≡ drop to s
 
--- a word that was found is not empty
-abbrev pub Past : Bool → ℕ → ℕ → Type 0
-Past true i next = i < next
-Past false i next = i ≤ next
-
--- what was looked for from i on, and the place past it
-pub record Taking (s : List ℕ) (i : ℕ) (found : Bool) (next : ℕ) : Type 0 where
-  pub low : i ≤ next
-  pub high : next ≤ length s
-  pub past : Past found i next
+-- r is what is left of s after one byte or more
+pub record Passed (s r : List ℕ) : Type 0 where
+  pub shorter : length r < length s
+  pub end : r ≡ drop (length s - length r) s
 
 -- an operation's lists are within the arrays that they are read into, or one more stands for any longer list
 abbrev pub Filled : Op → Type 0

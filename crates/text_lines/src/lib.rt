@@ -1,11 +1,9 @@
 #![tactic(auto)]
 // One line of the replay form, read into an operation by value. Its lists go into arrays that the caller lends.
-ghost use Rattle.std.specs.Prelude.{◌≤◌, ◌<◌, length};
-ghost use Rattle.text_lines.specs.Lines.{WordAt, Taking, Filled};
+ghost use Rattle.std.specs.Prelude.{◌≡◌, ◌+◌, ◌≤◌, ◌<◌, length, IfSome, MatchOption};
+ghost use Rattle.text_lines.specs.Lines.{NextWord, Passed, Filled};
 
 use model::Span;
-use text_times::Time;
-use text_words::Number;
 
 // What a line asks for. The counts say how many places of a lent list are filled; a list that is too long fills one place more than its call allows.
 #[derive(Clone, Copy)]
@@ -29,265 +27,118 @@ pub enum Op {
     State,
 }
 
-// How many of a list there are, where no word of it is of another shape.
-#[derive(Clone, Copy)]
-struct Listed {
-    plain: bool,
-    count: usize,
+// The lists that lines fill.
+#[derive(Drop)]
+pub struct Lists {
+    // hashes, or the byte table
+    pub numbers: [u64; 1026],
+    // three places for each span
+    pub spans: [usize; 192],
+    pub tiers: [usize; 9],
+    // of each store
+    pub capacity: [u64; 9],
+    pub refreshes: [bool; 9],
 }
 
-// ---- words
-
-#[derive(Clone, Copy)]
-pub struct Word {
-    pub from: usize,
-    pub to: usize,
-}
-
-// The next word from i on; empty, at the line's end, where there is none.
-pub fn next_word(s: &[u8], i: usize) -> Word
-    requires { i ≤ length s.now }
-    ensures { WordAt s.now i result.from result.to }
-{
-    let from = text_words::skip_spaces(s, i);
-    let to = text_words::word_end(s, from);
-    Word { from, to }
-}
-
-fn ended(s: &[u8], i: usize) -> bool
-    requires { i ≤ length s.now }
-{
-    text_words::skip_spaces(s, i) == s.len()
-}
-
-// A number, and the place past it.
-#[derive(Clone, Copy)]
-pub struct Taken {
-    pub found: bool,
-    pub value: u64,
-    pub next: usize,
-}
-
-pub fn take_number(s: &[u8], i: usize) -> Taken
-    requires { i ≤ length s.now }
-    ensures { Taking s.now i result.found result.next }
-{
-    let w = next_word(s, i);
-    if w.to <= w.from {
-        return Taken {
-            found: false,
-            value: 0,
-            next: i,
-        };
-    }
-    match text_words::read_number(s, w.from, w.to) {
-        Number::Value(v) => Taken {
-            found: true,
-            value: v,
-            next: w.to,
-        },
-        Number::TooLarge => Taken {
-            found: false,
-            value: 0,
-            next: i,
-        },
-        Number::NotANumber => Taken {
-            found: false,
-            value: 0,
-            next: i,
-        },
-    }
-}
-
-// A time, and the place past it.
-#[derive(Clone, Copy)]
-pub struct Moment {
-    pub found: bool,
-    pub value: f64,
-    pub next: usize,
-}
-
-pub fn take_time(s: &[u8], i: usize) -> Moment
-    requires { i ≤ length s.now }
-    ensures { Taking s.now i result.found result.next }
-{
-    let w = next_word(s, i);
-    if w.to <= w.from {
-        return Moment {
-            found: false,
-            value: 0.0,
-            next: i,
-        };
-    }
-    match text_times::read_time(s, w.from, w.to) {
-        Time::Value(t) => Moment {
-            found: true,
-            value: t,
-            next: w.to,
-        },
-        Time::NotATime => Moment {
-            found: false,
-            value: 0.0,
-            next: i,
-        },
-    }
-}
-
-// NODE START END, and the place past them.
-#[derive(Clone, Copy)]
-struct TakenSpan {
-    found: bool,
-    span: Span,
-    next: usize,
-}
-
-fn no_span(s: &[u8], i: usize) -> TakenSpan
-    requires { i ≤ length s.now }
-    ensures { Taking s.now i result.found result.next }
-{
-    TakenSpan {
-        found: false,
-        span: Span {
-            node: 0,
-            start: 0,
-            end: 0,
-        },
-        next: i,
-    }
-}
-
-fn take_span(s: &[u8], i: usize) -> TakenSpan
-    requires { i ≤ length s.now }
-    ensures { Taking s.now i result.found result.next }
-{
-    let node = take_number(s, i);
-    if !node.found {
-        return no_span(s, i);
-    }
-    let start = take_number(s, node.next);
-    if !start.found {
-        return no_span(s, i);
-    }
-    let end = take_number(s, start.next);
-    if !end.found {
-        return no_span(s, i);
-    }
-    TakenSpan {
-        found: true,
-        span: Span {
-            node: node.value as usize,
-            start: start.value as usize,
-            end: end.value as usize,
-        },
-        next: end.next,
-    }
-}
-
-// S NODE START END, and nothing after them.
-#[derive(Clone, Copy)]
-struct Held {
-    found: bool,
-    store: usize,
-    span: Span,
-}
-
-fn read_held(s: &[u8], i: usize) -> Held
-    requires { i ≤ length s.now }
-{
-    let store = take_number(s, i);
-    if store.found {
-        let p = take_span(s, store.next);
-        if p.found {
-            let span = p.span;
-            return Held {
-                found: ended(s, p.next),
-                store: store.value as usize,
-                span,
-            };
+impl Lists {
+    pub fn new() -> Self {
+        Lists {
+            numbers: [0; 1026],
+            spans: [0; 192],
+            tiers: [0; 9],
+            capacity: [0; 9],
+            refreshes: [false; 9],
         }
     }
-    Held {
-        found: false,
-        store: 0,
-        span: Span {
-            node: 0,
-            start: 0,
-            end: 0,
-        },
+}
+
+// What of a line is not read yet.
+#[derive(Clone, Copy)]
+pub struct Line<'a> {
+    pub rest: &'a [u8],
+}
+
+impl<'a> Line<'a> {
+    // The next word; empty, at the line's end, where there is none.
+    pub fn word(&mut self) -> &'a [u8]
+        ensures next { NextWord self.old.rest.now result.now self.new.rest.now }
+        ensures shorter { length result.now + length self.new.rest.now ≤ length self.old.rest.now }
+    {
+        let s = self.rest;
+        let from = text_words::skip_spaces(s, 0);
+        let to = text_words::word_end(s, from);
+        self.rest = &s[to..];
+        &s[from..to]
+    }
+
+    pub fn ended(&self) -> bool {
+        text_words::skip_spaces(self.rest, 0) == self.rest.len()
+    }
+
+    // A number, if the next word is one; if not, that word is still the next.
+    pub fn number(&mut self) -> Option<u64>
+        ensures { MatchOption result (self.new.rest.now ≡ self.old.rest.now) (λ _. Passed self.old.rest.now self.new.rest.now) }
+    {
+        let mut ahead = *self;
+        let n = text_words::read_number(ahead.word()).ok()?;
+        *self = ahead;
+        Some(n)
+    }
+
+    // A time, likewise.
+    pub fn time(&mut self) -> Option<f64>
+        ensures { MatchOption result (self.new.rest.now ≡ self.old.rest.now) (λ _. Passed self.old.rest.now self.new.rest.now) }
+    {
+        let mut ahead = *self;
+        let t = text_times::read_time(ahead.word())?;
+        *self = ahead;
+        Some(t)
+    }
+
+    // NODE START END
+    fn span(&mut self) -> Option<Span>
+        ensures { IfSome result (λ _. length self.new.rest.now < length self.old.rest.now) }
+    {
+        Some(Span {
+            node: self.number()? as usize,
+            start: self.number()? as usize,
+            end: self.number()? as usize,
+        })
     }
 }
 
 // ---- lists
 
-// The numbers from i up to z, where the line or its table ends. Those past the list's 1,026 places are read and not kept.
-fn read_numbers(s: &[u8], i: usize, z: usize, list: &mut [u64; 1026]) -> Listed
-    requires { i ≤ length s.now }
-    ensures { result.count ≤ 1026 }
+// The numbers of a line. Those past the list's 1,026 places are read and not kept.
+fn read_numbers(mut line: Line, list: &mut [u64; 1026]) -> Option<usize>
+    ensures { IfSome result (λ n. n ≤ 1026) }
 {
-    let mut at = i;
     let mut n = 0;
-    while at < s.len() {
-        if z <= text_words::skip_spaces(s, at) {
-            return Listed {
-                plain: true,
-                count: n,
-            };
-        }
-        let t = take_number(s, at);
-        if !t.found {
-            return Listed {
-                plain: false,
-                count: 0,
-            };
-        }
+    while !line.ended() {
+        let value = line.number()?;
         if n < 1026 {
-            list[n] = t.value;
+            list[n] = value;
             n += 1;
         }
-        at = t.next;
     }
-    Listed {
-        plain: true,
-        count: n,
-    }
+    Some(n)
 }
 
-// The spans from i up to the line's end, three places each; 65 stands for any longer list.
-fn read_spans(s: &[u8], i: usize, spans: &mut [usize; 192]) -> Listed
-    requires { i ≤ length s.now }
-    ensures { result.count ≤ 65 }
+// The spans of a line, three places each; 65 stands for any longer list.
+fn read_spans(mut line: Line, spans: &mut [usize; 192]) -> Option<usize>
+    ensures { IfSome result (λ n. n ≤ 65) }
 {
-    let mut at = i;
     let mut n = 0;
-    while at < s.len() {
-        if ended(s, at) {
-            return Listed {
-                plain: true,
-                count: n,
-            };
-        }
-        let p = take_span(s, at);
-        if !p.found {
-            return Listed {
-                plain: false,
-                count: 0,
-            };
-        }
+    while !line.ended() {
+        let span = line.span()?;
         if n < 64 {
-            let span = p.span;
             spans[3 * n] = span.node;
             spans[3 * n + 1] = span.start;
             spans[3 * n + 2] = span.end;
         }
-        if n < 65 {
-            n += 1;
-        }
-        at = p.next;
+        n = 65.min(n + 1);
     }
-    Listed {
-        plain: true,
-        count: n,
-    }
+    Some(n)
 }
 
 // A further tier. The ninth place has the largest of those from there on, so that one that names no store is not lost.
@@ -299,114 +150,64 @@ fn keep_tier(tiers: &mut [usize; 9], n: usize, t: usize) -> usize
         tiers[n] = t;
         return n + 1;
     }
-    if tiers[8] < t {
-        tiers[8] = t;
-    }
+    tiers[8] = tiers[8].max(t);
     n
 }
 
-// The tiers in the word from a up to z; nine stand for any more.
-fn read_tiers(s: &[u8], a: usize, z: usize, tiers: &mut [usize; 9]) -> Listed
-    requires { (a ≤ z) × (z ≤ length s.now) }
-    ensures { result.count ≤ 9 }
+// The tiers in a word; nine stand for any more.
+fn read_tiers(word: &[u8], tiers: &mut [usize; 9]) -> Option<usize>
+    ensures { IfSome result (λ n. n ≤ 9) }
 {
-    let mut at = a;
     let mut n = 0;
-    while at < z {
-        let p = text_words::next_comma(s, at, z);
-        let Number::Value(t) = text_words::read_number(s, at, p) else {
-            return Listed {
-                plain: false,
-                count: 0,
-            };
-        };
+    for tier in word.split(|b| *b == b',') {
+        let t = text_words::read_number(tier).ok()?;
         n = keep_tier(tiers, n, t as usize);
-        if p == z {
-            return Listed {
-                plain: true,
-                count: n,
-            };
-        }
-        at = p + 1;
     }
-    Listed {
-        plain: false,
-        count: 0,
+    Some(n)
+}
+
+// Whether a store's policy is `refresh`.
+fn policy(word: &[u8]) -> Option<bool> {
+    match word {
+        b"fifo" => Some(false),
+        b"refresh" => Some(true),
+        _ => None,
     }
 }
 
-// 0 for `fifo`, 1 for `refresh`, 2 for any other word.
-fn policy(s: &[u8], a: usize, z: usize) -> u8
-    requires { (a ≤ z) × (z ≤ length s.now) }
+// The stores of a line: a capacity and a policy for each. Nine stand for any more.
+fn read_stores(mut line: Line, lists: &mut Lists) -> Option<usize>
+    ensures { IfSome result (λ n. n ≤ 9) }
 {
-    if text_words::same_word(s, a, z, b"fifo") {
-        return 0;
-    }
-    if text_words::same_word(s, a, z, b"refresh") {
-        return 1;
-    }
-    2
-}
-
-// The stores from i up to the line's end: a capacity and a policy for each. Nine stand for any more.
-fn read_stores(s: &[u8], i: usize, capacity: &mut [u64; 9], refreshes: &mut [bool; 9]) -> Listed
-    requires { i ≤ length s.now }
-    ensures { result.count ≤ 9 }
-{
-    let mut at = i;
     let mut n = 0;
-    while at < s.len() {
-        if ended(s, at) {
-            return Listed {
-                plain: true,
-                count: n,
-            };
-        }
-        let t = take_number(s, at);
-        if !t.found {
-            return Listed {
-                plain: false,
-                count: 0,
-            };
-        }
-        let w = next_word(s, t.next);
-        let p = policy(s, w.from, w.to);
-        if p == 2 {
-            return Listed {
-                plain: false,
-                count: 0,
-            };
-        }
+    while !line.ended() {
+        let capacity = line.number()?;
+        let refreshes = policy(line.word())?;
         if n < 9 {
-            capacity[n] = t.value;
-            refreshes[n] = p == 1;
+            lists.capacity[n] = capacity;
+            lists.refreshes[n] = refreshes;
             n += 1;
         }
-        at = w.to;
     }
-    Listed {
-        plain: true,
-        count: n,
-    }
+    Some(n)
 }
 
-// The place of the word `stores`, from i on; the line's end where it has none.
-fn find_stores(s: &[u8], i: usize) -> usize
-    requires { i ≤ length s.now }
-    ensures { (i ≤ result) × (result ≤ length s.now) }
-{
-    let mut at = i;
-    while at < s.len() {
-        let w = next_word(s, at);
-        if text_words::same_word(s, w.from, w.to, b"stores") {
-            return w.from;
+// What of a line stands before the word `stores`, and what after it.
+fn split_at_stores(line: Line) -> Option<(Line, Line)> {
+    let mut after = line;
+    loop {
+        let at = line.rest.len() - after.rest.len();
+        let word = after.word();
+        if word.is_empty() {
+            return None;
         }
-        if w.to <= at {
-            return s.len();
+        if word == b"stores".as_slice() {
+            let before = Line {
+                rest: &line.rest[..at],
+            };
+            return Some((before, after));
         }
-        at = w.to;
     }
-    s.len()
 }
 
 // The table n times k for k from 0 to 1,024. Where its last number is above 2^48 the list stays empty, which no set-up takes.
@@ -416,331 +217,128 @@ fn fill_table(n: u64, list: &mut [u64; 1026]) -> usize
     if 274877906944 < n {
         return 0;
     }
-    let mut sum: u64 = 0;
-    let mut k = 0;
-    while k < 1025 {
-        list[k] = sum;
-        sum += n;
-        k += 1;
+    for k in 0..1025 {
+        list[k] = n * k as u64;
     }
-    k
+    1025
 }
 
 // ---- one reader for each kind of line, from the place past its first word
 
-fn read_each(
-    s: &[u8],
-    i: usize,
-    list: &mut [u64; 1026],
-    capacity: &mut [u64; 9],
-    refreshes: &mut [bool; 9],
-) -> Op
-    requires { i ≤ length s.now }
-    ensures { Filled result }
+fn read_each(mut line: Line, lists: &mut Lists) -> Option<Op>
+    ensures { IfSome result Filled }
 {
-    let t = take_number(s, i);
-    if !t.found {
-        return Op::Unreadable;
-    }
-    let n = read_stores(s, t.next, capacity, refreshes);
-    if !n.plain {
-        return Op::Unreadable;
-    }
-    let k = fill_table(t.value, list);
-    Op::SetUp(k, n.count)
+    let n = line.number()?;
+    let stores = read_stores(line, lists)?;
+    Some(Op::SetUp(fill_table(n, &mut lists.numbers), stores))
 }
 
-fn read_table(
-    s: &[u8],
-    i: usize,
-    list: &mut [u64; 1026],
-    capacity: &mut [u64; 9],
-    refreshes: &mut [bool; 9],
-) -> Op
-    requires { i ≤ length s.now }
-    ensures { Filled result }
+fn read_table(line: Line, lists: &mut Lists) -> Option<Op>
+    ensures { IfSome result Filled }
 {
-    let z = find_stores(s, i);
-    if s.len() <= z {
-        return Op::Unreadable;
-    }
-    let w = next_word(s, z);
-    let n = read_stores(s, w.to, capacity, refreshes);
-    if !n.plain {
-        return Op::Unreadable;
-    }
-    let k = read_numbers(s, i, z, list);
-    if !k.plain {
-        return Op::Unreadable;
-    }
-    Op::SetUp(k.count, n.count)
+    let (table, stores) = split_at_stores(line)?;
+    let n = read_stores(stores, lists)?;
+    let k = read_numbers(table, &mut lists.numbers)?;
+    Some(Op::SetUp(k, n))
 }
 
-fn read_set_up(
-    s: &[u8],
-    i: usize,
-    list: &mut [u64; 1026],
-    capacity: &mut [u64; 9],
-    refreshes: &mut [bool; 9],
-) -> Op
-    requires { i ≤ length s.now }
-    ensures { Filled result }
+fn read_set_up(mut line: Line, lists: &mut Lists) -> Option<Op>
+    ensures { IfSome result Filled }
 {
-    let w = next_word(s, i);
-    if text_words::same_word(s, w.from, w.to, b"each") {
-        return read_each(s, w.to, list, capacity, refreshes);
+    match line.word() {
+        b"each" => read_each(line, lists),
+        b"table" => read_table(line, lists),
+        _ => None,
     }
-    if text_words::same_word(s, w.from, w.to, b"table") {
-        return read_table(s, w.to, list, capacity, refreshes);
-    }
-    Op::Unreadable
 }
 
-fn read_insert(s: &[u8], i: usize, list: &mut [u64; 1026]) -> Op
-    requires { i ≤ length s.now }
-    ensures { Filled result }
+fn read_bring(mut line: Line) -> Option<Op>
+    ensures { IfSome result Filled }
 {
-    let n = read_numbers(s, i, s.len(), list);
-    if !n.plain {
-        return Op::Unreadable;
-    }
-    Op::Insert(n.count)
+    let store = line.number()? as usize;
+    let span = line.span()?;
+    let time = line.time()?;
+    let write = u32::try_from(line.number()?).ok()?;
+    line.ended().then_some(Op::Bring(store, span, time, write))
 }
 
-fn read_resolve(s: &[u8], i: usize, list: &mut [u64; 1026]) -> Op
-    requires { i ≤ length s.now }
-    ensures { Filled result }
-{
-    let n = read_numbers(s, i, s.len(), list);
-    if !n.plain {
-        return Op::Unreadable;
+// Whether a touch counts its reads.
+fn flag(word: &[u8]) -> Option<bool> {
+    match word {
+        b"0" => Some(false),
+        b"1" => Some(true),
+        _ => None,
     }
-    Op::Resolve(n.count)
 }
 
-fn read_bring(s: &[u8], i: usize) -> Op
-    requires { i ≤ length s.now }
-    ensures { Filled result }
+fn read_touch(mut line: Line, spans: &mut [usize; 192]) -> Option<Op>
+    ensures { IfSome result Filled }
 {
-    let store = take_number(s, i);
-    if !store.found {
-        return Op::Unreadable;
-    }
-    let p = take_span(s, store.next);
-    if !p.found {
-        return Op::Unreadable;
-    }
-    let time = take_time(s, p.next);
-    if !time.found {
-        return Op::Unreadable;
-    }
-    let write = take_number(s, time.next);
-    if !write.found {
-        return Op::Unreadable;
-    }
-    if !ended(s, write.next) {
-        return Op::Unreadable;
-    }
-    if 4294967295 < write.value {
-        return Op::Unreadable;
-    }
-    let span = p.span;
-    Op::Bring(store.value as usize, span, time.value, write.value as u32)
+    let store = line.number()? as usize;
+    let time = line.time()?;
+    let counted = flag(line.word())?;
+    let n = read_spans(line, spans)?;
+    Some(Op::Touch(store, time, counted, n))
 }
 
-// 0 or 1 for the word of that one digit, 2 for any other.
-fn flag(s: &[u8], a: usize, z: usize) -> u8
-    requires { (a ≤ z) × (z ≤ length s.now) }
-{
-    if text_words::same_word(s, a, z, b"0") {
-        return 0;
-    }
-    if text_words::same_word(s, a, z, b"1") {
-        return 1;
-    }
-    2
+// S NODE START END, and nothing after them.
+fn read_held(mut line: Line) -> Option<(usize, Span)> {
+    let store = line.number()? as usize;
+    let span = line.span()?;
+    line.ended().then_some((store, span))
 }
 
-fn read_touch(s: &[u8], i: usize, spans: &mut [usize; 192]) -> Op
-    requires { i ≤ length s.now }
-    ensures { Filled result }
+fn read_expire(mut line: Line) -> Option<Op>
+    ensures { IfSome result Filled }
 {
-    let store = take_number(s, i);
-    if !store.found {
-        return Op::Unreadable;
-    }
-    let time = take_time(s, store.next);
-    if !time.found {
-        return Op::Unreadable;
-    }
-    let w = next_word(s, time.next);
-    let counted = flag(s, w.from, w.to);
-    if counted == 2 {
-        return Op::Unreadable;
-    }
-    let n = read_spans(s, w.to, spans);
-    if !n.plain {
-        return Op::Unreadable;
-    }
-    Op::Touch(store.value as usize, time.value, counted == 1, n.count)
+    let store = line.number()? as usize;
+    let now = line.time()?;
+    let seconds = line.time()?;
+    line.ended().then_some(Op::Expire(store, now, seconds))
 }
 
-fn read_remove(s: &[u8], i: usize) -> Op
-    requires { i ≤ length s.now }
-    ensures { Filled result }
+fn read_lookup(mut line: Line, lists: &mut Lists) -> Option<Op>
+    ensures { IfSome result Filled }
 {
-    let h = read_held(s, i);
-    if !h.found {
-        return Op::Unreadable;
-    }
-    let span = h.span;
-    Op::Remove(h.store, span)
+    let word = line.word();
+    let n = if word == b":".as_slice() {
+        0
+    } else {
+        let n = read_tiers(word, &mut lists.tiers)?;
+        if line.word() != b":".as_slice() {
+            return None;
+        }
+        n
+    };
+    let k = read_numbers(line, &mut lists.numbers)?;
+    Some(Op::Lookup(n, k))
 }
 
-fn read_pin(s: &[u8], i: usize) -> Op
-    requires { i ≤ length s.now }
-    ensures { Filled result }
+fn read_op(mut line: Line, lists: &mut Lists) -> Option<Op>
+    ensures { IfSome result Filled }
 {
-    let h = read_held(s, i);
-    if !h.found {
-        return Op::Unreadable;
+    match line.word() {
+        b"insert" => Some(Op::Insert(read_numbers(line, &mut lists.numbers)?)),
+        b"touch" => read_touch(line, &mut lists.spans),
+        b"lookup" => read_lookup(line, lists),
+        b"resolve" => Some(Op::Resolve(read_numbers(line, &mut lists.numbers)?)),
+        b"setup" => read_set_up(line, lists),
+        b"bring" => read_bring(line),
+        b"pin" => read_held(line).map(|(store, span)| Op::Pin(store, span)),
+        b"unpin" => read_held(line).map(|(store, span)| Op::Unpin(store, span)),
+        b"remove" => read_held(line).map(|(store, span)| Op::Remove(store, span)),
+        b"expire" => read_expire(line),
+        b"state" => line.ended().then_some(Op::State),
+        _ => None,
     }
-    let span = h.span;
-    Op::Pin(h.store, span)
-}
-
-fn read_unpin(s: &[u8], i: usize) -> Op
-    requires { i ≤ length s.now }
-    ensures { Filled result }
-{
-    let h = read_held(s, i);
-    if !h.found {
-        return Op::Unreadable;
-    }
-    let span = h.span;
-    Op::Unpin(h.store, span)
-}
-
-fn read_expire(s: &[u8], i: usize) -> Op
-    requires { i ≤ length s.now }
-    ensures { Filled result }
-{
-    let store = take_number(s, i);
-    if !store.found {
-        return Op::Unreadable;
-    }
-    let now = take_time(s, store.next);
-    if !now.found {
-        return Op::Unreadable;
-    }
-    let seconds = take_time(s, now.next);
-    if !seconds.found {
-        return Op::Unreadable;
-    }
-    if !ended(s, seconds.next) {
-        return Op::Unreadable;
-    }
-    Op::Expire(store.value as usize, now.value, seconds.value)
-}
-
-// The hashes of a lookup through n tiers.
-fn read_hashes(s: &[u8], i: usize, n: usize, list: &mut [u64; 1026]) -> Op
-    requires { (i ≤ length s.now) × (n ≤ 9) }
-    ensures { Filled result }
-{
-    let k = read_numbers(s, i, s.len(), list);
-    if !k.plain {
-        return Op::Unreadable;
-    }
-    Op::Lookup(n, k.count)
-}
-
-fn read_lookup(s: &[u8], i: usize, list: &mut [u64; 1026], tiers: &mut [usize; 9]) -> Op
-    requires { i ≤ length s.now }
-    ensures { Filled result }
-{
-    let w = next_word(s, i);
-    if text_words::same_word(s, w.from, w.to, b":") {
-        return read_hashes(s, w.to, 0, list);
-    }
-    let n = read_tiers(s, w.from, w.to, tiers);
-    if !n.plain {
-        return Op::Unreadable;
-    }
-    let mark = next_word(s, w.to);
-    if !text_words::same_word(s, mark.from, mark.to, b":") {
-        return Op::Unreadable;
-    }
-    read_hashes(s, mark.to, n.count, list)
-}
-
-fn read_state(s: &[u8], i: usize) -> Op
-    requires { i ≤ length s.now }
-    ensures { Filled result }
-{
-    if ended(s, i) {
-        return Op::State;
-    }
-    Op::Unreadable
-}
-
-// The lines whose first word, from a up to z, names a span or a time.
-fn read_short(s: &[u8], a: usize, z: usize) -> Op
-    requires { (a ≤ z) × (z ≤ length s.now) }
-    ensures { Filled result }
-{
-    if text_words::same_word(s, a, z, b"bring") {
-        return read_bring(s, z);
-    }
-    if text_words::same_word(s, a, z, b"pin") {
-        return read_pin(s, z);
-    }
-    if text_words::same_word(s, a, z, b"unpin") {
-        return read_unpin(s, z);
-    }
-    if text_words::same_word(s, a, z, b"remove") {
-        return read_remove(s, z);
-    }
-    if text_words::same_word(s, a, z, b"expire") {
-        return read_expire(s, z);
-    }
-    if text_words::same_word(s, a, z, b"state") {
-        return read_state(s, z);
-    }
-    Op::Unreadable
 }
 
 // One line without its end.
-pub fn read(
-    s: &[u8],
-    list: &mut [u64; 1026],
-    spans: &mut [usize; 192],
-    tiers: &mut [usize; 9],
-    capacity: &mut [u64; 9],
-    refreshes: &mut [bool; 9],
-) -> Op
+pub fn read(s: &[u8], lists: &mut Lists) -> Op
     ensures { Filled result }
 {
     if text_words::is_blank_or_remark(s) {
         return Op::Blank;
     }
-    let w = next_word(s, 0);
-    let from = w.from;
-    let to = w.to;
-    if text_words::same_word(s, from, to, b"insert") {
-        return read_insert(s, to, list);
-    }
-    if text_words::same_word(s, from, to, b"touch") {
-        return read_touch(s, to, spans);
-    }
-    if text_words::same_word(s, from, to, b"lookup") {
-        return read_lookup(s, to, list, tiers);
-    }
-    if text_words::same_word(s, from, to, b"resolve") {
-        return read_resolve(s, to, list);
-    }
-    if text_words::same_word(s, from, to, b"setup") {
-        return read_set_up(s, to, list, capacity, refreshes);
-    }
-    read_short(s, from, to)
+    read_op(Line { rest: s }, lists).unwrap_or(Op::Unreadable)
 }

@@ -2,7 +2,6 @@
 use mathlib.Core.Path.{◌≡◌, refl, sym, ap, subst, ◌∙◌}
 use mathlib.Core.Bool.{Bool, true, false, cond}
 use mathlib.Core.List.{List, [], ◌∷◌}
-use mathlib.Core.Option.{Option, some}
 use Prim.Native.Nat.{ℕ, zero, suc, ◌+◌, ◌-◌, ◌*◌, ◌/◌, ◌%◌, ◌^◌, ◌≤◌, ◌<◌}
 use native.Mathlib.Nat.{pow-suc, pow-zero, one-le-pow, div-lt_iff_lt-mul, le-div_iff_mul-le, div-add-mod, mod-lt, mod-eq_of_lt, pow-le-pow_right}
 use native.Mathlib.Numerals.{add-one}
@@ -13,7 +12,8 @@ use lib.ListN.{length, get_or, take, length-append, get_or-append}
 use lib.Seq.{length-take-le}
 use Rattle.io.specs.Digits.{hex_digit_ascii, last_digits, IsDigitCount}
 use Rattle.text_words.specs.Words.{digit_of, step, reading, value_in, decimal}
-use Rattle.text_words.proofs.Laws.{digit_2, digit_6, step_digit, reading_append, reading-one, value_snoc}
+use Rattle.text_words.proofs.Laws.{digit_decimal, digit_lower, step_digit, reading_append, reading-one, value_snoc}
+use Rattle.std.specs.Prelude.{Option, Some}
 use Rattle.text_print.specs.Print.{places, numeral, pattern, Put, PutNumber, PutHex}
 
 pub length_digits : (b k n : ℕ) → length (last_digits b k n) ≡ k
@@ -59,31 +59,31 @@ digit_back d h = go (ltb d 10) refl
     go true e =
         let l : d < 10 = ltb-true d 10 e in
         let q : d ≡ 48 + d - 48 = omega arith in
-        q ∙ digit_2 (48 + d) (omega arith) (omega arith)
+        q ∙ digit_decimal (48 + d) (omega arith) (omega arith)
     go false e =
         let l : 10 ≤ d = ltb-false d 10 e in
         let q : d ≡ 87 + d - 87 = omega arith in
-        q ∙ digit_6 (87 + d) (omega arith) (omega arith)
+        q ∙ digit_lower (87 + d) (omega arith) (omega arith)
 
 -- the last k digits of n in a base up to 16 read back as n, which they hold
 module _ (b : ℕ) (low : 0 < b) (high : b ≤ 16) where
-  step_back : (n : ℕ) → step b (some (n / b)) (hex_digit_ascii (n % b)) ≡ some n
+  step_back : (n : ℕ) → step b (Some (n / b)) (hex_digit_ascii (n % b)) ≡ Some n
   step_back n =
       let h : n % b < b = mod-lt n low in
-      step_digit b (hex_digit_ascii (n % b)) (n % b) (digit_back (n % b) (omega arith)) (n / b) h ∙ ap {B = Option ℕ} some (div-add-mod n b)
+      step_digit b (hex_digit_ascii (n % b)) (n % b) (digit_back (n % b) (omega arith)) (n / b) h ∙ ap {B = Option ℕ} Some (div-add-mod n b)
 
-  reads-back : (k n : ℕ) → n < b ^ k → reading b (some 0) (last_digits b k n) ≡ some n
+  reads-back : (k n : ℕ) → n < b ^ k → reading b (Some 0) (last_digits b k n) ≡ Some n
   unfolding reading
-  reads-back zero n h = let e : 0 ≡ n = omega (arith, pow-zero b) in ap {B = Option ℕ} some e
+  reads-back zero n h = let e : 0 ≡ n = omega (arith, pow-zero b) in ap {B = Option ℕ} Some e
   reads-back (suc k) n h =
       let g : n < b ^ k * b = rw pow-suc at h in
       let i : n / b < b ^ k = (div-lt_iff_lt-mul low).1 g in
-      reading_append b (some 0) (last_digits b k (n / b)) (hex_digit_ascii (n % b) ∷ [])
+      reading_append b (Some 0) (last_digits b k (n / b)) (hex_digit_ascii (n % b) ∷ [])
       ∙ ap (λ (o : Option ℕ). reading b o (hex_digit_ascii (n % b) ∷ [])) (reads-back k (n / b) i)
-      ∙ reading-one b (some (n / b)) (hex_digit_ascii (n % b))
+      ∙ reading-one b (Some (n / b)) (hex_digit_ascii (n % b))
       ∙ step_back n
 
-  pub digits_read : (k n : ℕ) → 1 ≤ k → n < b ^ k → value_in b (last_digits b k n) ≡ some n
+  pub digits_read : (k n : ℕ) → 1 ≤ k → n < b ^ k → value_in b (last_digits b k n) ≡ Some n
   digits_read zero n l h = absurd (omega arith)
   digits_read (suc k) n l h = value_snoc b (last_digits b k (n / b)) (hex_digit_ascii (n % b)) ∙ reads-back (suc k) n h
 
@@ -96,7 +96,7 @@ zero-numeral : numeral 0 ≡ 48 ∷ []
 unfolding numeral places
 zero-numeral = refl
 
-pub numeral_reads : (n k : ℕ) → IsDigitCount 10 1 n k → k ≤ 20 → decimal (numeral n) ≡ some n
+pub numeral_reads : (n k : ℕ) → IsDigitCount 10 1 n k → k ≤ 20 → decimal (numeral n) ≡ Some n
 numeral_reads n k f h = rw (← numeral-is n k f h) (digits_read 10 (omega arith) (omega arith) k n f.0 f.1)
 
 -- a zero in front stands alone

@@ -1,6 +1,5 @@
 -- Bytes and numbers written into a buffer. Assumes nothing.
-use Rattle.std.specs.Prelude.{◌≡◌, cond, List, [], ◌∷◌, ◌++◌, ℕ, zero, suc, ◌+◌, ◌/◌, ◌≤◌, ltb, length, get_or, take, drop}
-use Rattle.std.proofs.Math.Option.{some}
+use Rattle.std.specs.Prelude.{◌≡◌, cond, List, [], ◌∷◌, ◌++◌, ℕ, zero, suc, ◌+◌, ◌/◌, ◌≤◌, ltb, length, get_or, take, drop, Some}
 use Rattle.io.specs.Digits.{last_digits}
 use Rattle.text_words.specs.Words.{value_in, decimal}
 
@@ -29,10 +28,10 @@ pattern n = last_digits 16 16 n
 -- n was written: what stands there now reads as n, and a zero in front stands alone
 pub record PutNumber (at n : ℕ) (l l' : List ℕ) (r : ℕ) : Type 0 where
   pub put : Put at (numeral n) l l' r
-  pub reads : decimal (numeral n) ≡ some n
+  pub reads : decimal (numeral n) ≡ Some n
   pub plain : get_or (numeral n) 0 0 ≡ 48 → numeral n ≡ 48 ∷ []
   pub short : r ≤ at + 20
 
 pub record PutHex (at n : ℕ) (l l' : List ℕ) (r : ℕ) : Type 0 where
   pub put : Put at (pattern n) l l' r
-  pub reads : value_in 16 (pattern n) ≡ some n
+  pub reads : value_in 16 (pattern n) ≡ Some n

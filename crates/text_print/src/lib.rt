@@ -15,12 +15,9 @@ pub fn put_bytes(out: &mut [u8], at: usize, w: &[u8]) -> usize
     requires { at + length w.now ≤ length out.old }
     ensures { Put at w.now out.old out.new result }
 {
-    let mut i = 0;
-    while i < w.len() {
-        out[at + i] = w[i];
-        i += 1;
-    }
-    at + i
+    let end = at + w.len();
+    out[at..end].copy_from_slice(w);
+    end
 }
 
 // The decimal digits of n, with no zero in front: at most 20.

@@ -1,159 +1,149 @@
 #![tactic(auto)]
-// The lines of the Monday report, written into a buffer that the caller lends. Each function answers the place past what it wrote.
-ghost use Rattle.std.specs.Prelude.{◌+◌, ◌≤◌, ◌<◌, length};
+// The lines of the Monday report, written on a page.
+ghost use Rattle.std.specs.Prelude.{◌+◌, ◌*◌, ◌≤◌, ◌<◌, length};
 ghost use Rattle.model.specs.Sizes.{max_stores, max_numbers};
 ghost use Rattle.model.specs.State.{stores_in};
-ghost use Rattle.text_answer.specs.Text.{Wrote};
+ghost use Rattle.text_page.specs.Page.{Wrote};
 
 use model::Book;
+use text_answer::put_rules;
+use text_page::Page;
 
-// The sums stand eight to a figure, in the order of the line: in, room, age, back, removed, bytes, dead; then lookups, their blocks and their bytes.
-fn sum_at(sums: &[u64], figure: usize, s: usize) -> u64
-    requires { (figure < 7) × (s < 8) × (59 ≤ length sums.now) }
-{
-    sums[8 * figure + s]
+// The sums stand eight to a figure, in the order of the line; then lookups, their blocks and their bytes.
+#[derive(Clone, Copy)]
+enum Figure {
+    In,
+    Room,
+    Age,
+    Back,
+    Removed,
+    Bytes,
+    Dead,
 }
 
-// `store S cap=C pol=POLICY`
-fn put_rules(out: &mut [u8], at: usize, s: usize, capacity: u64, policy: u64) -> usize
-    requires { at + 128 ≤ length out.old }
-    ensures { Wrote at 64 result }
+fn sum_at(sums: &[u64], figure: Figure, s: usize) -> u64
+    requires { (s < 8) × (59 ≤ length sums.now) }
 {
-    let a = text_answer::put_field(out, at, b"store ", s as u64);
-    let b = text_answer::put_field(out, a, b" cap=", capacity);
-    if policy == 1 {
-        return text_print::put_bytes(out, b, b" pol=refresh");
-    }
-    text_print::put_bytes(out, b, b" pol=fifo")
+    sums[8 * figure as usize + s]
 }
 
 // ` in=I room=R age=A`
-fn put_blocks(out: &mut [u8], at: usize, sums: &[u64], s: usize) -> usize
-    requires { (s < 8) × (59 ≤ length sums.now) × (at + 128 ≤ length out.old) }
-    ensures { Wrote at 75 result }
+fn put_blocks<const N: usize>(page: &mut Page<N>, sums: &[u64], s: usize)
+    requires { (s < 8) × (59 ≤ length sums.now) × (length page.old + 128 ≤ N) }
+    ensures { Wrote 75 page.old page.new }
 {
-    let a = text_answer::put_field(out, at, b" in=", sum_at(sums, 0, s));
-    let b = text_answer::put_field(out, a, b" room=", sum_at(sums, 1, s));
-    text_answer::put_field(out, b, b" age=", sum_at(sums, 2, s))
+    page.push_field(b" in=", sum_at(sums, Figure::In, s));
+    page.push_field(b" room=", sum_at(sums, Figure::Room, s));
+    page.push_field(b" age=", sum_at(sums, Figure::Age, s));
 }
 
 // ` back=K removed=D`
-fn put_gone(out: &mut [u8], at: usize, sums: &[u64], s: usize) -> usize
-    requires { (s < 8) × (59 ≤ length sums.now) × (at + 128 ≤ length out.old) }
-    ensures { Wrote at 55 result }
+fn put_gone<const N: usize>(page: &mut Page<N>, sums: &[u64], s: usize)
+    requires { (s < 8) × (59 ≤ length sums.now) × (length page.old + 128 ≤ N) }
+    ensures { Wrote 55 page.old page.new }
 {
-    let a = text_answer::put_field(out, at, b" back=", sum_at(sums, 3, s));
-    text_answer::put_field(out, a, b" removed=", sum_at(sums, 4, s))
+    page.push_field(b" back=", sum_at(sums, Figure::Back, s));
+    page.push_field(b" removed=", sum_at(sums, Figure::Removed, s));
 }
 
 // ` held=H bytes=Y dead=Z`
-fn put_held(out: &mut [u8], at: usize, sums: &[u64], s: usize, held: u64) -> usize
-    requires { (s < 8) × (59 ≤ length sums.now) × (at + 128 ≤ length out.old) }
-    ensures { Wrote at 79 result }
+fn put_held<const N: usize>(page: &mut Page<N>, sums: &[u64], s: usize, held: u64)
+    requires { (s < 8) × (59 ≤ length sums.now) × (length page.old + 128 ≤ N) }
+    ensures { Wrote 79 page.old page.new }
 {
-    let a = text_answer::put_field(out, at, b" held=", held);
-    let b = text_answer::put_field(out, a, b" bytes=", sum_at(sums, 5, s));
-    text_answer::put_field(out, b, b" dead=", sum_at(sums, 6, s))
+    page.push_field(b" held=", held);
+    page.push_field(b" bytes=", sum_at(sums, Figure::Bytes, s));
+    page.push_field(b" dead=", sum_at(sums, Figure::Dead, s));
 }
 
 // A store's line, from its own numbers and its sums.
-pub fn put_store(out: &mut [u8], at: usize, sums: &[u64], s: usize, b: Book) -> usize
-    requires { (s < 8) × (59 ≤ length sums.now) × (at + 512 ≤ length out.old) }
-    ensures { Wrote at 300 result }
+pub fn put_store<const N: usize>(page: &mut Page<N>, sums: &[u64], s: usize, b: Book)
+    requires { (s < 8) × (59 ≤ length sums.now) × (length page.old + 512 ≤ N) }
+    ensures { Wrote 300 page.old page.new }
 {
-    let rules = put_rules(out, at, s, b.capacity, b.policy);
-    let blocks = put_blocks(out, rules, sums, s);
-    let gone = put_gone(out, blocks, sums, s);
-    let held = put_held(out, gone, sums, s, b.held);
-    text_answer::put_end(out, held)
+    put_rules(page, b"store ", s, b.capacity, b.policy == 1);
+    put_blocks(page, sums, s);
+    put_gone(page, sums, s);
+    put_held(page, sums, s, b.held);
+    page.end_line();
 }
 
 // A line for each store.
-fn put_stores(out: &mut [u8], at: usize, books: &[u64], sums: &[u64]) -> usize
-    requires { (stores_in books.now ≤ max_stores) × (max_numbers ≤ length books.now) × (59 ≤ length sums.now) × (at + 4096 ≤ length out.old) }
-    ensures { Wrote at 2400 result }
+fn put_stores<const N: usize>(page: &mut Page<N>, books: &[u64], sums: &[u64])
+    requires { (stores_in books.now ≤ max_stores) × (max_numbers ≤ length books.now) × (59 ≤ length sums.now) × (length page.old + 4096 ≤ N) }
+    ensures { Wrote 2400 page.old page.new }
 {
-    let stores = books[2] as usize;
-    let mut next = at;
-    let mut s = 0;
-    while s < stores {
-        let b = pool_book::book_of(books, s);
-        next = put_store(out, next, sums, s, b);
-        s += 1;
+    for s in 0..books[2] as usize {
+        put_store(page, sums, s, pool_book::book_of(books, s));
     }
-    next
 }
 
 // `lookups N blocks B bytes Y`
-pub fn put_lookups(out: &mut [u8], at: usize, sums: &[u64]) -> usize
-    requires { (59 ≤ length sums.now) × (at + 128 ≤ length out.old) }
-    ensures { Wrote at 96 result }
+pub fn put_lookups<const N: usize>(page: &mut Page<N>, sums: &[u64])
+    requires { (59 ≤ length sums.now) × (length page.old + 128 ≤ N) }
+    ensures { Wrote 96 page.old page.new }
 {
-    let a = text_answer::put_field(out, at, b"lookups ", sums[56]);
-    let b = text_answer::put_field(out, a, b" blocks ", sums[57]);
-    let c = text_answer::put_field(out, b, b" bytes ", sums[58]);
-    text_answer::put_end(out, c)
+    page.push_field(b"lookups ", sums[56]);
+    page.push_field(b" blocks ", sums[57]);
+    page.push_field(b" bytes ", sums[58]);
+    page.end_line();
 }
 
 // `refused NUMBER TIMES`, where it came at all.
-fn put_refusal(out: &mut [u8], at: usize, number: usize, times: u64) -> usize
-    requires { at + 96 ≤ length out.old }
-    ensures { Wrote at 64 result }
+fn put_refusal<const N: usize>(page: &mut Page<N>, number: usize, times: u64)
+    requires { length page.old + 96 ≤ N }
+    ensures { Wrote 64 page.old page.new }
 {
-    if times == 0 {
-        return at;
+    if times != 0 {
+        page.push_field(b"refused ", number as u64);
+        page.push_field(b" ", times);
+        page.end_line();
     }
-    let a = text_answer::put_field(out, at, b"refused ", number as u64);
-    let b = text_answer::put_field(out, a, b" ", times);
-    text_answer::put_end(out, b)
 }
 
-// A line for each number that came.
-fn put_refusals(out: &mut [u8], at: usize, times: &[u64]) -> usize
-    requires { (length times.now ≤ 32) × (at + 4096 ≤ length out.old) }
-    ensures { Wrote at 2048 result }
+// A line for each number from `first` on that came: times[n] is how often n did.
+fn put_refusals<const N: usize>(page: &mut Page<N>, times: &[u64], first: usize)
+    requires { (first ≤ length times.now) × (length page.old + 64 * length times.now + 96 ≤ N) }
+    ensures { Wrote (64 * length times.now) page.old page.new }
 {
-    let mut next = at;
-    let mut n = 0;
-    while n < times.len() {
-        next = put_refusal(out, next, n, times[n]);
-        n += 1;
+    for n in first..times.len() {
+        put_refusal(page, n, times[n]);
     }
-    next
+}
+
+// `unreadable TIMES`
+fn put_unreadable<const N: usize>(page: &mut Page<N>, times: u64)
+    requires { length page.old + 64 ≤ N }
+    ensures { Wrote 64 page.old page.new }
+{
+    page.push_field(b"unreadable ", times);
+    page.end_line();
 }
 
 // What ends a report: the refusals by number, times[n] for number n, and the lines that were unreadable.
-pub fn put_refused(out: &mut [u8], at: usize, times: &[u64], unreadable: u64) -> usize
-    requires { (length times.now ≤ 32) × (at + 4096 ≤ length out.old) }
-    ensures { Wrote at 2112 result }
+pub fn put_refused<const N: usize>(page: &mut Page<N>, times: &[u64], unreadable: u64)
+    requires { (length times.now ≤ 32) × (length page.old + 4096 ≤ N) }
+    ensures { Wrote 2112 page.old page.new }
 {
-    let a = put_refusals(out, at, times);
-    let b = text_answer::put_field(out, a, b"unreadable ", unreadable);
-    text_answer::put_end(out, b)
-}
-
-// The same of every number, from 1 on: counts[n] is how often n came.
-fn put_counts(out: &mut [u8], at: usize, counts: &[u64; 256]) -> usize
-    requires { at + 20480 ≤ length out.old }
-    ensures { Wrote at 16384 result }
-{
-    let mut next = at;
-    let mut n = 1;
-    while n < 256 {
-        next = put_refusal(out, next, n, counts[n]);
-        n += 1;
-    }
-    next
+    put_refusals(page, times, 0);
+    put_unreadable(page, unreadable);
 }
 
 // The whole report, from the stores' own numbers, the sums, and how many lines were refused, by number, or unreadable, which is counts[0].
-pub fn put_report(out: &mut [u8], books: &[u64], sums: &[u64], counts: &[u64; 256]) -> usize
-    requires { (stores_in books.now ≤ max_stores) × (max_numbers ≤ length books.now) × (59 ≤ length sums.now) × (32768 ≤ length out.old) }
-    ensures { result ≤ 32768 }
+pub fn put_report<const N: usize>(
+    page: &mut Page<N>,
+    books: &[u64],
+    sums: &[u64],
+    counts: &[u64; 256],
+)
+    requires { (stores_in books.now ≤ max_stores)
+        × (max_numbers ≤ length books.now)
+        × (59 ≤ length sums.now)
+        × (length page.old + 32768 ≤ N) }
+    ensures { Wrote 32768 page.old page.new }
 {
-    let a = put_stores(out, 0, books, sums);
-    let b = put_lookups(out, a, sums);
-    let c = put_counts(out, b, counts);
-    let d = text_answer::put_field(out, c, b"unreadable ", counts[0]);
-    text_answer::put_end(out, d)
+    put_stores(page, books, sums);
+    put_lookups(page, sums);
+    put_refusals(page, counts, 1);
+    put_unreadable(page, counts[0]);
 }

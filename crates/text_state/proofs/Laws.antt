@@ -1,60 +1,9 @@
--- How long a printed time is, and what a sound state has for each of the state's printers. Assumes nothing.
-use Prim.Native.Nat.{ℕ, zero, suc, ◌+◌, ◌/◌, ◌≤◌, ◌<◌}
-use mathlib.Core.Path.{◌≡◌}
-use mathlib.Core.Bool.{Bool, true, false, cond}
-use mathlib.Core.List.{List, ◌∷◌}
+-- What a sound state has for each of the state's printers. Assumes nothing.
+use Prim.Native.Nat.{ℕ, zero, suc, ◌≤◌, ◌<◌}
 use native.Mathlib.Omega.{arith}
-use lib.Dec.{ltb, eqb}
-use lib.Ieee.{Float}
-use lib.ListN.{length}
-use Rattle.text_print.specs.Print.{Put, places, numeral, pattern}
-use Rattle.text_print.proofs.Numeral.{length_digits}
-use Rattle.text_times.specs.declared.Size.{Size}
-use Rattle.text_times.specs.declared.Size.TheVariants.{Whole, Other}
-use Rattle.text_times.specs.Times.{hex_text, text_of, time_text}
 use Rattle.model.specs.State.{State, at, record_of, entry_of, stores_of, records_of, entries_of}
 use Rattle.model.specs.Sound.{Sound, EndsWithin, NodesFilled, RunsBelow, RecordsInside, PinsInside}
-use Rattle.text_answer.specs.Text.{Wrote}
 use Rattle.text_state.specs.Columns.{Nodes, Spot, Spots}
-
--- ---- a time
-
-places-few : (f n : ℕ) → places f n ≤ suc f
-unfolding places
-places-few zero n = omega arith
-places-few (suc f) n = go (ltb n 10) (places-few f (n / 10))
-  where
-    go : (b : Bool) → places f (n / 10) ≤ suc f → cond b 1 (suc (places f (n / 10))) ≤ suc (suc f)
-    go true h = omega arith
-    go false h = omega arith
-
-numeral-few : (n : ℕ) → length (numeral n) ≤ 20
-unfolding numeral
-numeral-few n = omega (arith, length_digits 10 (places 19 n) n, places-few 19 n)
-
-hex_few : (b : ℕ) → length (hex_text b) ≤ 21
-unfolding pattern
-hex_few b = omega (arith, length_digits 16 16 b)
-
-text-few : (neg : Bool) (w : Size) (b : ℕ) → length (text_of neg w b) ≤ 21
-unfolding text_of
-text-few neg Other b = hex_few b
-text-few false (Whole n) b = omega (arith, numeral-few n)
-text-few true (Whole n) b = go (eqb n 0)
-  where
-    go : (z : Bool) → length {A = ℕ} (cond z (hex_text b) (45 ∷ numeral n)) ≤ 21
-    go true = hex_few b
-    go false = omega (arith, numeral-few n)
-
-time-few : (x : Float) → length (time_text x) ≤ 21
-unfolding time_text
-time-few x = text-few _ _ _
-
--- ` t=` and the time
-pub time_wrote : (x : Float) {from next r : ℕ} {l o : List ℕ} → next ≡ from + 3 → Put next (time_text x) l o r → Wrote from 24 r
-time_wrote x e p = record { low = omega (arith, p.next); high = omega (arith, p.next, time-few x) }
-
--- ---- a sound state
 
 module _ (st : State) (h : Sound st) where
   -- a nonempty range inside a node: the node is not the root, so it has an end and a run

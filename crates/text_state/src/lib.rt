@@ -1,154 +1,106 @@
 #![tactic(auto)]
-// The whole state in the replay form, one line, written into a buffer that the caller lends. Each function answers the place past what it wrote.
+// The whole state in the replay form, one line, written on a page.
 ghost use Rattle.std.specs.Prelude.{◌+◌, ◌≤◌, ◌<◌, length};
 ghost use Rattle.model.specs.Sizes.{max_numbers};
 ghost use Rattle.model.specs.State.{stores_in};
 ghost use Rattle.model.specs.Sound.{Sound};
 ghost use Rattle.shape_answer.specs.Answers.{state_from};
-ghost use Rattle.text_answer.specs.Text.{Wrote};
+ghost use Rattle.text_page.specs.Page.{Wrote};
 ghost use Rattle.text_state.specs.Columns.{Run, Nodes, Spot, SpotAt, Spots};
 
 use model::Book;
-use text_answer::{put_end, put_field, put_span};
+use text_answer::{put_rules, put_span};
+use text_page::Page;
 
-// ` | n NODE p=PARENT d=DEPTH l=LEN h=FIRST..LAST`
-fn put_node(
-    out: &mut [u8],
-    at: usize,
-    node: usize,
-    parent: usize,
-    depth: usize,
-    len: usize,
-    first: u64,
-    last: u64,
-) -> usize
-    requires { at + 160 ≤ length out.old }
-    ensures { Wrote at 144 result }
-{
-    let a = put_field(out, at, b" | n ", node as u64);
-    let b = put_field(out, a, b" p=", parent as u64);
-    let c = put_field(out, b, b" d=", depth as u64);
-    let d = put_field(out, c, b" l=", len as u64);
-    let e = put_field(out, d, b" h=", first);
-    put_field(out, e, b"..", last)
-}
-
-// Node k, with the first and the last hash of its run.
-fn put_node_at(
-    out: &mut [u8],
-    at: usize,
+// ` | n NODE p=PARENT d=DEPTH l=LEN h=FIRST..LAST`, with the first and the last hash of node k's run.
+fn put_node<const N: usize>(
+    page: &mut Page<N>,
     parent: &[usize],
     depth: &[usize],
     len: &[usize],
     run: &[usize],
     words: &[u64],
     k: usize,
-) -> usize
-    requires { Run parent.now depth.now len.now run.now words.now k × (at + 160 ≤ length out.old) }
-    ensures { Wrote at 144 result }
+)
+    requires { Run parent.now depth.now len.now run.now words.now k × (length page.old + 160 ≤ N) }
+    ensures { Wrote 144 page.old page.new }
 {
     let from = run[k];
-    let n = len[k];
-    let last = from + n - 1;
-    put_node(out, at, k, parent[k], depth[k], n, words[from], words[last])
+    let last = from + len[k] - 1;
+    page.push_field(b" | n ", k as u64);
+    page.push_field(b" p=", parent[k] as u64);
+    page.push_field(b" d=", depth[k] as u64);
+    page.push_field(b" l=", len[k] as u64);
+    page.push_field(b" h=", words[from]);
+    page.push_field(b"..", words[last]);
 }
 
 // Each node from 1.
-fn put_nodes(
-    out: &mut [u8],
-    at: usize,
+fn put_nodes<const N: usize>(
+    page: &mut Page<N>,
     parent: &[usize],
     depth: &[usize],
     len: &[usize],
     run: &[usize],
     words: &[u64],
     nodes: usize,
-) -> usize
-    requires { Nodes parent.now depth.now len.now run.now words.now nodes × (at + 40000 ≤ length out.old) }
-    ensures { Wrote at 36864 result }
+)
+    requires { Nodes parent.now depth.now len.now run.now words.now nodes × (length page.old + 40000 ≤ N) }
+    ensures { Wrote 36864 page.old page.new }
 {
-    let mut next = at;
-    let mut k = 1;
-    while k < nodes {
-        next = put_node_at(out, next, parent, depth, len, run, words, k);
-        k += 1;
+    for k in 1..nodes {
+        put_node(page, parent, depth, len, run, words, k);
     }
-    next
-}
-
-// ` | s S cap=C pol=POLICY`
-fn put_policy(out: &mut [u8], at: usize, s: usize, capacity: u64, refreshes: bool) -> usize
-    requires { at + 128 ≤ length out.old }
-    ensures { Wrote at 64 result }
-{
-    let a = put_field(out, at, b" | s ", s as u64);
-    let b = put_field(out, a, b" cap=", capacity);
-    if refreshes {
-        return text_print::put_bytes(out, b, b" pol=refresh");
-    }
-    text_print::put_bytes(out, b, b" pol=fifo")
-}
-
-fn available(capacity: u64, pinned: u64) -> u64 {
-    if capacity < pinned {
-        return 0;
-    }
-    capacity - pinned
 }
 
 // ` held=H stamp=T ver=V`
-fn put_counts(out: &mut [u8], at: usize, held: u64, stamp: u64, version: u64) -> usize
-    requires { at + 96 ≤ length out.old }
-    ensures { Wrote at 78 result }
+fn put_counts<const N: usize>(page: &mut Page<N>, held: u64, stamp: u64, version: u64)
+    requires { length page.old + 96 ≤ N }
+    ensures { Wrote 78 page.old page.new }
 {
-    let a = put_field(out, at, b" held=", held);
-    let b = put_field(out, a, b" stamp=", stamp);
-    put_field(out, b, b" ver=", version)
+    page.push_field(b" held=", held);
+    page.push_field(b" stamp=", stamp);
+    page.push_field(b" ver=", version);
 }
 
 // ` pinned=P avail=A`
-fn put_pinned(out: &mut [u8], at: usize, capacity: u64, pinned: u64) -> usize
-    requires { at + 64 ≤ length out.old }
-    ensures { Wrote at 55 result }
+fn put_pinned<const N: usize>(page: &mut Page<N>, capacity: u64, pinned: u64)
+    requires { length page.old + 64 ≤ N }
+    ensures { Wrote 55 page.old page.new }
 {
-    let free = available(capacity, pinned);
-    let a = put_field(out, at, b" pinned=", pinned);
-    put_field(out, a, b" avail=", free)
+    page.push_field(b" pinned=", pinned);
+    page.push_field(b" avail=", capacity.saturating_sub(pinned));
 }
 
 // Store s's own numbers.
-fn put_store(out: &mut [u8], at: usize, s: usize, own: Book) -> usize
-    requires { (s < 8) × (at + 256 ≤ length out.old) }
-    ensures { Wrote at 200 result }
+fn put_store<const N: usize>(page: &mut Page<N>, s: usize, own: Book)
+    requires { (s < 8) × (length page.old + 256 ≤ N) }
+    ensures { Wrote 200 page.old page.new }
 {
-    let a = put_policy(out, at, s, own.capacity, own.policy == 1);
-    let b = put_counts(out, a, own.held, own.stamp, own.version);
-    put_pinned(out, b, own.capacity, own.pinned)
+    put_rules(page, b" | s ", s, own.capacity, own.policy == 1);
+    put_counts(page, own.held, own.stamp, own.version);
+    put_pinned(page, own.capacity, own.pinned);
 }
 
 // ` abs=FROM-UPTO last=HASH`
-fn put_position(
-    out: &mut [u8],
-    at: usize,
+fn put_position<const N: usize>(
+    page: &mut Page<N>,
     depth: usize,
     start: usize,
     end: usize,
     last: u64,
-) -> usize
-    requires { (depth + start ≤ 1024) × (depth + end ≤ 1024) × (at + 96 ≤ length out.old) }
-    ensures { Wrote at 72 result }
+)
+    requires { (depth + start ≤ 1024) × (depth + end ≤ 1024) × (length page.old + 96 ≤ N) }
+    ensures { Wrote 72 page.old page.new }
 {
-    let from = depth + start;
-    let upto = depth + end;
-    let a = put_field(out, at, b" abs=", from as u64);
-    let b = put_field(out, a, b"-", upto as u64);
-    put_field(out, b, b" last=", last)
+    page.push_field(b" abs=", (depth + start) as u64);
+    page.push_field(b"-", (depth + end) as u64);
+    page.push_field(b" last=", last);
 }
 
 // `S NODE:START-END abs=FROM-UPTO last=HASH`, after the letter of a record or a pin.
-fn put_place(
-    out: &mut [u8],
-    at: usize,
+fn put_place<const N: usize>(
+    page: &mut Page<N>,
     name: &[u8],
     depth: &[usize],
     run: &[usize],
@@ -157,40 +109,41 @@ fn put_place(
     node: usize,
     start: usize,
     end: usize,
-) -> usize
-    requires { (length name.now ≤ 5) × Spot depth.now run.now words.now node start end × (at + 224 ≤ length out.old) }
-    ensures { Wrote at 182 result }
+)
+    requires { (length name.now ≤ 5) × Spot depth.now run.now words.now node start end × (length page.old + 224 ≤ N) }
+    ensures { Wrote 182 page.old page.new }
 {
     let last = run[node] + end - 1;
-    let a = put_field(out, at, name, s as u64);
-    let b = put_span(out, a, b" ", node, start, end);
-    put_position(out, b, depth[node], start, end, words[last])
+    page.push_field(name, s as u64);
+    put_span(page, b" ", node, start, end);
+    put_position(page, depth[node], start, end, words[last]);
 }
 
 // ` t=TIME`
-fn put_time(out: &mut [u8], at: usize, touched: f64) -> usize
-    requires { at + 32 ≤ length out.old }
-    ensures { Wrote at 24 result }
+fn put_time<const N: usize>(page: &mut Page<N>, touched: f64)
+    requires { length page.old + 32 ≤ N }
+    ensures { Wrote 24 page.old page.new }
 {
-    let next = text_print::put_bytes(out, at, b" t=");
-    text_times::time_text(touched, out, next)
+    page.push_bytes(b" t=");
+    let mut text = [0; 21];
+    let n = text_times::time_text(touched, &mut text, 0);
+    page.push_bytes(&text[..n]);
 }
 
 // ` id=I st=STAMP t=TIME w=WRITE`
-fn put_record_end(out: &mut [u8], at: usize, id: u64, stamp: u64, touched: f64, write: u32) -> usize
-    requires { at + 128 ≤ length out.old }
-    ensures { Wrote at 96 result }
+fn put_record_end<const N: usize>(page: &mut Page<N>, id: u64, stamp: u64, touched: f64, write: u32)
+    requires { length page.old + 128 ≤ N }
+    ensures { Wrote 96 page.old page.new }
 {
-    let a = put_field(out, at, b" id=", id);
-    let b = put_field(out, a, b" st=", stamp);
-    let c = put_time(out, b, touched);
-    put_field(out, c, b" w=", write as u64)
+    page.push_field(b" id=", id);
+    page.push_field(b" st=", stamp);
+    put_time(page, touched);
+    page.push_field(b" w=", write as u64);
 }
 
 // The record at place i, of store s.
-fn put_record(
-    out: &mut [u8],
-    at: usize,
+fn put_record<const N: usize>(
+    page: &mut Page<N>,
     depth: &[usize],
     run: &[usize],
     words: &[u64],
@@ -203,25 +156,24 @@ fn put_record(
     write: &[u32],
     s: usize,
     i: usize,
-) -> usize
+)
     requires { SpotAt i depth.now run.now words.now node.now start.now end.now
         × (i < length id.now)
         × (i < length stamp.now)
         × (i < length touched.now)
         × (i < length write.now)
-        × (at + 320 ≤ length out.old) }
-    ensures { Wrote at 278 result }
+        × (length page.old + 320 ≤ N) }
+    ensures { Wrote 278 page.old page.new }
 {
-    let a = put_place(
-        out, at, b" | r ", depth, run, words, s, node[i], start[i], end[i],
+    put_place(
+        page, b" | r ", depth, run, words, s, node[i], start[i], end[i],
     );
-    put_record_end(out, a, id[i], stamp[i], touched[i], write[i])
+    put_record_end(page, id[i], stamp[i], touched[i], write[i]);
 }
 
 // The n records of store s.
-fn put_records(
-    out: &mut [u8],
-    at: usize,
+fn put_records<const N: usize>(
+    page: &mut Page<N>,
     depth: &[usize],
     run: &[usize],
     words: &[u64],
@@ -234,7 +186,7 @@ fn put_records(
     write: &[u32],
     s: usize,
     n: usize,
-) -> usize
+)
     requires { Spots 128 s n depth.now run.now words.now node.now start.now end.now
         × (s < 8)
         × (n ≤ 128)
@@ -242,15 +194,12 @@ fn put_records(
         × (1024 ≤ length stamp.now)
         × (1024 ≤ length touched.now)
         × (1024 ≤ length write.now)
-        × (at + 36864 ≤ length out.old) }
-    ensures { Wrote at 35584 result }
+        × (length page.old + 36864 ≤ N) }
+    ensures { Wrote 35584 page.old page.new }
 {
-    let mut next = at;
-    let mut k = 0;
-    while k < n {
-        next = put_record(
-            out,
-            next,
+    for k in 0..n {
+        put_record(
+            page,
             depth,
             run,
             words,
@@ -264,15 +213,12 @@ fn put_records(
             s,
             128 * s + k,
         );
-        k += 1;
     }
-    next
 }
 
 // The pin entry at place i, of store s.
-fn put_pin(
-    out: &mut [u8],
-    at: usize,
+fn put_pin<const N: usize>(
+    page: &mut Page<N>,
     depth: &[usize],
     run: &[usize],
     words: &[u64],
@@ -282,20 +228,19 @@ fn put_pin(
     count: &[u64],
     s: usize,
     i: usize,
-) -> usize
-    requires { SpotAt i depth.now run.now words.now node.now start.now end.now × (i < length count.now) × (at + 256 ≤ length out.old) }
-    ensures { Wrote at 208 result }
+)
+    requires { SpotAt i depth.now run.now words.now node.now start.now end.now × (i < length count.now) × (length page.old + 256 ≤ N) }
+    ensures { Wrote 208 page.old page.new }
 {
-    let a = put_place(
-        out, at, b" | p ", depth, run, words, s, node[i], start[i], end[i],
+    put_place(
+        page, b" | p ", depth, run, words, s, node[i], start[i], end[i],
     );
-    put_field(out, a, b" c=", count[i])
+    page.push_field(b" c=", count[i]);
 }
 
 // The n pin entries of store s.
-fn put_pins(
-    out: &mut [u8],
-    at: usize,
+fn put_pins<const N: usize>(
+    page: &mut Page<N>,
     depth: &[usize],
     run: &[usize],
     words: &[u64],
@@ -305,20 +250,17 @@ fn put_pins(
     count: &[u64],
     s: usize,
     n: usize,
-) -> usize
+)
     requires { Spots 32 s n depth.now run.now words.now node.now start.now end.now
         × (s < 8)
         × (n ≤ 32)
         × (256 ≤ length count.now)
-        × (at + 8192 ≤ length out.old) }
-    ensures { Wrote at 6656 result }
+        × (length page.old + 8192 ≤ N) }
+    ensures { Wrote 6656 page.old page.new }
 {
-    let mut next = at;
-    let mut k = 0;
-    while k < n {
-        next = put_pin(
-            out,
-            next,
+    for k in 0..n {
+        put_pin(
+            page,
             depth,
             run,
             words,
@@ -329,41 +271,33 @@ fn put_pins(
             s,
             32 * s + k,
         );
-        k += 1;
     }
-    next
 }
 
 // ` | m S NODE MARK`, where the mark is above 0.
-fn put_mark(out: &mut [u8], at: usize, s: usize, node: usize, mark: usize) -> usize
-    requires { at + 96 ≤ length out.old }
-    ensures { Wrote at 72 result }
+fn put_mark<const N: usize>(page: &mut Page<N>, s: usize, node: usize, mark: usize)
+    requires { length page.old + 96 ≤ N }
+    ensures { Wrote 72 page.old page.new }
 {
-    if mark == 0 {
-        return at;
+    if mark != 0 {
+        page.push_field(b" | m ", s as u64);
+        page.push_field(b" ", node as u64);
+        page.push_field(b" ", mark as u64);
     }
-    let a = put_field(out, at, b" | m ", s as u64);
-    let b = put_field(out, a, b" ", node as u64);
-    put_field(out, b, b" ", mark as u64)
 }
 
-fn put_marks(out: &mut [u8], at: usize, marks: &[usize], s: usize) -> usize
-    requires { (s < 8) × (2048 ≤ length marks.now) × (at + 18560 ≤ length out.old) }
-    ensures { Wrote at 18432 result }
+fn put_marks<const N: usize>(page: &mut Page<N>, marks: &[usize], s: usize)
+    requires { (s < 8) × (2048 ≤ length marks.now) × (length page.old + 18560 ≤ N) }
+    ensures { Wrote 18432 page.old page.new }
 {
-    let mut next = at;
-    let mut v = 0;
-    while v < 256 {
-        next = put_mark(out, next, s, v, marks[256 * s + v]);
-        v += 1;
+    for (node, mark) in marks[256 * s..256 * s + 256].iter().enumerate() {
+        put_mark(page, s, node, *mark);
     }
-    next
 }
 
 // Store s: its numbers, records, pins and marks.
-fn put_whole_store(
-    out: &mut [u8],
-    at: usize,
+fn put_whole_store<const N: usize>(
+    page: &mut Page<N>,
     parent: &[usize],
     depth: &[usize],
     len: &[usize],
@@ -384,19 +318,18 @@ fn put_whole_store(
     bytes: &[u64],
     books: &[u64],
     s: usize,
-) -> usize
+)
     requires { Sound
         (state_from parent.now depth.now len.now run.now words.now node.now start.now end.now id.now stamp.now touched.now write.now
         pin_node.now pin_start.now pin_end.now pin_count.now marks.now bytes.now books.now)
         × (s < stores_in books.now)
-        × (at + 61440 ≤ length out.old) }
-    ensures { Wrote at 60928 result }
+        × (length page.old + 61440 ≤ N) }
+    ensures { Wrote 60928 page.old page.new }
 {
     let own = pool_book::book_of(books, s);
-    let a = put_store(out, at, s, own);
-    let b = put_records(
-        out,
-        a,
+    put_store(page, s, own);
+    put_records(
+        page,
         depth,
         run,
         words,
@@ -410,9 +343,8 @@ fn put_whole_store(
         s,
         own.records,
     );
-    let c = put_pins(
-        out,
-        b,
+    put_pins(
+        page,
         depth,
         run,
         words,
@@ -423,25 +355,24 @@ fn put_whole_store(
         s,
         own.entries,
     );
-    put_marks(out, c, marks, s)
+    put_marks(page, marks, s);
 }
 
 // `state nodes=N words=W nextid=I stalls=X`
-fn put_head(out: &mut [u8], at: usize, books: &[u64]) -> usize
-    requires { (max_numbers ≤ length books.now) × (at + 160 ≤ length out.old) }
-    ensures { Wrote at 128 result }
+fn put_head<const N: usize>(page: &mut Page<N>, books: &[u64])
+    requires { (max_numbers ≤ length books.now) × (length page.old + 160 ≤ N) }
+    ensures { Wrote 128 page.old page.new }
 {
-    let t = text_print::put_bytes(out, at, b"state");
-    let a = put_field(out, t, b" nodes=", books[0]);
-    let b = put_field(out, a, b" words=", books[1]);
-    let c = put_field(out, b, b" nextid=", books[3]);
-    put_field(out, c, b" stalls=", books[4])
+    page.push_bytes(b"state");
+    page.push_field(b" nodes=", books[0]);
+    page.push_field(b" words=", books[1]);
+    page.push_field(b" nextid=", books[3]);
+    page.push_field(b" stalls=", books[4]);
 }
 
 // The whole state.
-pub fn put_state(
-    out: &mut [u8],
-    at: usize,
+pub fn put_state<const N: usize>(
+    page: &mut Page<N>,
     parent: &[usize],
     depth: &[usize],
     len: &[usize],
@@ -461,24 +392,22 @@ pub fn put_state(
     marks: &[usize],
     bytes: &[u64],
     books: &[u64],
-) -> usize
+)
     requires { Sound
         (state_from parent.now depth.now len.now run.now words.now node.now start.now end.now id.now stamp.now touched.now write.now
         pin_node.now pin_start.now pin_end.now pin_count.now marks.now bytes.now books.now)
-        × (at + 540672 ≤ length out.old) }
-    ensures { Wrote at 540672 result }
+        × (length page.old + 540672 ≤ N) }
+    ensures { Wrote 540672 page.old page.new }
 {
     let nodes = books[0] as usize;
     let stores = books[2] as usize;
-    let a = put_head(out, at, books);
-    let mut next = put_nodes(out, a, parent, depth, len, run, words, nodes);
-    let mut s = 0;
-    while s < stores {
-        next = put_whole_store(
-            out, next, parent, depth, len, run, words, node, start, end, id, stamp, touched, write,
+    put_head(page, books);
+    put_nodes(page, parent, depth, len, run, words, nodes);
+    for s in 0..stores {
+        put_whole_store(
+            page, parent, depth, len, run, words, node, start, end, id, stamp, touched, write,
             pin_node, pin_start, pin_end, pin_count, marks, bytes, books, s,
         );
-        s += 1;
     }
-    put_end(out, next)
+    page.end_line();
 }

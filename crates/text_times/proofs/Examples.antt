@@ -1,15 +1,14 @@
 -- Words and values whose times and texts are known: the definitions compute them. Assumes nothing.
 use Rattle.std.proofs.Common.{◌≡◌, ℕ, true, List, [], ◌∷◌, refl}
 use lib.Count.{count_trailing_zeros}
-use lib.Ieee.{binary64, nan, inf, round, size, units, span, climb, odd, of_bits, of_fields, to_bits}
+use lib.Ieee.{Float, binary64, nan, inf, round, size, units, span, climb, odd, of_bits, of_fields, to_bits}
 use Rattle.text_words.specs.Words.{digit_of, step, reading, value_in}
 use Rattle.text_print.specs.Print.{places, numeral, pattern}
-use Rattle.text_times.specs.declared.Time.{Time}
-use Rattle.text_times.specs.declared.Time.TheVariants.{Value, NotATime}
+use Rattle.std.specs.Prelude.{Option, Some, None}
 use Rattle.text_times.specs.Times.{of_digits, point_at, of_decimal, of_pattern, of_word, same, time_of, size_of, negative, text_of, time_text}
 
 -- `-2.75`, `0.1`, `-0`, `23.6`, `-inf`, `x7FF0000000000001`, `1.`, `0000000000000001`
-abbrev pub read : List Time
+abbrev pub read : List (Option Float)
 read =
     time_of (45 ∷ 50 ∷ 46 ∷ 55 ∷ 53 ∷ []) ∷
     time_of (48 ∷ 46 ∷ 49 ∷ []) ∷
@@ -21,7 +20,7 @@ read =
     time_of (48 ∷ 48 ∷ 48 ∷ 48 ∷ 48 ∷ 48 ∷ 48 ∷ 48 ∷ 48 ∷ 48 ∷ 48 ∷ 48 ∷ 48 ∷ 48 ∷ 48 ∷ 49 ∷ []) ∷
     []
 
-pub read_is : read ≡ Value (of_bits binary64 0xc006_0000_0000_0000) ∷ Value (of_bits binary64 0x3fb9_9999_9999_999a) ∷ Value (of_bits binary64 0x8000_0000_0000_0000) ∷ Value (of_bits binary64 0x4037_9999_9999_999a) ∷ Value (inf true) ∷ Value nan ∷ NotATime ∷ NotATime ∷ []
+pub read_is : read ≡ Some (of_bits binary64 0xc006_0000_0000_0000) ∷ Some (of_bits binary64 0x3fb9_9999_9999_999a) ∷ Some (of_bits binary64 0x8000_0000_0000_0000) ∷ Some (of_bits binary64 0x4037_9999_9999_999a) ∷ Some (inf true) ∷ Some nan ∷ None ∷ None ∷ []
 unfolding time_of of_word of_pattern of_decimal point_at of_digits same value_in reading step digit_of round size units span climb odd count_trailing_zeros of_bits of_fields
 read_is = refl
 

@@ -1,14 +1,16 @@
 -- Laws of a float's size and sign: a value below 2 ^ 53 is whole exactly where it equals its own whole part, and the sign is the pattern's
 -- highest bit. Assumes nothing.
-use Rattle.std.proofs.Common.{◌≡◌, ℕ, zero, suc, ◌+◌, ◌*◌, ◌/◌, ◌%◌, ◌^◌, ◌<◌, ◌≤◌, Bool, true, false, cond, not, ◌&&◌, ◌||◌, T, eqb, ltb, leb, ℤ, pos, sym, refl, ap, ◌∙◌, subst, div-lt_iff_lt-mul, one-mul, div-add-mod', le-div_iff_mul-le, zero-mul, mul-one, mul_right_comm, arith, ltb→lt, lt→ltb, nltb→le, le-ltb, lt-ltb, eq-eqb, ne_eqb, eqb-true}
+use Rattle.std.proofs.Common.{◌≡◌, ℕ, ◌+◌, ◌*◌, ◌/◌, ◌%◌, ◌^◌, ◌<◌, ◌≤◌, Bool, true, false, not, ◌&&◌, ◌||◌, T, eqb, ltb, ℤ, pos, sym, refl, ap, ◌∙◌, subst, div-lt_iff_lt-mul, one-mul, div-add-mod', le-div_iff_mul-le, zero-mul, mul-one, mul_right_comm, arith, ltb→lt, lt→ltb, nltb→le, le-ltb, lt-ltb, eq-eqb, ne_eqb, eqb-true}
 use mathlib.Core.Bool.{beq}
 use native.Mathlib.Nat.{mul-mod_left, div-eq_of_lt, min-eq_left, eq_of_mul-eq-mul_right}
-use lib.Ieee.{Float, nan, inf, fin, Format, binary64, up, down, lt, eq, neg, of_int, to_unsigned, to_bits, of_bits, of_fields, odd, fits, is_nan, prec, low, hid, ones, top}
+use lib.Ieee.{Float, nan, inf, fin, binary64, up, down, lt, eq, of_int, to_unsigned}
 use lib.Ieee.Exact.{HasValue}
 use lib.Ieee.Fits.{down_pos}
-use lib.Ieee.Bits.{of_bits-to_bits}
-use Rattle.text_times.specs.declared.Size.TheVariants.{Whole, Other}
-use Rattle.text_times.specs.Times.{choose, size_of, negative}
+use Rattle.std.specs.Prelude.{Option, Some, None}
+use Rattle.std.specs.Bool.{then_some}
+use Rattle.model.specs.Words.{pick}
+use Rattle.std.specs.Float.{float_with_sign, is_sign_negative}
+use Rattle.text_times.specs.Times.{size_of, negative}
 use Rattle.text_times.proofs.Values.{whole-value}
 
 both : (p q : Bool) → p && q ≡ true → p ≡ true
@@ -78,11 +80,11 @@ module _ (q : ℕ) (s : Bool) (m : ℕ) (e : ℤ) where
           rw (i, eq-eqb (k * up d * down e) 0 y)
 
 module _ (s : Bool) (m : ℕ) (e : ℤ) (p : Part s m e) where
-  whole_is : m * up e % down e ≡ 0 → size_of (fin s m e) ≡ Whole (m * up e / down e)
+  whole_is : m * up e % down e ≡ 0 → size_of (fin s m e) ≡ Some (m * up e / down e)
   unfolding size_of
   whole_is h = rw (eq-eqb (m * up e % down e) 0 h, lt-ltb (m * up e / down e) (2 ^ 53) p.small)
 
-  whole_not : (m * up e % down e ≡ 0 → ⊥) → size_of (fin s m e) ≡ Other
+  whole_not : (m * up e % down e ≡ 0 → ⊥) → size_of (fin s m e) ≡ None
   unfolding size_of
   whole_not h = rw (ne_eqb (m * up e % down e) 0 h)
 
@@ -96,7 +98,7 @@ module _ (s : Bool) (m : ℕ) (e : ℤ) (p : Part s m e) where
   no_part h = div-eq_of_lt (p.zero h)
 
 module _ (n : ℕ) where
-  pub size-whole : (y z : Float) → T (lt (fin true 1 (pos 0)) y) → T (lt y (fin false 1 (pos 53))) → n ≡ to_unsigned 64 y → z ≡ of_int binary64 (pos n) → eq z y ≡ true → Whole n ≡ size_of y
+  size-whole : (y z : Float) → T (lt (fin true 1 (pos 0)) y) → T (lt y (fin false 1 (pos 53))) → n ≡ to_unsigned 64 y → z ≡ of_int binary64 (pos n) → eq z y ≡ true → Some n ≡ size_of y
   unfolding lt
   size-whole nan z a b h o t = absurd a
   size-whole (inf true) z a b h o t = absurd a
@@ -106,9 +108,9 @@ module _ (n : ℕ) where
       let q : n ≡ m * up e / down e = h ∙ p.cut in
       let v : HasValue z false n 1 = rw o (whole-value n (omega (arith, p.small))) in
       let w : m * up e % down e ≡ 0 = of_product s m e p n (value_eq n s m e z v t) in
-      ap Whole q ∙ sym (whole_is s m e p w)
+      ap Some q ∙ sym (whole_is s m e p w)
 
-  pub size_not : (y z : Float) → T (lt (fin true 1 (pos 0)) y) → T (lt y (fin false 1 (pos 53))) → n ≡ to_unsigned 64 y → z ≡ of_int binary64 (pos n) → eq z y ≡ false → Other ≡ size_of y
+  size_not : (y z : Float) → T (lt (fin true 1 (pos 0)) y) → T (lt y (fin false 1 (pos 53))) → n ≡ to_unsigned 64 y → z ≡ of_int binary64 (pos n) → eq z y ≡ false → None ≡ size_of y
   unfolding lt
   size_not nan z a b h o t = absurd a
   size_not (inf true) z a b h o t = absurd a
@@ -123,7 +125,7 @@ module _ (n : ℕ) where
       value_ne n s m e z v (ap (λ (x : ℕ). x * down e) q ∙ to_product s m e p w) (λ i. q ∙ no_part s m e p i) in
       subst T (sym g ∙ t) tt))
 
-pub size-large : (y : Float) → lt y (fin false 1 (pos 53)) ≡ false → Other ≡ size_of y
+size-large : (y : Float) → lt y (fin false 1 (pos 53)) ≡ false → None ≡ size_of y
 unfolding lt size_of
 size-large nan h = refl
 size-large (inf s) h = refl
@@ -135,7 +137,7 @@ size-large (fin false m e) h =
     let k : 2 ^ 53 ≤ m * up e / down e = (le-div_iff_mul-le (down_pos e)).1 g in
     rw (le-ltb (m * up e / down e) (2 ^ 53) k) (other (eqb (m * up e % down e) 0) (m * up e / down e))
   where
-    other : (b : Bool) (n : ℕ) → Other ≡ choose (b && false) (Whole n) Other
+    other : (b : Bool) (n : ℕ) → None ≡ pick (b && false) (Some n) None
     other true n = refl
     other false n = refl
 
@@ -143,46 +145,36 @@ size-large (fin false m e) h =
 above : (m u d : ℕ) → 0 < d → T (ltb 0 (1 * d + m * u * 1))
 above m u d D = lt→ltb 0 (1 * d + m * u * 1) (omega (arith, one-mul d))
 
-pub neg_above : (x : Float) → T (not (is_nan x)) → true ≡ negative x → T (lt (fin true 1 (pos 0)) (neg x))
-unfolding is_nan negative neg lt
-neg_above nan n h = absurd n
-neg_above (inf true) n h = tt
-neg_above (inf false) n h = absurd (subst T h tt)
-neg_above (fin true m e) n h = above m (up e) (down e) (down_pos e)
-neg_above (fin false m e) n h = absurd (subst T h tt)
+-- a value without its sign
+own-above : (x : Float) → T (lt (float_with_sign false x) (fin false 1 (pos 53))) → T (lt (fin true 1 (pos 0)) (float_with_sign false x))
+unfolding lt float_with_sign
+own-above nan t = absurd t
+own-above (inf s) t = absurd t
+own-above (fin s m e) t = above m (up e) (down e) (down_pos e)
 
-pub own-above : (x : Float) → T (not (is_nan x)) → false ≡ negative x → T (lt (fin true 1 (pos 0)) x)
-unfolding is_nan negative lt
-own-above nan n h = absurd n
-own-above (inf true) n h = absurd (subst T (sym h) tt)
-own-above (inf false) n h = tt
-own-above (fin true m e) n h = absurd (subst T (sym h) tt)
-own-above (fin false m e) n h = above m (up e) (down e) (down_pos e)
+own_size : (x : Float) → size_of (float_with_sign false x) ≡ size_of x
+unfolding size_of float_with_sign
+own_size nan = refl
+own_size (inf s) = refl
+own_size (fin s m e) = refl
 
-pub neg_size : (x : Float) → size_of (neg x) ≡ size_of x
-unfolding neg size_of
-neg_size nan = refl
-neg_size (inf s) = refl
-neg_size (fin s m e) = refl
+pub same_sign : (x : Float) → is_sign_negative x ≡ negative x
+unfolding is_sign_negative negative
+same_sign nan = refl
+same_sign (inf s) = refl
+same_sign (fin s m e) = refl
 
-odd_sign : (d : ℕ) (s : Bool) (q k l : ℕ) → negative (odd d s q k l) ≡ s
-unfolding odd negative
-odd_sign d s zero k l = refl
-odd_sign d s (suc q) k l = refl
+-- what a size is, of the value without its sign
+module _ (x y : Float) (e : y ≡ float_with_sign false x) where
+  pub size-above : T (lt y (fin false 1 (pos 53))) → T (lt (fin true 1 (pos 0)) y)
+  size-above t = subst (λ (v : Float). T (lt (fin true 1 (pos 0)) v)) (sym e) (own-above x (subst (λ (v : Float). T (lt v (fin false 1 (pos 53)))) e t))
 
-fields_sign : (f : Format) (s : Bool) (x t : ℕ) → T (not (is_nan (of_fields f s x t))) → negative (of_fields f s x t) ≡ s
-unfolding of_fields is_nan negative
-fields_sign f s zero t n = odd_sign (prec f) s t 0 (low f)
-fields_sign f s (suc x) t n = go (eqb (suc x) (ones f)) (eqb t 0) n
-  where
-    go : (a b : Bool) → T (not (is_nan (cond a (cond b (inf s) nan) (odd (prec f) s (hid f + t) x (low f))))) → negative (cond a (cond b (inf s) nan) (odd (prec f) s (hid f + t) x (low f))) ≡ s
-    go true true n = refl
-    go true false n = absurd n
-    go false b n = odd_sign (prec f) s (hid f + t) x (low f)
+  pub size_then : (n : ℕ) (z : Float) (o : Option ℕ) → T (lt y (fin false 1 (pos 53))) → n ≡ to_unsigned 64 y → z ≡ of_int binary64 (pos n) → o ≡ then_some (eq z y) n → o ≡ size_of x
+  size_then n z o t h i k = k ∙ go (eq z y) refl ∙ ap size_of e ∙ own_size x
+    where
+      go : (b : Bool) → eq z y ≡ b → then_some b n ≡ size_of y
+      go true q = size-whole n y z (size-above t) t h i q
+      go false q = size_not n y z (size-above t) t h i q
 
-pub sign_bit : (x : Float) → T (fits binary64 x) → T (not (is_nan x)) → leb 9223372036854775808 (to_bits binary64 x) ≡ negative x
-unfolding of_bits
-sign_bit x g n =
-    let b = to_bits binary64 x in
-    let e : of_fields binary64 (leb (top binary64) b) (b % top binary64 / hid binary64) (b % hid binary64) ≡ x = of_bits-to_bits binary64 x g in
-    sym (fields_sign binary64 (leb (top binary64) b) (b % top binary64 / hid binary64) (b % hid binary64) (rw e n)) ∙ ap negative e
+  pub size-none : lt y (fin false 1 (pos 53)) ≡ false → None ≡ size_of x
+  size-none h = size-large y h ∙ ap size_of e ∙ own_size x

@@ -1,5 +1,5 @@
 -- Laws of floats: the quotient of two exact whole numbers rounds once, and which patterns are a NaN's. Assumes nothing.
-use Rattle.std.proofs.Common.{◌≡◌, ℕ, suc, ◌+◌, ◌*◌, ◌%◌, ◌^◌, ◌<◌, ◌≤◌, Bool, true, false, cond, not, T, eqb, pos, sym, refl, ap, ◌∙◌, subst, mul_assoc, mul_comm, mul-pos, pow-suc, mul-one, add-one, arith, le→leb, le-ltb, lt-ltb, ne_eqb}
+use Rattle.std.proofs.Common.{◌≡◌, ℕ, ◌*◌, ◌%◌, ◌^◌, ◌<◌, ◌≤◌, Bool, true, false, cond, not, T, eqb, pos, sym, refl, ap, ◌∙◌, subst, mul_assoc, mul_comm, mul-pos, mul-one, arith, le→leb, le-ltb, lt-ltb, ne_eqb}
 use native.Mathlib.Nat.{pow-le-pow_right, one-le-pow}
 use lib.Ieee.{Float, nan, inf, fin, Format, binary64, up, down, unlike, round, neg, div, of_int, in_float, of_bits, is_nan, nan_bits, odd, of_fields}
 use lib.Ieee.Exact.{HasValue}
@@ -9,21 +9,6 @@ use lib.Ieee.Fits.{down_pos}
 use lib.Ieee.Bits.{nan_bits_is, nan_bits_above}
 
 -- ---- powers of ten
-module _ (i p : ℕ) where
-  pub ten_room : (k : ℕ) → p ≡ 10 ^ i → i < k → k ≤ 15 → p * 10 ≤ 10 ^ 15
-  ten_room k e l h =
-      let g : suc i ≤ 15 = omega arith in
-      let q : 10 ^ suc i ≤ 10 ^ 15 = pow-le-pow_right (omega arith) g in
-      rw e (rw (pow-suc 10 i) at q)
-
-  pub ten_more : p ≡ 10 ^ i → p * 10 ≡ 10 ^ (i + 1)
-  ten_more e = rw (add-one, pow-suc, e)
-
-  pub ten_all : (k : ℕ) → p ≡ 10 ^ i → i ≤ k → k ≤ i → p ≡ 10 ^ k
-  ten_all k e l h =
-      let q : i ≡ k = omega arith in
-      e ∙ ap (λ (n : ℕ). 10 ^ n) q
-
 pub ten_small : (k : ℕ) → k ≤ 15 → (10 ^ k ≤ 2 ^ 53) × (0 < 10 ^ k)
 ten_small k h =
     let q : 10 ^ k ≤ 10 ^ 15 = pow-le-pow_right (omega arith) h in
@@ -87,33 +72,30 @@ pub whole_float : (n : ℕ) → n ≤ 2 ^ 53 → T (in_float binary64 (pos n))
 unfolding in_float
 whole_float n h = le→leb n (2 ^ 53) h
 
-module _ (s : Bool) (m k p : ℕ) (M : m < 10 ^ 15) (K : k ≤ 15) (e : p ≡ 10 ^ k) where
-  pub power_small : (p ≤ 2 ^ 53) × (0 < p)
-  power_small = rw e (ten_small k K)
+module _ (s : Bool) (m k : ℕ) (M : m < 10 ^ 15) (K : k ≤ 15) where
+  pub ratio_neg : s ≡ true → div binary64 (neg (of_int binary64 (pos m))) (of_int binary64 (pos (10 ^ k))) ≡ round binary64 s m (10 ^ k)
+  ratio_neg i = ratio-below m (10 ^ k) (omega arith) (ten_small k K).0 (ten_small k K).1 ∙ rw i
 
-  pub ratio_neg : s ≡ true → div binary64 (neg (of_int binary64 (pos m))) (of_int binary64 (pos p)) ≡ round binary64 s m (10 ^ k)
-  ratio_neg i = ratio-below m p (omega arith) power_small.0 power_small.1 ∙ rw (e, i)
-
-  pub ratio_pos : s ≡ false → div binary64 (of_int binary64 (pos m)) (of_int binary64 (pos p)) ≡ round binary64 s m (10 ^ k)
-  ratio_pos i = ratio-above m p (omega arith) power_small.0 power_small.1 ∙ rw (e, i)
+  pub ratio_pos : s ≡ false → div binary64 (of_int binary64 (pos m)) (of_int binary64 (pos (10 ^ k))) ≡ round binary64 s m (10 ^ k)
+  ratio_pos i = ratio-above m (10 ^ k) (omega arith) (ten_small k K).0 (ten_small k K).1 ∙ rw i
 
 -- ---- patterns
-nan_only : (x : Float) → is_nan x ≡ true → x ≡ nan
+pub nan_only : (x : Float) → is_nan x ≡ true → x ≡ nan
 unfolding is_nan
 nan_only nan e = refl
 nan_only (inf s) e = absurd (subst T (sym e) tt)
 nan_only (fin s m e') e = absurd (subst T (sym e) tt)
 
-pub nan_made : div binary64 (of_bits binary64 0) (of_bits binary64 0) ≡ nan
-unfolding div of_bits of_fields odd
+pub nan_made : of_bits binary64 9221120237041090560 ≡ nan
+unfolding of_bits of_fields odd
 nan_made = refl
 
-pub inf_made : div binary64 (of_bits binary64 4607182418800017408) (of_bits binary64 0) ≡ inf false
-unfolding div of_bits of_fields odd
+pub inf_made : of_bits binary64 9218868437227405312 ≡ inf false
+unfolding of_bits of_fields odd
 inf_made = refl
 
-pub minus_inf_made : div binary64 (neg (of_bits binary64 4607182418800017408)) (of_bits binary64 0) ≡ inf true
-unfolding div neg of_bits of_fields odd
+pub minus_inf_made : of_bits binary64 18442240474082181120 ≡ inf true
+unfolding of_bits of_fields odd
 minus_inf_made = refl
 
 module _ (b : ℕ) where

@@ -1,9 +1,8 @@
 -- Words and numbers in a line of bytes. Assumes nothing.
-use Rattle.std.specs.Prelude.{◌≡◌, Bool, true, false, not, ◌&&◌, cond, List, [], ◌∷◌, ℕ, ◌+◌, ◌-◌, ◌*◌, ◌^◌, ◌≤◌, ◌<◌, leb, ltb, eqb, length, get_or}
-use Rattle.std.proofs.Math.Option.{Option, none, some}
+use Rattle.std.specs.Prelude.{◌≡◌, Result, Ok, Err, Bool, true, false, not, ◌&&◌, cond, List, [], ◌∷◌, ℕ, ◌+◌, ◌-◌, ◌*◌, ◌^◌, ◌≤◌, ◌<◌, leb, ltb, eqb, length, get_or, Option, Some, None}
 use Rattle.model.specs.Words.{Each, pick}
-use Rattle.text_words.specs.declared.Number.{Number}
-use Rattle.text_words.specs.declared.Number.TheVariants.{Value, TooLarge, NotANumber}
+use Rattle.text_words.specs.declared.NumberError.{NumberError}
+use Rattle.text_words.specs.declared.NumberError.TheVariants.{TooLarge, NotANumber}
 
 -- ---- places
 
@@ -42,13 +41,13 @@ unfoldable pub digit_of : ℕ → ℕ
 digit_of b = cond (within 48 b 57) (b - 48) (cond (within 65 b 70) (b - 55) (cond (within 97 b 102) (b - 87) 16))
 
 abbrev keep : Bool → ℕ → Option ℕ
-keep true v = some v
-keep false v = none
+keep true v = Some v
+keep false v = None
 
 -- a value with one digit more; none from a byte on that is no digit of the base
 unfoldable pub step : ℕ → Option ℕ → ℕ → Option ℕ
-step base none b = none
-step base (some v) b = keep (ltb (digit_of b) base) (base * v + digit_of b)
+step base None b = None
+step base (Some v) b = keep (ltb (digit_of b) base) (base * v + digit_of b)
 
 -- a value with the digits bs after it
 unfoldable pub reading : ℕ → Option ℕ → List ℕ → Option ℕ
@@ -57,13 +56,13 @@ reading base o (b ∷ bs) = reading base (step base o b) bs
 
 -- the value of one or more digits in a base; none where a byte is no digit, or there is none
 unfoldable pub value_in : ℕ → List ℕ → Option ℕ
-value_in base [] = none
-value_in base (b ∷ bs) = reading base (some 0) (b ∷ bs)
+value_in base [] = None
+value_in base (b ∷ bs) = reading base (Some 0) (b ∷ bs)
 
 abbrev pub decimal : List ℕ → Option ℕ
 decimal w = value_in 10 w
 
 -- a value as a u64
-unfoldable pub number_of : Option ℕ → Number
-number_of none = NotANumber
-number_of (some v) = pick (ltb v (2 ^ 64)) (Value v) TooLarge
+unfoldable pub number_of : Option ℕ → Result ℕ NumberError
+number_of None = Err NotANumber
+number_of (Some v) = pick (ltb v (2 ^ 64)) (Ok v) (Err TooLarge)

@@ -5,7 +5,7 @@ use mathlib.Core.Bool.{Bool, true, false, ◌||◌, true≢false}
 use mathlib.Core.Path.{◌≡◌, refl, sym, ap, subst, ◌∙◌}
 use mathlib.Core.Logic.{inl}
 use mathlib.Core.List.{List, [], ◌∷◌}
-use mathlib.Core.Option.{Option, none, some}
+use Rattle.std.specs.Prelude.{Option, None, Some}
 use native.Mathlib.Omega.{arith}
 use native.Mathlib.Nat.{le_refl, le_trans}
 use native.Mathlib.Decide.{ℕ_discrete}
@@ -188,27 +188,27 @@ evicted_few (turn i k o h) = suc-le-suc (evicted_few h)
 
 -- c is a place of rs, of a range that may go; or there is none
 abbrev pub Right : (Range → Bool) → List Range → Option ℕ → Type 0
-Right may rs none = (j : ℕ) → j < length rs → may (nth rs j) ≡ false
-Right may rs (some i) = (i < length rs) × (may (nth rs i) ≡ true)
+Right may rs None = (j : ℕ) → j < length rs → may (nth rs j) ≡ false
+Right may rs (Some i) = (i < length rs) × (may (nth rs i) ≡ true)
 
 better-right : (may : Range → Bool) (r : Range) (rs : List Range) (b : Bool) (c : Option ℕ) → may r ≡ b → Right may rs c → Right may (r ∷ rs) (better b r rs c)
-better-right may r rs true none e h = (omega arith, e)
-better-right may r rs true (some i) e h = go (sooner (nth rs i) r)
+better-right may r rs true None e h = (omega arith, e)
+better-right may r rs true (Some i) e h = go (sooner (nth rs i) r)
   where
-    go : (b : Bool) → Right may (r ∷ rs) (elim b [ true ↦ some (suc i) | false ↦ some 0 ])
+    go : (b : Bool) → Right may (r ∷ rs) (elim b [ true ↦ Some (suc i) | false ↦ Some 0 ])
     go true = (omega (arith, h.0), h.1)
     go false = (omega arith, e)
-better-right may r rs false none e h = go
+better-right may r rs false None e h = go
   where
     go : (j : ℕ) → j < suc (length rs) → may (nth (r ∷ rs) j) ≡ false
     go zero l = e
     go (suc j) l = h j (omega arith)
-better-right may r rs false (some i) e h = (omega (arith, h.0), h.1)
+better-right may r rs false (Some i) e h = (omega (arith, h.0), h.1)
 
 pub first-right : (may : Range → Bool) (rs : List Range) → Right may rs (first may rs)
 unfolding first
 first-right may [] = λ j l. absurd (omega arith)
 first-right may (r ∷ rs) = better-right may r rs (may r) (first may rs) refl (first-right may rs)
 
-pub first_some : (may : Range → Bool) (rs : List Range) (i : ℕ) → first may rs ≡ some i → (i < length rs) × (may (nth rs i) ≡ true)
+pub first_some : (may : Range → Bool) (rs : List Range) (i : ℕ) → first may rs ≡ Some i → (i < length rs) × (may (nth rs i) ≡ true)
 first_some may rs i e = subst (Right may rs) e (first-right may rs)

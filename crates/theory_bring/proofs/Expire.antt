@@ -3,7 +3,8 @@ use Prim.Native.Nat.{ℕ, zero, suc, ◌≤◌, ◌<◌}
 use mathlib.Core.Bool.{Bool, true, false}
 use mathlib.Core.Path.{◌≡◌, refl}
 use mathlib.Core.List.{List, [], ◌∷◌}
-use mathlib.Core.Option.{Option, none, some, none-ne-some}
+use Rattle.std.specs.Prelude.{Option, None, Some}
+use Rattle.std.proofs.lemmas.Option.{none-some}
 use native.Mathlib.Omega.{arith}
 use native.Mathlib.Nat.{le_refl}
 use lib.ListN.{length}
@@ -23,8 +24,8 @@ module _ (t : Tree) (table : List ℕ) (now seconds : Float) where
   pub expire_by_evicted : (n : ℕ) (c : Option ℕ) (rs : List Range) (ms : List ℕ) → Evicted n rs ms (expire_by t table now seconds n c rs ms)
   unfolding expire_by
   expire_by_evicted zero c rs ms = stop
-  expire_by_evicted (suc n) none rs ms = stop
-  expire_by_evicted (suc n) (some i) rs ms =
+  expire_by_evicted (suc n) None rs ms = stop
+  expire_by_evicted (suc n) (Some i) rs ms =
       let r = nth rs i in
       let rest = evict rs i (length_of r) in
       turn {rs = rs} i (length_of r) (told t table ms r r.start r.end)
@@ -32,21 +33,21 @@ module _ (t : Tree) (table : List ℕ) (now seconds : Float) where
 
   -- ---- where it ends
 
-  if_aged-some : (rs : List Range) (c : Option ℕ) (i : ℕ) → if_aged now seconds rs c ≡ some i → c ≡ some i
-  if_aged-some rs none i q = q
-  if_aged-some rs (some j) i q = go (aged now seconds (nth rs j)) q
+  if_aged-some : (rs : List Range) (c : Option ℕ) (i : ℕ) → if_aged now seconds rs c ≡ Some i → c ≡ Some i
+  if_aged-some rs None i q = q
+  if_aged-some rs (Some j) i q = go (aged now seconds (nth rs j)) q
     where
-      go : (b : Bool) → elim b [ true ↦ some j | false ↦ none ] ≡ some i → some j ≡ some i
+      go : (b : Bool) → elim b [ true ↦ Some j | false ↦ None ] ≡ Some i → Some j ≡ Some i
       go true e = e
-      go false e = absurd (none-ne-some i e)
+      go false e = absurd (none-some i e)
 
-  oldest-some : (rs : List Range) (i : ℕ) → oldest now seconds rs ≡ some i → i < length rs
+  oldest-some : (rs : List Range) (i : ℕ) → oldest now seconds rs ≡ Some i → i < length rs
   unfolding oldest
   oldest-some rs i q = (first_some (λ r. true) rs i (if_aged-some rs (first (λ r. true) rs) i q)).0
 
   -- each turn takes a range away, so the turns are enough: the oldest range left, if there is one, hasn't aged
   pub expire_by-ends : (n : ℕ) (rs : List Range) (ms : List ℕ) → length rs ≤ n
-      → oldest now seconds (expire_by t table now seconds n (oldest now seconds rs) rs ms).ranges ≡ none
+      → oldest now seconds (expire_by t table now seconds n (oldest now seconds rs) rs ms).ranges ≡ None
   unfolding expire_by oldest first
   expire_by-ends zero [] ms l = refl
   expire_by-ends zero (r ∷ rs) ms l = absurd (omega arith)
@@ -54,10 +55,10 @@ module _ (t : Tree) (table : List ℕ) (now seconds : Float) where
     where
       go : (c : Option ℕ) → oldest now seconds rs ≡ c
           → ((qs : List Range) (vs : List ℕ) → length qs ≤ n
-          → oldest now seconds (expire_by t table now seconds n (oldest now seconds qs) qs vs).ranges ≡ none)
-          → oldest now seconds (expire_by t table now seconds (suc n) c rs ms).ranges ≡ none
-      go none q ih = q
-      go (some i) q ih =
+          → oldest now seconds (expire_by t table now seconds n (oldest now seconds qs) qs vs).ranges ≡ None)
+          → oldest now seconds (expire_by t table now seconds (suc n) c rs ms).ranges ≡ None
+      go None q ih = q
+      go (Some i) q ih =
           let k = length_of (nth rs i) in
           ih (evict rs i k) _ (omega (arith, evict-whole rs i k (oldest-some rs i q) (le_refl k)))
 
@@ -104,6 +105,6 @@ module _ (t : Tree) (table : List ℕ) (x : Store) (now seconds : Float) where
   unfolding expire
   expire-steady = record { book = refl; pins = refl }
 
-  pub expire-ends : oldest now seconds (expire t table x now seconds).store.ranges ≡ none
+  pub expire-ends : oldest now seconds (expire t table x now seconds).store.ranges ≡ None
   unfolding expire
   expire-ends = expire_by-ends t table now seconds (length x.ranges) x.ranges x.marks (le_refl (length x.ranges))

@@ -4,7 +4,8 @@ use Prim.Native.Nat.{ℕ, zero, suc, ◌+◌, ◌-◌, ◌≤◌, ◌<◌}
 use mathlib.Core.Bool.{Bool, true, false, not}
 use mathlib.Core.Path.{◌≡◌, refl, sym, ap, subst, ◌∙◌}
 use mathlib.Core.List.{List, [], ◌∷◌}
-use mathlib.Core.Option.{Option, none, some, none-ne-some}
+use Rattle.std.specs.Prelude.{Option, None, Some}
+use Rattle.std.proofs.lemmas.Option.{none-some}
 use native.Mathlib.Omega.{arith}
 use native.Mathlib.Nat.{le_refl, sub-zero}
 use lib.ListN.{length}
@@ -23,8 +24,8 @@ module _ (asks : ℕ → ℕ) (t : Tree) (table : List ℕ) (ps : List Pin) wher
   pub trim_by_evicted : (n e : ℕ) (c : Option ℕ) (rs : List Range) (ms : List ℕ) → Evicted n rs ms (trim_by asks t table ps n e c rs ms)
   unfolding trim_by
   trim_by_evicted zero e c rs ms = stop
-  trim_by_evicted (suc n) e none rs ms = stop
-  trim_by_evicted (suc n) e (some i) rs ms =
+  trim_by_evicted (suc n) e None rs ms = stop
+  trim_by_evicted (suc n) e (Some i) rs ms =
       let r = nth rs i in
       let k = amount asks e r in
       let rest = evict rs i k in
@@ -36,8 +37,8 @@ module _ (asks : ℕ → ℕ) (t : Tree) (table : List ℕ) (ps : List Pin) wher
       → (trim_by asks t table ps n e c rs ms).stalled ≡ ltb 0 (e - out_blocks (trim_by asks t table ps n e c rs ms).outs)
   unfolding trim_by out_blocks
   trim_by-stalled zero e c rs ms = rw sub-zero
-  trim_by-stalled (suc n) e none rs ms = rw sub-zero
-  trim_by-stalled (suc n) e (some i) rs ms =
+  trim_by-stalled (suc n) e None rs ms = rw sub-zero
+  trim_by-stalled (suc n) e (Some i) rs ms =
       let r = nth rs i in
       let k = amount asks e r in
       let rest = evict rs i k in
@@ -51,14 +52,14 @@ module _ (asks : ℕ → ℕ) (t : Tree) (table : List ℕ) (ps : List Pin) wher
 
 -- no range that is left may go
 abbrev pub Stuck : List Pin → List Range → Type 0
-Stuck ps rs = Right (λ r. not (is_pinned ps r)) rs none
+Stuck ps rs = Right (λ r. not (is_pinned ps r)) rs None
 
-chosen-some : (ps : List Pin) (e : ℕ) (rs : List Range) (i : ℕ) → chosen ps e rs ≡ some i → i < length rs
+chosen-some : (ps : List Pin) (e : ℕ) (rs : List Range) (i : ℕ) → chosen ps e rs ≡ Some i → i < length rs
 unfolding chosen
-chosen-some ps zero rs i q = absurd (none-ne-some i q)
+chosen-some ps zero rs i q = absurd (none-some i q)
 chosen-some ps (suc e) rs i q = (first_some (λ r. not (is_pinned ps r)) rs i q).0
 
-chosen_none : (ps : List Pin) (e : ℕ) (rs : List Range) → 0 < e → chosen ps e rs ≡ none → Stuck ps rs
+chosen_none : (ps : List Pin) (e : ℕ) (rs : List Range) → 0 < e → chosen ps e rs ≡ None → Stuck ps rs
 unfolding chosen
 chosen_none ps zero rs l q = absurd (omega arith)
 chosen_none ps (suc e) rs l q = subst (Right (λ r. not (is_pinned ps r)) rs) q (first-right (λ r. not (is_pinned ps r)) rs)
@@ -76,8 +77,8 @@ module _ (asks : ℕ → ℕ) (enough : (e : ℕ) → e ≤ asks e) (t : Tree) (
           → ((d : ℕ) (qs : List Range) (vs : List ℕ) → length qs ≤ n → (trim_by asks t table ps n d (chosen ps d qs) qs vs).stalled ≡ true
           → Stuck ps (trim_by asks t table ps n d (chosen ps d qs) qs vs).ranges)
           → (trim_by asks t table ps (suc n) e c rs ms).stalled ≡ true → Stuck ps (trim_by asks t table ps (suc n) e c rs ms).ranges
-      go none q ih h = chosen_none ps e rs (ltb-true 0 e h) q
-      go (some i) q ih h =
+      go None q ih h = chosen_none ps e rs (ltb-true 0 e h) q
+      go (Some i) q ih h =
           let r = nth rs i in
           let k = amount asks e r in
           let rest = evict rs i k in

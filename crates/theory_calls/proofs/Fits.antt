@@ -3,7 +3,7 @@
 use Prim.Native.Nat.{ℕ, zero, suc, ◌+◌, ◌≤◌, ◌<◌}
 use mathlib.Core.Path.{◌≡◌}
 use mathlib.Core.Bool.{Bool, true, false}
-use mathlib.Core.Option.{Option, none, some}
+use Rattle.std.specs.Prelude.{Option, None, Some}
 use mathlib.Core.List.{List, [], ◌∷◌, ◌++◌}
 use native.Mathlib.Omega.{arith}
 use lib.ListN.{length, length-append}
@@ -82,8 +82,8 @@ insert_path-fits st hs h nodes = go (adds hs path) nodes
 along-few : (st : State) (ts : List ℕ) (n z more o : ℕ) (found : Option TierSpan) → length (along st ts n z more o found).spans ≤ more
 unfolding along
 along-few st ts n z zero o found = omega arith
-along-few st ts n z (suc more) o none = omega arith
-along-few st ts n z (suc more) o (some s) = omega (arith, along-few st ts n z more s.end (first_tier st 0 ts n s.end z))
+along-few st ts n z (suc more) o None = omega arith
+along-few st ts n z (suc more) o (Some s) = omega (arith, along-few st ts n z more s.end (first_tier st 0 ts n s.end z))
 
 lookup-few : (st : State) (ts : List ℕ) (path : List Seg) → length (lookup_path st ts path) ≤ blocks path
 unfolding lookup_path blocks

@@ -3,8 +3,9 @@
 use Prim.Native.Nat.{ℕ, zero, suc, ◌+◌, ◌-◌, ◌≤◌, ◌<◌, min, max}
 use mathlib.Core.Bool.{Bool, true, false, not, ◌&&◌, ◌||◌, true≢false, false≢true}
 use mathlib.Core.List.{List, [], ◌∷◌, ◌++◌}
-use mathlib.Core.Option.{Option, none, some, some-injective, none-ne-some}
-use mathlib.Core.Path.{◌≡◌, refl, sym, subst, ◌∙◌}
+use Rattle.std.specs.Prelude.{Option, None, Some, unwrap_or}
+use Rattle.std.proofs.lemmas.Option.{none-some}
+use mathlib.Core.Path.{◌≡◌, refl, sym, subst, ◌∙◌, ap}
 use mathlib.Core.Logic.{◌⊎◌, inl, inr, ⊎_elim}
 use native.Mathlib.Omega.{arith}
 use lib.ListN.{length}
@@ -214,22 +215,22 @@ nth-filled [] i l f = absurd (omega arith)
 nth-filled (r ∷ rs) zero l f = f.0
 nth-filled (r ∷ rs) (suc i) l f = nth-filled rs i (omega arith) f.1
 
-chosen-some : (ps : List Pin) (e : ℕ) (rs : List Range) (i : ℕ) → chosen ps e rs ≡ some i → i < length rs
+chosen-some : (ps : List Pin) (e : ℕ) (rs : List Range) (i : ℕ) → chosen ps e rs ≡ Some i → i < length rs
 unfolding chosen
-chosen-some ps zero rs i q = absurd (none-ne-some i q)
+chosen-some ps zero rs i q = absurd (none-some i q)
 chosen-some ps (suc e) rs i q = (first_some (λ r. not (is_pinned ps r)) rs i q).0
 
-oldest-some : (now seconds : Float) (rs : List Range) (i : ℕ) → oldest now seconds rs ≡ some i → i < length rs
+oldest-some : (now seconds : Float) (rs : List Range) (i : ℕ) → oldest now seconds rs ≡ Some i → i < length rs
 unfolding oldest
 oldest-some now seconds rs i = go (first (λ r. true) rs) refl
   where
-    go : (c : Option ℕ) → first (λ r. true) rs ≡ c → if_aged now seconds rs c ≡ some i → i < length rs
-    go none e q = absurd (none-ne-some i q)
-    go (some j) e q = found (aged now seconds (nth rs j)) q
+    go : (c : Option ℕ) → first (λ r. true) rs ≡ c → if_aged now seconds rs c ≡ Some i → i < length rs
+    go None e q = absurd (none-some i q)
+    go (Some j) e q = found (aged now seconds (nth rs j)) q
       where
-        found : (b : Bool) → elim b [ true ↦ some j | false ↦ none ] ≡ some i → i < length rs
-        found true f = subst (λ k. k < length rs) (some-injective j i f) (first_some (λ r. true) rs j e).0
-        found false f = absurd (none-ne-some i f)
+        found : (b : Bool) → elim b [ true ↦ Some j | false ↦ None ] ≡ Some i → i < length rs
+        found true f = subst (λ k. k < length rs) (ap (λ o. unwrap_or o j) f) (first_some (λ r. true) rs j e).0
+        found false f = absurd (none-some i f)
 
 -- a block that rs had is left in w, or was given out, and not both
 pub record Split (rs : List Range) (w : Trimmed) (n o : ℕ) : Type 0 where
@@ -280,8 +281,8 @@ module _ (t : Tree) (table : List ℕ) {next top : ℕ} where
         → Split rs (trim_by asks t table ps n e c rs ms) v o
     unfolding trim_by
     trim-split zero e c rs ms h q v o = stop-split rs ms (ltb 0 e) v o
-    trim-split (suc n) e none rs ms h q v o = stop-split rs ms (ltb 0 e) v o
-    trim-split (suc n) e (some i) rs ms h q v o =
+    trim-split (suc n) e None rs ms h q v o = stop-split rs ms (ltb 0 e) v o
+    trim-split (suc n) e (Some i) rs ms h q v o =
         let r = nth rs i in
         let k = amount asks e r in
         let rest = evict rs i k in
@@ -294,8 +295,8 @@ module _ (t : Tree) (table : List ℕ) {next top : ℕ} where
         → Split rs (expire_by t table now seconds n c rs ms) v o
     unfolding expire_by
     expire-split zero c rs ms h q v o = stop-split rs ms false v o
-    expire-split (suc n) none rs ms h q v o = stop-split rs ms false v o
-    expire-split (suc n) (some i) rs ms h q v o =
+    expire-split (suc n) None rs ms h q v o = stop-split rs ms false v o
+    expire-split (suc n) (Some i) rs ms h q v o =
         let r = nth rs i in
         let l = oldest-some now seconds rs i (sym q) in
         let rest = evict rs i (length_of r) in

@@ -3,7 +3,7 @@
 use Prim.Native.Nat.{ℕ, ◌+◌, ◌-◌, ◌≤◌, ◌<◌}
 use mathlib.Core.Bool.{Bool, true, false}
 use mathlib.Core.List.{List, [], ◌++◌}
-use mathlib.Core.Option.{none}
+use Rattle.std.specs.Prelude.{None}
 use mathlib.Core.Path.{◌≡◌, refl, sym, ◌∙◌, subst}
 use mathlib.Core.Logic.{◌⊎◌, inl, inr, ⊎_elim}
 use native.Mathlib.Omega.{arith}
@@ -77,7 +77,7 @@ module _ (t : Tree) (facts : TreeFacts t) (hs : List ℕ) where
 
   -- ---- no path agrees for longer
 
-  none-agrees : {pos p n : ℕ} {path : List ℕ} → Next t hs pos p none → Down t p path → SameFrom hs pos n path → n ≤ 0
+  none-agrees : {pos p n : ℕ} {path : List ℕ} → Next t hs pos p None → Down t p path → SameFrom hs pos n path → n ≤ 0
   none-agrees x stop s = s.in_left
   none-agrees {pos} {n = n} x (into k ys c d) s =
       ⊎_elim (λ (z : n ≤ 0). z) (λ (z : 0 < n). absurd (x k c (omega (arith, s.in_right)) (path-first c ys pos n s z))) (le_or_lt n 0)

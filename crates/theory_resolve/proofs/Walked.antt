@@ -3,7 +3,7 @@
 use Prim.Native.Nat.{ℕ, zero, suc, ◌+◌, ◌-◌, ◌≤◌, ◌<◌, min}
 use mathlib.Core.Bool.{Bool, true, false, ◌&&◌}
 use mathlib.Core.List.{List, [], ◌∷◌}
-use mathlib.Core.Option.{Option, none, some}
+use Rattle.std.specs.Prelude.{Option, None, Some}
 use mathlib.Core.Path.{◌≡◌, refl, sym, ap, ◌∙◌}
 use mathlib.Core.Logic.{⊎_elim}
 use native.Mathlib.Omega.{arith}
@@ -24,8 +24,8 @@ use Rattle.theory_resolve.proofs.Deep.{deep, deep-most, deep_drops}
 
 -- what is found among the n nodes from k on
 abbrev FoundFrom : Tree → ℕ → ℕ → ℕ → ℕ → Option ℕ → Type 0
-FoundFrom t p h k n none = Each k (k + n) (λ j. at t.parent j ≡ p → first_hash t j ≡ h → ⊥)
-FoundFrom t p h k n (some j) = (k ≤ j) × (j < k + n) × (at t.parent j ≡ p) × (first_hash t j ≡ h)
+FoundFrom t p h k n None = Each k (k + n) (λ j. at t.parent j ≡ p → first_hash t j ≡ h → ⊥)
+FoundFrom t p h k n (Some j) = (k ≤ j) × (j < k + n) × (at t.parent j ≡ p) × (first_hash t j ≡ h)
 
 child-from : (t : Tree) (p h k n : ℕ) → FoundFrom t p h k n (child_from t p h k n)
 unfolding child_from
@@ -33,28 +33,28 @@ child-from t p h k zero = λ j l u. absurd (omega arith)
 child-from t p h k (suc n) = go (eqb (at t.parent k) p) (eqb (first_hash t k) h) refl refl (child_from t p h (suc k) n) (child-from t p h (suc k) n)
   where
     later : (o : Option ℕ) → ((at t.parent k ≡ p) → (first_hash t k ≡ h) → ⊥) → FoundFrom t p h (suc k) n o → FoundFrom t p h k (suc n) o
-    later none not f = λ j l u a b. ⊎_elim (λ (e : k ≡ j). not (rw e a) (rw e b)) (λ (m : k < j). f j m (omega arith) a b) (eq-or-lt_of_le l)
-    later (some j) not f = (omega (arith, f.0), omega (arith, f.1), f.2, f.3)
+    later None not f = λ j l u a b. ⊎_elim (λ (e : k ≡ j). not (rw e a) (rw e b)) (λ (m : k < j). f j m (omega arith) a b) (eq-or-lt_of_le l)
+    later (Some j) not f = (omega (arith, f.0), omega (arith, f.1), f.2, f.3)
 
     go : (x y : Bool) → eqb (at t.parent k) p ≡ x → eqb (first_hash t k) h ≡ y → (o : Option ℕ) → FoundFrom t p h (suc k) n o
-        → FoundFrom t p h k (suc n) (elim (x && y) as (λ z. Option ℕ) [ true ↦ some k | false ↦ o ])
+        → FoundFrom t p h k (suc n) (elim (x && y) as (λ z. Option ℕ) [ true ↦ Some k | false ↦ o ])
     go true true a b o f = (omega arith, omega arith, eqb-true _ _ a, eqb-true _ _ b)
     go true false a b o f = later o (λ e. eqb-false _ _ b) f
     go false y a b o f = later o (λ e g. eqb-false _ _ a e) f
 
 -- the child of p that goes on with the list from pos, or that there is none
 abbrev pub Next : Tree → List ℕ → ℕ → ℕ → Option ℕ → Type 0
-Next t hs pos p none = (k : ℕ) → Child t p k → pos < length hs → first_hash t k ≡ at hs pos → ⊥
-Next t hs pos p (some k) = Child t p k × (pos < length hs) × (first_hash t k ≡ at hs pos)
+Next t hs pos p None = (k : ℕ) → Child t p k → pos < length hs → first_hash t k ≡ at hs pos → ⊥
+Next t hs pos p (Some k) = Child t p k × (pos < length hs) × (first_hash t k ≡ at hs pos)
 
 pub next-child : (t : Tree) (hs : List ℕ) (pos p : ℕ) → Next t hs pos p (next_child t hs pos p)
 unfolding next_child child
 next-child t hs pos p = go (ltb pos (length hs)) refl (child_from t p (at hs pos) 1 (t.nodes - 1)) (child-from t p (at hs pos) 1 (t.nodes - 1))
   where
     go : (b : Bool) → ltb pos (length hs) ≡ b → (o : Option ℕ) → FoundFrom t p (at hs pos) 1 (t.nodes - 1) o
-        → Next t hs pos p (elim b as (λ z. Option ℕ) [ true ↦ o | false ↦ none ])
-    go true e none f = λ k c l. f k c.not_root (omega (arith, c.in_use, c.not_root)) c.parent
-    go true e (some k) f = (record { not_root = f.0; in_use = omega (arith, f.0, f.1); parent = f.2 }, ltb-true _ _ e, f.3)
+        → Next t hs pos p (elim b as (λ z. Option ℕ) [ true ↦ o | false ↦ None ])
+    go true e None f = λ k c l. f k c.not_root (omega (arith, c.in_use, c.not_root)) c.parent
+    go true e (Some k) f = (record { not_root = f.0; in_use = omega (arith, f.0, f.1); parent = f.2 }, ltb-true _ _ e, f.3)
     go false e o f = λ k c l. absurd (omega (arith, ltb-false))
 
 -- ---- one node
@@ -69,7 +69,7 @@ pub record Enters (t : Tree) (hs : List ℕ) (pos p k m : ℕ) : Type 0 where
   pub last : at hs (pos + (m - 1)) ≡ hash_at t k (m - 1)
   pub next : m < at t.len k → pos + m < length hs → at hs (pos + m) ≡ hash_at t k m → ⊥
 
-enters : (t : Tree) → NodesFilled t → (hs : List ℕ) (pos p k : ℕ) → Next t hs pos p (some k) → Enters t hs pos p k (matched t hs pos k)
+enters : (t : Tree) → NodesFilled t → (hs : List ℕ) (pos p k : ℕ) → Next t hs pos p (Some k) → Enters t hs pos p k (matched t hs pos k)
 unfolding NodesFilled matched
 enters t filled hs pos p k x =
     let c : ℕ = min (length hs - pos) (at t.len k) in
@@ -90,12 +90,12 @@ enters t filled hs pos p k x =
 
 -- ss is where a walk from below p and from pos on goes
 pub data Walked (t : Tree) (hs : List ℕ) : ℕ → ℕ → List Seg → Type 0 where
-  ends : {pos p : ℕ} → Next t hs pos p none → Walked t hs pos p []
+  ends : {pos p : ℕ} → Next t hs pos p None → Walked t hs pos p []
   part : {pos p : ℕ} (k m : ℕ) → Enters t hs pos p k m → m < at t.len k → Walked t hs pos p (record { node = k; len = m } ∷ [])
   whole : {pos p : ℕ} (k m : ℕ) (ss : List Seg) → Enters t hs pos p k m → m ≡ at t.len k → Walked t hs (pos + m) k ss
       → Walked t hs pos p (record { node = k; len = m } ∷ ss)
 
-walk_none : (t : Tree) (hs : List ℕ) (n pos : ℕ) → walk t hs n pos none ≡ []
+walk_none : (t : Tree) (hs : List ℕ) (n pos : ℕ) → walk t hs n pos None ≡ []
 unfolding walk
 walk_none t hs zero pos = refl
 walk_none t hs (suc n) pos = refl
@@ -104,8 +104,8 @@ walk_walked : (t : Tree) → NodesFilled t → (hs : List ℕ) (n pos p : ℕ) (
     → Walked t hs pos p (walk t hs n pos o)
 unfolding walk
 walk_walked t filled hs zero pos p o f x = ends {pos = pos} {p = p} (λ k c l e. omega arith)
-walk_walked t filled hs (suc n) pos p none f x = ends x
-walk_walked t filled hs (suc n) pos p (some k) f x =
+walk_walked t filled hs (suc n) pos p None f x = ends x
+walk_walked t filled hs (suc n) pos p (Some k) f x =
     go (eqb m (at t.len k)) refl (λ l. walk_walked t filled hs n (pos + m) k (next_child t hs (pos + m) k) l (next-child t hs (pos + m) k))
   where
     m : ℕ

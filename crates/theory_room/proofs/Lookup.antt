@@ -3,7 +3,7 @@
 use Prim.Native.Nat.{ℕ, zero, suc, ◌+◌, ◌≤◌, ◌<◌, min}
 use mathlib.Core.Bool.{Bool, true, false, true≢false, ◌&&◌}
 use mathlib.Core.List.{List, [], ◌∷◌, ◌++◌}
-use mathlib.Core.Option.{Option, none, some}
+use Rattle.std.specs.Prelude.{Option, None, Some}
 use mathlib.Core.Path.{◌≡◌, refl, ◌∙◌}
 use mathlib.Core.Logic.{◌⊎◌, inl, inr, ⊎_elim}
 use native.Mathlib.Omega.{arith}
@@ -94,14 +94,14 @@ pub record Given (st : State) (i : ℕ) (ts : List ℕ) (n o z : ℕ) (s : TierS
   pub held : (k : ℕ) → o ≤ k → k < s.end → SomeTier st ts n k
 
 abbrev pub Found : State → ℕ → List ℕ → ℕ → ℕ → ℕ → Option TierSpan → Type 0
-Found st i ts n o z none = o < z → SomeTier st ts n o → ⊥
-Found st i ts n o z (some s) = Given st i ts n o z s
+Found st i ts n o z None = o < z → SomeTier st ts n o → ⊥
+Found st i ts n o z (Some s) = Given st i ts n o z s
 
 later : (st : State) (i s : ℕ) (ts : List ℕ) (n o z : ℕ) (f : Option TierSpan) → (o < z → Holds (store_of st s).ranges n o → ⊥)
     → Found st (suc i) ts n o z f → Found st i (s ∷ ts) n o z f
 unfolding SomeTier
-later st i s ts n o z none out h = λ l w. ⊎_elim (out l) (h l) w
-later st i s ts n o z (some x) out h =
+later st i s ts n o z None out h = λ l w. ⊎_elim (out l) (h l) w
+later st i s ts n o z (Some x) out h =
     record { start = h.start; some = h.some; high = h.high; tier = omega (arith, h.tier); held = λ k a b. inr (h.held k a b) }
 
 found : (st : State) (i : ℕ) (ts : List ℕ) (n o z : ℕ) → o ≤ z → Found st i ts n o z (first_tier st i ts n o z)
@@ -112,7 +112,7 @@ found st i (s ∷ ts) n o z l = go (ltb o (reach n o z (store_of st s).ranges)) 
     go : (b : Bool) → ltb o (reach n o z (store_of st s).ranges) ≡ b → Found st (suc i) ts n o z (first_tier st (suc i) ts n o z)
         → Found st i (s ∷ ts) n o z
         (elim b [
-          | true ↦ some (record { tier = i; node = n; start = o; end = reach n o z (store_of st s).ranges })
+          | true ↦ Some (record { tier = i; node = n; start = o; end = reach n o z (store_of st s).ranges })
           | false ↦ first_tier st (suc i) ts n o z
         ])
     go true e h =
@@ -160,7 +160,7 @@ went st ts n z zero o f l m h =
       sum = omega arith;
       tiers = tt;
     }
-went st ts n z (suc more) o none l m h =
+went st ts n z (suc more) o None l m h =
     record {
       low = omega arith;
       high = l;
@@ -169,7 +169,7 @@ went st ts n z (suc more) o none l m h =
       sum = omega arith;
       tiers = tt;
     }
-went st ts n z (suc more) o (some s) l m h =
+went st ts n z (suc more) o (Some s) l m h =
     let w = went st ts n z more s.end (first_tier st 0 ts n s.end z) h.high (omega (arith, h.some)) (found st 0 ts n s.end z h.high) in
     record {
       low = omega (arith, h.some, w.low);

@@ -3,8 +3,9 @@
 use Prim.Native.Nat.{ℕ, zero, suc, ◌-◌, ◌≤◌, ◌<◌}
 use mathlib.Core.Bool.{Bool, true, false}
 use mathlib.Core.List.{List, [], ◌∷◌}
-use mathlib.Core.Option.{Option, none, some, none-ne-some, some-injective}
-use mathlib.Core.Path.{◌≡◌, refl, sym, ◌∙◌}
+use Rattle.std.specs.Prelude.{Option, None, Some, unwrap_or}
+use Rattle.std.proofs.lemmas.Option.{none-some}
+use mathlib.Core.Path.{◌≡◌, refl, sym, ◌∙◌, ap}
 use mathlib.Core.Logic.{◌⊎◌, inl, inr, ⊎_elim}
 use native.Mathlib.Omega.{arith}
 use lib.ListN.{length}
@@ -53,9 +54,9 @@ evict-more (r ∷ rs) (suc i) j k l n o (inl p) = inl p
 evict-more (r ∷ rs) (suc i) j k l n o (inr h) = inr (evict-more rs i j k l n o h)
 
 -- where an excess chooses a range, a larger one chooses the same
-chosen_more : (ps : List Pin) (d e : ℕ) (rs : List Range) (i : ℕ) → d ≤ e → chosen ps d rs ≡ some i → chosen ps e rs ≡ some i
+chosen_more : (ps : List Pin) (d e : ℕ) (rs : List Range) (i : ℕ) → d ≤ e → chosen ps d rs ≡ Some i → chosen ps e rs ≡ Some i
 unfolding chosen
-chosen_more ps zero e rs i l q = absurd (none-ne-some i q)
+chosen_more ps zero e rs i l q = absurd (none-some i q)
 chosen_more ps (suc d) zero rs i l q = absurd (omega arith)
 chosen_more ps (suc d) (suc e) rs i l q = q
 
@@ -71,8 +72,8 @@ module _ (asks : ℕ → ℕ) (t : Tree) (table : List ℕ) (ps : List Pin) wher
   trim_sub : (n e : ℕ) (c : Option ℕ) (rs : List Range) (ms : List ℕ) → Sub (trim_by asks t table ps n e c rs ms).ranges rs
   unfolding trim_by
   trim_sub zero e c rs ms n o h = h
-  trim_sub (suc n) e none rs ms v o h = h
-  trim_sub (suc n) e (some i) rs ms v o h =
+  trim_sub (suc n) e None rs ms v o h = h
+  trim_sub (suc n) e (Some i) rs ms v o h =
       let k = amount asks e (nth rs i) in
       let rest = evict rs i k in
       evict_sub rs i k v o (trim_sub n (e - k) (chosen ps (e - k) rest) rest (unmark (nth rs i).node rest ms) v o h)
@@ -114,10 +115,10 @@ module _ (asks : ℕ → ℕ) (t : Tree) (table : List ℕ) (ps : List Pin) wher
         split : (c b : Option ℕ) → chosen ps e rs ≡ c → chosen ps d rs ≡ b
             → ((qs : List Range) (us vs : List ℕ) (a b : ℕ) → a ≤ b → Sub (run n b qs us) (run n a qs vs))
             → Sub (trim_by asks t table ps (suc n) e c rs xs).ranges (trim_by asks t table ps (suc n) d b rs ys).ranges
-        split c none p q ih = trim_sub (suc n) e c rs xs
-        split none (some i) p q ih = absurd (none-ne-some i (sym p ∙ chosen_more ps d e rs i le q))
-        split (some j) (some i) p q ih =
-            let same : j ≡ i = some-injective j i (sym p ∙ chosen_more ps d e rs i le q) in
+        split c None p q ih = trim_sub (suc n) e c rs xs
+        split None (Some i) p q ih = absurd (none-some i (sym p ∙ chosen_more ps d e rs i le q))
+        split (Some j) (Some i) p q ih =
+            let same : j ≡ i = ap (λ o. unwrap_or o j) (sym p ∙ chosen_more ps d e rs i le q) in
             let k = taken d e (nth rs i) le in
             rw same (turn n d e (amount asks d (nth rs i)) (amount asks e (nth rs i)) rs i _ _ ih le k.0 k.1)
 

@@ -1,5 +1,6 @@
 -- What a call leaves of each store's capacity and of the blocks it holds: a call lays the book of its store, and an insert the book of every store in turn,
 -- with the capacity that stood there; and only a bring-in, an expiry and a removal change what their own store holds. Assumes nothing.
+use Rattle.std.specs.Prelude.{Option}
 use Prim.Native.Nat.{ℕ, zero, suc, ◌+◌, ◌≤◌, ◌<◌}
 use mathlib.Core.Path.{◌≡◌, refl, sym, ap, ◌∙◌}
 use mathlib.Core.Logic.{◌≢◌}
@@ -11,7 +12,7 @@ use lib.ListN.{length, drop}
 use lib.Ieee.{Float}
 use Rattle.model.specs.declared.Span.{Span}
 use Rattle.model.specs.declared.Book.{Book}
-use Rattle.model.specs.declared.Split.{Split}
+use Rattle.model.specs.declared.Cut.{Cut}
 use Rattle.model.specs.Sizes.{max_stores, max_numbers}
 use Rattle.model.specs.State.{Tree, State, Pin, book_in, stores_in, stores_of, next_id_of, stalls_of, capacity_of}
 use Rattle.model.specs.Sound.{Sound}
@@ -254,7 +255,7 @@ cut-same j k st few long =
     let h = tree-same t st st (same_start st.books long) in
     same_then h (cut_stores-same j k (next_node st.tree) (stores_of st) 0 (with_tree t st) (omega arith) h.long)
 
-leaf_same : (hs : List ℕ) (path : List Seg) (split : Split) (st st' : State) → Same Every st st' → Same Every st (with_leaf hs path split st').state
+leaf_same : (hs : List ℕ) (path : List Seg) (split : Option Cut) (st st' : State) → Same Every st st' → Same Every st (with_leaf hs path split st').state
 unfolding with_leaf
 leaf_same hs path split st st' h =
     tree-same (add_leaf (match_end path).node (blocks path) (drop (blocks path) hs) st'.tree) st st' h

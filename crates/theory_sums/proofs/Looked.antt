@@ -4,7 +4,7 @@ use Prim.Native.Nat.{ℕ, zero, suc, ◌+◌, ◌-◌, ◌≤◌, ◌<◌, min}
 use mathlib.Core.Bool.{Bool, true, false}
 use mathlib.Core.Path.{◌≡◌, refl, ap, ◌∙◌}
 use mathlib.Core.List.{List, [], ◌∷◌, ◌++◌}
-use mathlib.Core.Option.{Option, none, some}
+use Rattle.std.specs.Prelude.{Option, None, Some}
 use native.Mathlib.Omega.{arith}
 use lib.Dec.{ltb, leb, eqb}
 use borrow.Author.Tests.{ltb-true, leb-true, leb-false, eqb-true, eqb-false}
@@ -38,8 +38,8 @@ record Found (n o z : ℕ) (s : TierSpan) : Type 0 where
   ends : s.end ≤ z
 
 abbrev FoundOr : ℕ → ℕ → ℕ → Option TierSpan → Type 0
-FoundOr n o z none = Unit {0}
-FoundOr n o z (some s) = Found n o z s
+FoundOr n o z None = Unit {0}
+FoundOr n o z (Some s) = Found n o z s
 
 reach-low : (n o z : ℕ) (rs : List Range) → o < reach n o z rs → reach n o z rs ≤ z
 unfolding reach
@@ -61,7 +61,7 @@ first_found st i (s ∷ ts) n o z = go (ltb o e) refl (first_found st (suc i) ts
 
     go : (b : Bool) → ltb o e ≡ b → FoundOr n o z (first_tier st (suc i) ts n o z)
         → FoundOr n o z
-        (elim b as (λ x. Option TierSpan) [ true ↦ some (record { tier = i; node = n; start = o; end = e }) | false ↦ first_tier st (suc i) ts n o z ])
+        (elim b as (λ x. Option TierSpan) [ true ↦ Some (record { tier = i; node = n; start = o; end = e }) | false ↦ first_tier st (suc i) ts n o z ])
     go true q ih =
         let more = ltb-true o e q in record { node = refl; start = refl; more = more; ends = reach-low n o z (store_of st s).ranges more }
     go false q ih = ih
@@ -80,8 +80,8 @@ module _ (st : State) (h : Sound st) (ts : List ℕ) (f : TierSpan → ℕ) (G :
       → over f (along st ts n z more o c).spans + G (d n + o) ≤ G (d n + z)
   unfolding along over
   along-sum n z zero o c k l m = omega (arith, rise (d n + o) (d n + z) (omega arith) m)
-  along-sum n z (suc more) o none k l m = omega (arith, rise (d n + o) (d n + z) (omega arith) m)
-  along-sum n z (suc more) o (some s) k l m =
+  along-sum n z (suc more) o None k l m = omega (arith, rise (d n + o) (d n + z) (omega arith) m)
+  along-sum n z (suc more) o (Some s) k l m =
       let p : f s ≡ G (d n + s.end) - G (d n + o) =
       price s
       ∙ ap (λ (x : ℕ). G (d x + s.end) - G (d x + s.start)) k.node

@@ -3,7 +3,7 @@
 use Prim.Native.Nat.{ℕ, zero, suc, ◌+◌, ◌-◌, ◌*◌, ◌≤◌, ◌<◌}
 use mathlib.Core.Path.{◌≡◌, refl, ap}
 use mathlib.Core.List.{List, [], ◌∷◌}
-use mathlib.Core.Option.{Option, none, some}
+use Rattle.std.specs.Prelude.{Option, None, Some}
 use native.Mathlib.Omega.{arith}
 use native.Mathlib.Nat.{mul-suc}
 use lib.ListN.{length}
@@ -83,8 +83,8 @@ module _ (t : Tree) (tree : TreeSound t) where
         → All Small (trim_by asks t table ps n e c rs ms).outs
     unfolding trim_by All
     trim_by-small asks ps zero e c rs ms h = tt
-    trim_by-small asks ps (suc n) e none rs ms h = tt
-    trim_by-small asks ps (suc n) e (some i) rs ms h =
+    trim_by-small asks ps (suc n) e None rs ms h = tt
+    trim_by-small asks ps (suc n) e (Some i) rs ms h =
         let r = nth rs i in
         let k = amount asks e r in
         let rest = evict rs i k in (
@@ -100,8 +100,8 @@ module _ (t : Tree) (tree : TreeSound t) where
         → All Small (expire_by t table now seconds n c rs ms).outs
     unfolding expire_by All
     expire_by-small now seconds zero c rs ms h = tt
-    expire_by-small now seconds (suc n) none rs ms h = tt
-    expire_by-small now seconds (suc n) (some i) rs ms h =
+    expire_by-small now seconds (suc n) None rs ms h = tt
+    expire_by-small now seconds (suc n) (Some i) rs ms h =
         let r = nth rs i in
         let rest = evict rs i (length_of r) in (
           told-small ms r r.start (nth-fits rs i h),

@@ -1,16 +1,7 @@
-// What a trial hands back, and a refusal's number for each kind of answer.
-use crate::world::{Lists, World};
+// A refusal's number for each kind of answer, 0 where there was none.
 use shape_answer::{
     Count, Inserted, Looked, Plain, Resolved, StoreExpired, StoreInserted, StoreRemoved, StoreUsed,
 };
-
-// The refusal's number, 0 where there was none; state and lists afterwards.
-#[derive(Clone, Copy)]
-pub struct Tried {
-    pub number: u64,
-    pub world: World,
-    pub lists: Lists,
-}
 
 fn wide(n: u8) -> u64 {
     n as u64

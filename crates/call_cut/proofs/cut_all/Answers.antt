@@ -1,9 +1,8 @@
 -- `call_cut::cut_all` meets its contract: the tree's half and the stores' half make the model's cut.
 -- Assumes nothing.
-use mathlib.Core.Path.{refl}
 use Rattle.model.specs.State.{nodes_in, used_in}
 use Rattle.shape_state.specs.Lent.{tree_of, ranges_of, pins_of, state_of}
-use Rattle.call_cut.proofs.Laws.{tree_asks, number_fits, counts-written, all-is}
+use Rattle.call_cut.proofs.Laws.{tree_asks, all-is}
 use Rattle.call_cut.proofs.cut_all.Goals as goal
 
 pub cut_tree-requires : goal.cut_tree-requires
@@ -11,21 +10,6 @@ cut_tree-requires c = let a = c.args in
     tree_asks a.j a.k
     (state_of (tree_of a.parent.now a.depth.now a.len.now a.run.now a.words.now (nodes_in a.books.now) (used_in a.books.now)) (ranges_of a.node.now a.start.now a.end.now a.id.now a.stamp.now a.touched.now a.write.now)
     (pins_of a.pin_node.now a.pin_start.now a.pin_end.now a.pin_count.now) a.marks.now a.bytes.now a.books.now) c.requires
-
-pub overflow_add-nodes : goal.overflow_add-nodes
-overflow_add-nodes c = record { fits = number_fits (nodes_in c.args.books.now) c.requires.room }
-
-pub cut_stores-requires : goal.cut_stores-requires
-cut_stores-requires c = let a = c.args in
-    let t = tree_of a.parent.now a.depth.now a.len.now a.run.now a.words.now (nodes_in a.books.now) (used_in a.books.now) in
-    record {
-      tree = t;
-      bytes = a.bytes.now;
-      old = a.books.now;
-      new = refl;
-      counted = counts-written a.j a.k t a.books.now c.put_counts.new.books c.put_counts.ensures;
-      whole = c.requires;
-    }
 
 pub returns : goal.returns
 returns c = let a = c.args in

@@ -1,19 +1,7 @@
 -- `call_cut::cut_store` meets its contract: what its calls leave is the cut of the store in the state, by `store_is`.
 use Rattle.shape_state.specs.Lent.{ranges_of, pins_of}
-use Rattle.call_cut.proofs.Halves.{range_asks, pin_asks, store_is}
+use Rattle.call_cut.proofs.Halves.{store_is}
 use Rattle.call_cut.proofs.cut_store.Goals as goal
-
-pub cut_range_half-cut-requires : goal.cut_range_half-cut-requires
-cut_range_half-cut-requires c = let a = c.args in
-    range_asks a.j a.k a.m a.s (ranges_of a.node.now a.start.now a.end.now a.id.now a.stamp.now a.touched.now a.write.now)
-    (pins_of a.pin_node.now a.pin_start.now a.pin_end.now a.pin_count.now) a.marks.now a.books.now c.requires
-    c.book_of-b.result c.book_of-b.ensures
-
-pub cut_pins-entries-requires : goal.cut_pins-entries-requires
-cut_pins-entries-requires c = let a = c.args in
-    pin_asks a.j a.k a.m a.s (ranges_of a.node.now a.start.now a.end.now a.id.now a.stamp.now a.touched.now a.write.now)
-    (pins_of a.pin_node.now a.pin_start.now a.pin_end.now a.pin_count.now) a.marks.now a.books.now c.requires
-    c.book_of-b.result c.book_of-b.ensures
 
 pub returns : goal.returns
 returns c = let a = c.args in

@@ -2,7 +2,7 @@
 -- Assumes nothing.
 use native.Mathlib.Omega.{arith}
 use Rattle.shape_state.specs.Lent.{ranges_of, pins_of}
-use Rattle.call_cut.proofs.Laws.{stores-long, turning_start, turning_asks, turning_turn, turning_end, turn-fits}
+use Rattle.call_cut.proofs.Laws.{stores-long, turning_start, turning_asks, turning_turn, turning_end}
 use Rattle.call_cut.proofs.cut_stores.Goals as goal
 
 pub bounds-books-2 : goal.bounds-books-2
@@ -26,13 +26,6 @@ cut_store-requires c = let a = c.args in
     (ranges_of l.node l.start l.end l.id l.stamp l.touched l.write) (pins_of l.pin_node l.pin_start l.pin_end l.pin_count) l.marks l.books
     l.invariant c.requires c.loop-s-test.true
 
-pub overflow_add-s : goal.overflow_add-s
-overflow_add-s c = let a = c.args in
-    record {
-      fits = turn-fits a.j a.k a.m (ranges_of a.node.now a.start.now a.end.now a.id.now a.stamp.now a.touched.now a.write.now)
-          (pins_of a.pin_node.now a.pin_start.now a.pin_end.now a.pin_count.now) a.marks.now a.books.now c.requires c.loop-s.s c.loop-s-test.true;
-    }
-
 pub loop-s-preserved : goal.loop-s-preserved
 loop-s-preserved c = let a = c.args in
     let l = c.loop-s in
@@ -44,21 +37,6 @@ loop-s-preserved c = let a = c.args in
     (ranges_of f.new.node f.new.start f.new.end f.new.id f.new.stamp f.new.touched f.new.write)
     (pins_of f.new.pin_node f.new.pin_start f.new.pin_end f.new.pin_count) f.new.marks f.new.books
     c.loop-s-test.true f.ensures
-    (record {
-      node = f.auto.node;
-      start = f.auto.start;
-      end = f.auto.end;
-      id = f.auto.id;
-      stamp = f.auto.stamp;
-      touched = f.auto.touched;
-      write = f.auto.write;
-      pin_node = f.auto.pin_node;
-      pin_start = f.auto.pin_start;
-      pin_end = f.auto.pin_end;
-      pin_count = f.auto.pin_count;
-      marks = f.auto.marks;
-      books = f.auto.books;
-    })
 
 pub returns : goal.returns
 returns c = let a = c.args in

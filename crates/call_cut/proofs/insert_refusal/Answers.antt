@@ -3,7 +3,7 @@ use mathlib.Core.Path.{refl}
 use native.Mathlib.Omega.{arith}
 use lib.Dec.{ltb}
 use Rattle.model.specs.State.{at}
-use Rattle.call_cut.proofs.Refusals.{plus-few, none-added, node_in, node-small, few-nodes, long, cut_asks, six, seven, not_inside, inside}
+use Rattle.call_cut.proofs.Refusals.{none-added, node_in, node-small, long, cut_asks, six, seven, not_inside, inside}
 use Rattle.call_cut.proofs.insert_refusal.Goals as goal
 
 pub returns-then-count-m : goal.returns-then-count-m
@@ -15,19 +15,9 @@ offset_bounds-len-j c = let p = c.requires in omega (arith, node-small p.0 p.1 p
 pub bounds-len-j : goal.bounds-len-j
 bounds-len-j c = let p = c.requires in node_in p.0 p.1 p.2 c.if-count-m.false
 
-pub bounds-books-0 : goal.bounds-books-0
-bounds-books-0 c = let p = c.requires in omega (arith, long p.0 p.1 p.2)
-
-pub overflow_add-nodes : goal.overflow_add-nodes
-overflow_add-nodes c = let a = c.args in
-    omega (arith, few-nodes c.requires.0 c.requires.1 c.requires.2, c.node_need.ensures, plus-few (ltb a.m.len (at a.len.now a.m.node)))
-
 pub returns-then-nodes-node_need-gt256 : goal.returns-then-nodes-node_need-gt256
 returns-then-nodes-node_need-gt256 c = let a = c.args in
     λ st hs w. six st hs w c.if-count-m.false (ltb a.m.len (at a.len.now a.m.node)) c.node_need.result refl c.node_need.ensures c.if-nodes-node_need-gt256.true
-
-pub bounds-books-1 : goal.bounds-books-1
-bounds-books-1 c = let p = c.requires in omega (arith, long p.0 p.1 p.2)
 
 pub returns-then-used-count-gt4096 : goal.returns-then-used-count-gt4096
 returns-then-used-count-gt4096 c = let a = c.args in
@@ -39,12 +29,6 @@ returns-then-not-inside c = let a = c.args in
 
 pub bounds-books-2 : goal.bounds-books-2
 bounds-books-2 c = let p = c.requires in omega (arith, long p.0 p.1 p.2)
-
-pub bounds-books-3 : goal.bounds-books-3
-bounds-books-3 c = let p = c.requires in omega (arith, long p.0 p.1 p.2)
-
-pub records_of-records-requires : goal.records_of-records-requires
-records_of-records-requires c = let p = c.requires in long p.0 p.1 p.2
 
 pub cut_refusal-requires : goal.cut_refusal-requires
 cut_refusal-requires c = let p = c.requires in cut_asks p.0 p.1 p.2 c.records_of-records.result c.records_of-records.ensures

@@ -1,11 +1,7 @@
-use Prim.Native.Nat.{◌-◌}
 use Rattle.model.specs.State.{Ranges}
 use Rattle.call_cut.specs.Needs.{overfull}
 use Rattle.call_cut.proofs.Stores.{RangesAre, NoneOver}
 use Rattle.call_cut.proofs.records_over.Given as goal
 
 abbrev pub invariant-loop-s : goal.invariant-loop-s
-invariant-loop-s l = NoneOver (RangesAre l.node l.start l.end) (λ (c : Ranges). overfull l.j l.k c l.records) l.stores l.s
-
-abbrev pub decreases-loop-s : goal.decreases-loop-s
-decreases-loop-s l = l.stores - l.s
+invariant-loop-s l = NoneOver (RangesAre l.node l.start l.end) (λ (c : Ranges). overfull l.j l.k c l.records) l.s

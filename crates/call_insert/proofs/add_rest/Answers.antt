@@ -6,9 +6,6 @@ use Rattle.shape_answer.specs.Lists.{path_list_of}
 use Rattle.call_insert.proofs.Laws.{node-within, len-within, leafed}
 use Rattle.call_insert.proofs.add_rest.Goals as goal
 
-pub lay_longer-requires : goal.lay_longer-requires
-lay_longer-requires c = let r = c.requires.1 in (node-within r.path, len-within r.path, r.path_node, r.path_len)
-
 pub returns : goal.returns
 returns c = λ ss split r p marks bytes found.
     let a = c.args in

@@ -7,6 +7,7 @@ use Rattle.rule_resolve.proofs.Sound.{sound_walkable}
 use Rattle.call_lookup.proofs.Records.{records-each}
 use Rattle.call_lookup.proofs.Outcomes.{no_tier-is, many_hashes_is, many-tiers-is, looked-is, seen-is}
 use Rattle.call_lookup.proofs.lookup.Goals as goal
+use Rattle.call_lookup.proofs.lookup.Goals.{then-hashes-gt1024-via-then-hashes-gt1024, then-hashes-gt1024-via-else-hashes-gt1024+then-many_tiers}
 
 pub returns-then-no_tier : goal.returns-then-no_tier
 returns-then-no_tier c =
@@ -22,15 +23,14 @@ returns-then-hashes-gt1024 c =
     c.args.end.now c.args.id.now c.args.stamp.now c.args.touched.now c.args.write.now c.args.pin_node.now c.args.pin_start.now
     c.args.pin_end.now c.args.pin_count.now c.args.marks.now c.args.bytes.now c.args.books.now in
     let lent = lists_of (path_list_of c.args.path_node.now c.args.path_len.now) (tier_list_of c.args.span_tier.now c.args.span_node.now c.args.span_start.now c.args.span_end.now) in
-    many_hashes_is state lent c.args.tiers.now c.args.hashes.now c.requires.0 c.requires.1 c.requires.2 (says_false c.if-no_tier.false c.no_tier.ensures) c.if-hashes-gt1024.true
-
-pub returns-then-many_tiers : goal.returns-then-many_tiers
-returns-then-many_tiers c =
-    let state = state_from c.args.parent.now c.args.depth.now c.args.len.now c.args.run.now c.args.words.now c.args.node.now c.args.start.now
-    c.args.end.now c.args.id.now c.args.stamp.now c.args.touched.now c.args.write.now c.args.pin_node.now c.args.pin_start.now
-    c.args.pin_end.now c.args.pin_count.now c.args.marks.now c.args.bytes.now c.args.books.now in
-    let lent = lists_of (path_list_of c.args.path_node.now c.args.path_len.now) (tier_list_of c.args.span_tier.now c.args.span_node.now c.args.span_start.now c.args.span_end.now) in
-    many-tiers-is state lent c.args.tiers.now c.args.hashes.now c.requires.0 c.requires.1 c.requires.2 (says_false c.if-no_tier.false c.no_tier.ensures) c.if-hashes-gt1024.false (says_true c.if-many_tiers.true c.many_tiers.ensures)
+    let stores = says_false c.if-no_tier.false c.no_tier.ensures in
+    elim c.then-hashes-gt1024.branch [
+      | then-hashes-gt1024-via-then-hashes-gt1024 w ↦
+          many_hashes_is state lent c.args.tiers.now c.args.hashes.now c.requires.0 c.requires.1 c.requires.2 stores w.if-hashes-gt1024.true
+      | then-hashes-gt1024-via-else-hashes-gt1024+then-many_tiers w ↦
+          many-tiers-is state lent c.args.tiers.now c.args.hashes.now c.requires.0 c.requires.1 c.requires.2 stores w.if-hashes-gt1024.false
+          (says_true w.if-many_tiers.true w.many_tiers.ensures)
+    ]
 
 pub resolve-m-requires : goal.resolve-m-requires
 resolve-m-requires c =

@@ -1,12 +1,15 @@
 -- `call_pin::pin_source` meets its contract: each way out is one law. Assumes nothing.
+use Prim.Native.Nat.{◌*◌}
+use mathlib.Core.Bool.{not}
 use mathlib.Core.Path.{refl}
 use native.Mathlib.Nat.{le_of_lt}
-use native.Mathlib.Omega.{arith}
+use Rattle.std.proofs.Common.{rules, ap, ◌∙◌}
 use Rattle.model.specs.State.{nodes_in, used_in}
 use Rattle.shape_state.specs.Lent.{tree_of, pins_of}
-use Rattle.call_pin.proofs.Calls.{in_order, nodes_in_lem, in_books, base_fits, pin_no_store, pin-bad-span, within, to_place, too_much, to_pin, sum_fits, pin-ends}
-use Rattle.std.proofs.Common.{ap}
-use mathlib.Core.Bool.{not}
+use Rattle.shape_state.specs.Pins.{pinned}
+use Rattle.pool_pin.specs.Columns.{lent}
+use Rattle.call_pin.proofs.Laws.{place-of, pins-back, tested-of}
+use Rattle.call_pin.proofs.Calls.{in_order, pin_no_store, pin-bad-span, too_much, to_pin, pin-ends}
 use Rattle.call_pin.proofs.pin_source.Goals as goal
 
 pub returns-then-stores-s : goal.returns-then-stores-s
@@ -15,62 +18,37 @@ returns-then-stores-s c =
     let books = c.args.books.now in
     pin_no_store (tree (nodes_in books) (used_in books)) _ _ _ _ _ c.args.s c.args.sp c.requires c.if-stores-s.true
 
-pub span_in-requires : goal.span_in-requires
-span_in-requires c = nodes_in_lem c.requires
-
 pub returns-then-not-span_in : goal.returns-then-not-span_in
 returns-then-not-span_in c =
     let tree = tree_of c.args.parent.now c.args.depth.now c.args.len.now c.args.run.now c.args.words.now in
     let books = c.args.books.now in
     pin-bad-span (tree (nodes_in books) (used_in books)) _ _ _ _ _ c.args.s c.args.sp c.requires c.if-stores-s.false c.span_in.result (c.span_in.ensures (tree (nodes_in books) (used_in books)) refl refl) (ap not c.if-not-span_in.true)
 
-pub book_of-b-requires : goal.book_of-b-requires
-book_of-b-requires c = in_books c.requires c.if-stores-s.false
-
-pub overflow_mul-a : goal.overflow_mul-a
-overflow_mul-a c = base_fits c.requires c.if-stores-s.false
-
-pub place_of-place-requires : goal.place_of-place-requires
-place_of-place-requires c =
-    let tree = tree_of c.args.parent.now c.args.depth.now c.args.len.now c.args.run.now c.args.words.now in
-    to_place tree _ _ _ _ _ c.args.s c.args.sp c.requires c.if-stores-s.false c.book_of-b.result c.book_of-b.ensures
-
 pub overflow_sub-blocks : goal.overflow_sub-blocks
 overflow_sub-blocks c =
     let tree = tree_of c.args.parent.now c.args.depth.now c.args.len.now c.args.run.now c.args.words.now in
     let books = c.args.books.now in
+    let old = pins_of c.args.pin_node.now c.args.pin_start.now c.args.pin_end.now c.args.pin_count.now in
     le_of_lt (in_order (tree (nodes_in books) (used_in books)) c.args.sp c.span_in.result (c.span_in.ensures (tree (nodes_in books) (used_in books)) refl refl) (ap not c.if-not-span_in.false))
-
-pub too_many-requires : goal.too_many-requires
-too_many-requires c =
-    let tree = tree_of c.args.parent.now c.args.depth.now c.args.len.now c.args.run.now c.args.words.now in
-    within tree _ _ _ _ _ c.args.s c.args.sp c.requires c.if-stores-s.false c.book_of-b.result c.book_of-b.ensures
 
 pub returns-then-too_many : goal.returns-then-too_many
 returns-then-too_many c =
     let tree = tree_of c.args.parent.now c.args.depth.now c.args.len.now c.args.run.now c.args.words.now in
     let books = c.args.books.now in
-    too_much tree _ _ _ _ _ c.args.s c.args.sp c.requires c.if-stores-s.false c.book_of-b.result c.book_of-b.ensures c.span_in.result (c.span_in.ensures (tree (nodes_in books) (used_in books)) refl refl) (ap not c.if-not-span_in.false) c.place_of-place.result c.place_of-place.ensures c.too_many.result c.too_many.ensures c.if-too_many.true
+    let old = pins_of c.args.pin_node.now c.args.pin_start.now c.args.pin_end.now c.args.pin_count.now in
+    too_much tree _ old _ _ _ c.args.s c.args.sp c.requires c.if-stores-s.false c.book_of-b.result c.book_of-b.ensures c.span_in.result (c.span_in.ensures (tree (nodes_in books) (used_in books)) refl refl) (ap not c.if-not-span_in.false) c.place_of-place.result (place-of (32 * c.args.s) c.book_of-b.result.entries c.args.sp c.place_of-place.result (pinned c.view.result) old c.view.ensures c.place_of-place.ensures) c.too_many.result (tested-of c.place_of-place.result c.is_ok.result c.too_many.result _ _ _ c.is_ok.ensures.value c.too_many.ensures) c.if-too_many.true
 
-pub add_pin-requires : goal.add_pin-requires
-add_pin-requires c =
+pub add-requires : goal.add-requires
+add-requires c =
     let tree = tree_of c.args.parent.now c.args.depth.now c.args.len.now c.args.run.now c.args.words.now in
     let books = c.args.books.now in
-    to_pin tree _ _ _ _ _ c.args.s c.args.sp c.requires c.if-stores-s.false c.book_of-b.result c.book_of-b.ensures c.span_in.result (c.span_in.ensures (tree (nodes_in books) (used_in books)) refl refl) (ap not c.if-not-span_in.false) c.place_of-place.result c.place_of-place.ensures c.too_many.result c.too_many.ensures c.if-too_many.false
-
-pub overflow_add-b : goal.overflow_add-b
-overflow_add-b c =
-    let tree = tree_of c.args.parent.now c.args.depth.now c.args.len.now c.args.run.now c.args.words.now in
-    let books = c.args.books.now in
-    omega (arith, sum_fits tree _ _ _ _ _ c.args.s c.args.sp c.requires c.if-stores-s.false c.book_of-b.result c.book_of-b.ensures c.span_in.result (c.span_in.ensures (tree (nodes_in books) (used_in books)) refl refl) (ap not c.if-not-span_in.false) c.place_of-place.result c.place_of-place.ensures c.too_many.result c.too_many.ensures c.if-too_many.false)
-
-pub put_book-requires : goal.put_book-requires
-put_book-requires c = in_books c.requires c.if-stores-s.false
+    let old = pins_of c.args.pin_node.now c.args.pin_start.now c.args.pin_end.now c.args.pin_count.now in
+    to_pin tree _ old _ _ _ c.args.s c.args.sp c.requires c.if-stores-s.false c.book_of-b.result c.book_of-b.ensures c.span_in.result (c.span_in.ensures (tree (nodes_in books) (used_in books)) refl refl) (ap not c.if-not-span_in.false) c.place_of-place.result (place-of (32 * c.args.s) c.book_of-b.result.entries c.args.sp c.place_of-place.result (pinned c.view.result) old c.view.ensures c.place_of-place.ensures) c.too_many.result (tested-of c.place_of-place.result c.is_ok.result c.too_many.result _ _ _ c.is_ok.ensures.value c.too_many.ensures) c.if-too_many.false
 
 pub returns : goal.returns
 returns c =
     let tree = tree_of c.args.parent.now c.args.depth.now c.args.len.now c.args.run.now c.args.words.now in
     let books = c.args.books.now in
-    let k = c.add_pin in
-    pin-ends tree _ _ _ _ _ c.args.s c.args.sp c.requires c.if-stores-s.false c.book_of-b.result c.book_of-b.ensures c.span_in.result (c.span_in.ensures (tree (nodes_in books) (used_in books)) refl refl) (ap not c.if-not-span_in.false) c.place_of-place.result c.place_of-place.ensures c.too_many.result c.too_many.ensures c.if-too_many.false
-    (pins_of k.new.node k.new.start k.new.end k.new.count) c.put_book.new.books k.result k.ensures c.put_book.ensures
+    let old = pins_of c.args.pin_node.now c.args.pin_start.now c.args.pin_end.now c.args.pin_count.now in
+    pin-ends tree _ old _ _ _ c.args.s c.args.sp c.requires c.if-stores-s.false c.book_of-b.result c.book_of-b.ensures c.span_in.result (c.span_in.ensures (tree (nodes_in books) (used_in books)) refl refl) (ap not c.if-not-span_in.false) c.place_of-place.result (place-of (32 * c.args.s) c.book_of-b.result.entries c.args.sp c.place_of-place.result (pinned c.view.result) old c.view.ensures c.place_of-place.ensures) c.too_many.result (tested-of c.place_of-place.result c.is_ok.result c.too_many.result _ _ _ c.is_ok.ensures.value c.too_many.ensures) c.if-too_many.false
+    (pins_of _ _ _ _) c.put_book.new.books c.add.result (pins-back (lent c.add.new.self) (search rules) (search rules) (search rules) (search rules) ∙ c.add.ensures.columns, c.add.ensures.entries) c.put_book.ensures

@@ -2,22 +2,16 @@
 use mathlib.Core.Path.{sym, ◌∙◌}
 use native.Mathlib.Omega.{arith}
 use Rattle.test_arguments.proofs.Need.{number_fits}
-use Rattle.call_remove.proofs.Laws.{none-zero, nodes_fit, placed_in, need-asked, span_good, refused-span, need-refused}
+use Rattle.call_remove.proofs.Laws.{none-zero, placed_in, span_good, refused-span, need-refused}
 use Rattle.std.proofs.Common.{ap}
 use mathlib.Core.Bool.{not}
 use Rattle.call_remove.proofs.refusal.Goals as goal
-
-pub span_in-requires : goal.span_in-requires
-span_in-requires c = nodes_fit c.requires.1
 
 pub returns-then-not-span_in : goal.returns-then-not-span_in
 returns-then-not-span_in c = record { value = λ st l v long. refused-span v c.args.sp l long c.span_in.ensures (ap not c.if-not-span_in.true); fits_at = none-zero (omega arith) }
 
 pub need_at-need-requires : goal.need_at-need-requires
 need_at-need-requires c = placed_in c.requires.1
-
-pub need_number-requires : goal.need_number-requires
-need_number-requires c = need-asked c.requires.1
 
 pub returns : goal.returns
 returns c = let f = c.need_at-need in record {

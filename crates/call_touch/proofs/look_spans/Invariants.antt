@@ -1,10 +1,5 @@
-use Prim.Native.Nat.{◌-◌, ◌≤◌}
-use lib.ListN.{length}
 use Rattle.call_touch.specs.Looking.{Looks}
 use Rattle.call_touch.proofs.look_spans.Given as goal
 
-abbrev pub invariant-loop-i : goal.invariant-loop-i
-invariant-loop-i l = record { high : l.i ≤ length l.spans; made : Looks l.spans l.len l.initial.y l.i l.y }
-
-abbrev pub decreases-loop-i : goal.decreases-loop-i
-decreases-loop-i l = length l.spans - l.i
+abbrev pub invariant-loop-sp : goal.invariant-loop-sp
+invariant-loop-sp l = Looks l.spans l.len l.initial.y l.sp-index l.y

@@ -4,8 +4,8 @@ use Rattle.shape_state.specs.Lent.{ranges_of}
 use Rattle.call_touch_span.proofs.Laws.{run_asks_number, run_asks_touch, run_asks_on, run-refused, run-taken}
 use Rattle.call_touch_span.proofs.one_turn.Goals as goal
 
-pub turn_number-number-requires : goal.turn_number-number-requires
-turn_number-number-requires c = let z = c.args in
+pub turn_number-number-requires-clause-placed : goal.turn_number-number-requires-clause-placed
+turn_number-number-requires-clause-placed c = let z = c.args in
     let p = c.requires in
     run_asks_number p.others p.books z.sp z.depth.now z.bytes.now (ranges_of z.node.now z.start.now z.end.now z.id.now z.stamp.now z.touched.now z.write.now) z.marks.now z.s z.refreshes z.y z.time z.counted p.ready
 

@@ -1,128 +1,19 @@
 -- `call_touch_span::touch_pools` meets its contract: the store's part of each pool is lent on, and what was laid into the part is laid into the pool. Assumes nothing.
 use Prim.Native.Nat.{◌*◌}
-use native.Mathlib.Nat.{le-add_right, add-sub_cancel_left}
+use native.Mathlib.Nat.{add-sub_cancel_left}
 use Rattle.shape_state.specs.Lent.{ranges_of}
 use Rattle.pool_part.specs.Parts.{mid_ranges, back_ranges}
-use Rattle.pool_part.proofs.Bounds.{rec_fits, rec_end-fits, rec_fits8, rec_fits4, rec_ends, mark_fits, mark_end-fits, mark_fits8, mark_ends}
 use Rattle.call_touch_span.proofs.Laws.{pool_one, pool_two, pool_three, pool_touched}
 use Rattle.call_touch_span.proofs.touch_pools.Goals as goal
 
-pub overflow_mul-a : goal.overflow_mul-a
-overflow_mul-a c = rec_fits c.requires.store
-
-pub overflow_add-e : goal.overflow_add-e
-overflow_add-e c = rec_end-fits c.requires.store
-
-pub overflow_mul-b : goal.overflow_mul-b
-overflow_mul-b c = mark_fits c.requires.store
-
-pub overflow_add-f : goal.overflow_add-f
-overflow_add-f c = mark_end-fits c.requires.store
-
-pub offset_bounds-node-a : goal.offset_bounds-node-a
-offset_bounds-node-a c = rec_fits8 c.requires.store
-
-pub slice_bounds-store_used-count : goal.slice_bounds-store_used-count
-slice_bounds-store_used-count c = le-add_right _ _
-
-pub slice_bounds-store_used-start : goal.slice_bounds-store_used-start
-slice_bounds-store_used-start c = le-add_right _ _
-
-pub slice_bounds-store_used-end : goal.slice_bounds-store_used-end
-slice_bounds-store_used-end c = rec_ends c.requires.store c.requires.ranges.node
-
-pub offset_bounds-start-a : goal.offset_bounds-start-a
-offset_bounds-start-a c = rec_fits8 c.requires.store
-
-pub slice_bounds-store_used-count-2 : goal.slice_bounds-store_used-count-2
-slice_bounds-store_used-count-2 c = le-add_right _ _
-
-pub slice_bounds-store_used-start-2 : goal.slice_bounds-store_used-start-2
-slice_bounds-store_used-start-2 c = le-add_right _ _
-
-pub slice_bounds-store_used-end-2 : goal.slice_bounds-store_used-end-2
-slice_bounds-store_used-end-2 c = rec_ends c.requires.store c.requires.ranges.start
-
-pub offset_bounds-end-a : goal.offset_bounds-end-a
-offset_bounds-end-a c = rec_fits8 c.requires.store
-
-pub slice_bounds-store_used-count-3 : goal.slice_bounds-store_used-count-3
-slice_bounds-store_used-count-3 c = le-add_right _ _
-
-pub slice_bounds-store_used-start-3 : goal.slice_bounds-store_used-start-3
-slice_bounds-store_used-start-3 c = le-add_right _ _
-
-pub slice_bounds-store_used-end-3 : goal.slice_bounds-store_used-end-3
-slice_bounds-store_used-end-3 c = rec_ends c.requires.store c.requires.ranges.end
-
-pub offset_bounds-id-a : goal.offset_bounds-id-a
-offset_bounds-id-a c = rec_fits8 c.requires.store
-
-pub slice_bounds-store_used-count-4 : goal.slice_bounds-store_used-count-4
-slice_bounds-store_used-count-4 c = le-add_right _ _
-
-pub slice_bounds-store_used-start-4 : goal.slice_bounds-store_used-start-4
-slice_bounds-store_used-start-4 c = le-add_right _ _
-
-pub slice_bounds-store_used-end-4 : goal.slice_bounds-store_used-end-4
-slice_bounds-store_used-end-4 c = rec_ends c.requires.store c.requires.ranges.id
-
-pub offset_bounds-stamp-a : goal.offset_bounds-stamp-a
-offset_bounds-stamp-a c = rec_fits8 c.requires.store
-
-pub slice_bounds-store_used-count-5 : goal.slice_bounds-store_used-count-5
-slice_bounds-store_used-count-5 c = le-add_right _ _
-
-pub slice_bounds-store_used-start-5 : goal.slice_bounds-store_used-start-5
-slice_bounds-store_used-start-5 c = le-add_right _ _
-
-pub slice_bounds-store_used-end-5 : goal.slice_bounds-store_used-end-5
-slice_bounds-store_used-end-5 c = rec_ends c.requires.store c.requires.ranges.stamp
-
-pub offset_bounds-touched-a : goal.offset_bounds-touched-a
-offset_bounds-touched-a c = rec_fits8 c.requires.store
-
-pub slice_bounds-store_used-count-6 : goal.slice_bounds-store_used-count-6
-slice_bounds-store_used-count-6 c = le-add_right _ _
-
-pub slice_bounds-store_used-start-6 : goal.slice_bounds-store_used-start-6
-slice_bounds-store_used-start-6 c = le-add_right _ _
-
-pub slice_bounds-store_used-end-6 : goal.slice_bounds-store_used-end-6
-slice_bounds-store_used-end-6 c = rec_ends c.requires.store c.requires.ranges.touched
-
-pub offset_bounds-write-a : goal.offset_bounds-write-a
-offset_bounds-write-a c = rec_fits4 c.requires.store
-
-pub slice_bounds-store_used-count-7 : goal.slice_bounds-store_used-count-7
-slice_bounds-store_used-count-7 c = le-add_right _ _
-
-pub slice_bounds-store_used-start-7 : goal.slice_bounds-store_used-start-7
-slice_bounds-store_used-start-7 c = le-add_right _ _
-
-pub slice_bounds-store_used-end-7 : goal.slice_bounds-store_used-end-7
-slice_bounds-store_used-end-7 c = rec_ends c.requires.store c.requires.ranges.write
-
-pub offset_bounds-marks-b : goal.offset_bounds-marks-b
-offset_bounds-marks-b c = mark_fits8 c.requires.store
-
-pub slice_bounds-store_used-count-8 : goal.slice_bounds-store_used-count-8
-slice_bounds-store_used-count-8 c = le-add_right _ _
-
-pub slice_bounds-store_used-start-8 : goal.slice_bounds-store_used-start-8
-slice_bounds-store_used-start-8 c = le-add_right _ _
-
-pub slice_bounds-store_used-end-8 : goal.slice_bounds-store_used-end-8
-slice_bounds-store_used-end-8 c = mark_ends c.requires.store c.requires.marks
-
-pub store_used-requires : goal.store_used-requires
+pub touch_part-requires : goal.touch_part-requires
 unfolding mid_ranges
-store_used-requires c = let s = c.args.s in
+touch_part-requires c = let s = c.args.s in
     record { n_bound = pool_one c.requires _ (add-sub_cancel_left (128 * s) 128); start_lt_end = pool_two c.requires _ (add-sub_cancel_left (256 * s) 256); touch_fits = pool_three c.requires _ (add-sub_cancel_left (128 * s) 128) }
 
 pub returns : goal.returns
 unfolding mid_ranges back_ranges
 returns c = let s = c.args.s in
-    let k = c.store_used in
+    let k = c.touch_part in
     pool_touched c.requires {q = ranges_of k.new.node k.new.start k.new.end k.new.id k.new.stamp k.new.touched k.new.write} {ms₂ = k.new.marks} {r = k.result}
     c.args.time c.args.counted _ _ (add-sub_cancel_left (128 * s) 128) (add-sub_cancel_left (256 * s) 256) k.ensures

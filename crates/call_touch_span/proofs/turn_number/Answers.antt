@@ -5,12 +5,13 @@ use Rattle.call_touch_span.proofs.Laws.{ordered_part, needs-part}
 use Rattle.call_touch_span.proofs.turn_number.Goals as goal
 
 pub touch_need-w-requires : goal.touch_need-w-requires
-touch_need-w-requires c = ordered_part c.args.s c.args.n _ _ _ _ (add-sub_cancel_left (128 * c.args.s) 128) c.requires.0
+touch_need-w-requires c = let r = c.args.ranges in
+    ordered_part c.args.s _ r.node.now r.start.now r.end.now _ (add-sub_cancel_left (128 * c.args.s) 128) c.requires.placed.0
 
 pub returns : goal.returns
-returns c = let f = c.touch_need-w in
+returns c = let r = c.args.ranges in
     record {
-      needs = f.result;
-      are = needs-part c.args.s c.args.n _ _ _ _ (add-sub_cancel_left (128 * c.args.s) 128) c.args.sp c.args.refreshes f.result f.ensures;
+      needs = c.touch_need-w.result;
+      are = needs-part c.args.s _ r.node.now r.start.now r.end.now _ (add-sub_cancel_left (128 * c.args.s) 128) _ _ _ c.touch_need-w.ensures;
       number = c.need_number.ensures;
     }

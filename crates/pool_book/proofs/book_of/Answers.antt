@@ -1,12 +1,11 @@
--- `pool_book::book_of` meets its contract: the store's row is read, and its book is made of it. Assumes nothing.
-use Rattle.std.proofs.Common.{ℕ, take, drop, ap, ◌∙◌}
+-- `pool_book::book_of` meets its contract: the store's book is made of its row. Assumes nothing.
+use Rattle.std.proofs.Common.{◌≡◌, ◌+◌, ◌-◌, ◌∙◌, arith}
 use Rattle.model.specs.Sizes.{store_numbers}
-use Rattle.model.specs.State.{book_from}
 use Rattle.pool_book.proofs.Laws.{book-at}
 use Rattle.pool_book.proofs.book_of.Goals as goal
 
 pub returns : goal.returns
-returns c = let l = c.args.books.now in
-    c.book_from.ensures
-    ∙ ap book_from (c.row_at-row.ensures ∙ ap (λ (a : ℕ). take store_numbers (drop a l)) c.first_of-a.ensures)
-    ∙ book-at l c.args.s
+returns c =
+    let a = c.first_of-a.result in
+    let eight : a + 8 - a ≡ store_numbers = omega arith in
+    c.book_from.ensures ∙ rw (eight, c.first_of-a.ensures) (book-at c.args.books.now c.args.s)

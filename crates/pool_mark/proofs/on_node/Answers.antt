@@ -1,15 +1,9 @@
--- `pool_mark::on_node` meets its contract: the ranges passed are not on the node.
-use Rattle.pool_mark.proofs.Laws.{look_start, look_turn, look_found, look_end}
+-- `pool_mark::on_node` meets its contract: the nodes looked at are those of the ranges. Assumes nothing.
+use Rattle.std.proofs.Common.{◌+◌, ◌≤◌, length, ◌∙◌, arith}
+use Rattle.pool_mark.proofs.Laws.{found-on}
 use Rattle.pool_mark.proofs.on_node.Goals as goal
 
-pub loop-i-init : goal.loop-i-init
-loop-i-init c = look_start _ _ _
-
-pub returns-then-node-i : goal.returns-then-node-i
-returns-then-node-i c = look_found _ _ _ _ c.loop-i.invariant c.loop-i-test.true c.if-node-i.true
-
-pub loop-i-preserved : goal.loop-i-preserved
-loop-i-preserved c = look_turn _ _ _ _ c.loop-i.invariant c.loop-i-test.true c.if-node-i.false
-
 pub returns : goal.returns
-returns c = look_end _ _ _ _ c.loop-i.invariant c.loop-i-test.false
+returns c ranges e =
+    let room : 0 + c.args.n ≤ length ranges.node = rw e (omega arith) in
+    c.contains.ensures.value ∙ rw (← e) (found-on c.args.v ranges 0 c.args.n room)

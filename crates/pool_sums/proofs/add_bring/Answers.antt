@@ -14,7 +14,7 @@ add_at-requires c = (
 pub add_outs-requires : goal.add_outs-requires
 add_outs-requires c = (
   c.requires.0,
-  let e = c.gave_at-place.ensures in omega (
+  let e = c.gave_at.ensures in omega (
     arith,
     gave_low c.args.capacity
         c.args.s c.requires.0,
@@ -24,12 +24,12 @@ add_outs-requires c = (
   bring-rest
       c.args.capacity c.args.s
       c.args.blocks c.args.o
-      c.args.sums.now c.gave_at-place.result
-      c.requires.0 c.gave_at-place.ensures
+      c.args.sums.now c.gave_at.result
+      c.requires.0 c.gave_at.ensures
       c.requires.2 c.add_at.ensures,
 )
 
 pub returns : goal.returns
 returns c = bring-added c.args.capacity c.args.s c.args.blocks c.args.o c.args.sums.now
-    c.gave_at-place.result c.gave_at-place.ensures
+    c.gave_at.result c.gave_at.ensures
     c.add_at.ensures c.add_outs.ensures

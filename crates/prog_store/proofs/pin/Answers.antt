@@ -1,7 +1,6 @@
 -- `prog_store::pin` keeps the state sound, by the equation of its call. Assumes nothing.
 use Rattle.prog_store.proofs.Laws.{pin-keeps}
-use native.Mathlib.Omega.{arith}
 use Rattle.prog_store.proofs.pin.Goals as goal
 
 pub returns : goal.returns
-returns c = (pin-keeps _ _ _ _ c.pin_source-r.result c.pin_source-r.ensures c.requires.0, omega (arith, c.put_plain.ensures.high, c.requires.1))
+returns c = pin-keeps _ _ _ _ c.pin_source-r.result c.pin_source-r.ensures c.requires.0

@@ -1,7 +1,6 @@
 -- `prog_store::touch` keeps the state sound, by the equation of its call; a list that is too long changes nothing. Assumes nothing.
-use native.Mathlib.Omega.{arith}
 use Rattle.prog_store.proofs.Laws.{touch-keeps}
 use Rattle.prog_store.proofs.touch.Goals as goal
 
 pub returns : goal.returns
-returns c = (touch-keeps _ _ _ _ _ _ c.store_used_array-r.result c.store_used_array-r.ensures c.requires.0, omega (arith, c.put_bytes_read.ensures.high, c.requires.1))
+returns c = touch-keeps _ _ _ _ _ _ c.store_used_array-r.result c.store_used_array-r.ensures c.requires.0

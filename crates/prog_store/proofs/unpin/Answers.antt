@@ -1,7 +1,6 @@
 -- `prog_store::unpin` keeps the state sound, by the equation of its call. Assumes nothing.
 use Rattle.prog_store.proofs.Laws.{unpin-keeps}
-use native.Mathlib.Omega.{arith}
 use Rattle.prog_store.proofs.unpin.Goals as goal
 
 pub returns : goal.returns
-returns c = (unpin-keeps _ _ _ _ c.unpin_source-r.result c.unpin_source-r.ensures c.requires.0, omega (arith, c.put_plain.ensures.high, c.requires.1))
+returns c = unpin-keeps _ _ _ _ c.unpin_source-r.result c.unpin_source-r.ensures c.requires.0

@@ -1,32 +1,27 @@
 -- `rule_choose::first_free` meets its contract: going down, the best so far is the first of the records from there on.
-use mathlib.Core.Bool.{not}
-use mathlib.Core.Path.{refl, sym, ap, ◌∙◌}
-use native.Mathlib.Omega.{arith}
-use Rattle.rule_choose.proofs.Laws.{best_start, best_skip, best_take, best_stay, best_end}
+use Rattle.std.proofs.Common.{not, refl, sym, ap, [], arith}
+use Rattle.rule_choose.proofs.Laws.{best_start, best_skip, best_take, best_stay, best_within, best_end}
 use Rattle.rule_choose.proofs.first_free.Goals as goal
+use Rattle.rule_choose.proofs.first_free.Goals.{else-leads-via-then-leads+else-not-is_pinned, else-leads-via-else-leads}
 
 pub loop-i-init : goal.loop-i-init
-loop-i-init c = (omega arith, λ count write touched. best_start _ _ _)
+loop-i-init c = λ count. best_start _ _ _
+
+pub leads-requires : goal.leads-requires
+leads-requires c = let p = c.requires.n_in_bounds in
+    (p.3, p.4, omega arith, best_within _ _ _ _ _ (c.loop-i.invariant []))
 
 pub loop-i-preserved-then-not-is_pinned : goal.loop-i-preserved-then-not-is_pinned
-loop-i-preserved-then-not-is_pinned c = (
-  omega (arith, c.loop-i.invariant.0),
-  λ count write touched.
-      best_take _ _ _ _ _ _ _ (omega arith) c.loop-i.invariant.0 (ap not (sym (c.is_pinned.ensures count _ refl refl refl) ∙ c.if-not-is_pinned.true)) c.better-next.ensures (c.loop-i.invariant.1 count write touched),
-)
-
-pub loop-i-preserved-else-not-is_pinned : goal.loop-i-preserved-else-not-is_pinned
-loop-i-preserved-else-not-is_pinned c = (
-  omega (arith, c.loop-i.invariant.0),
-  λ count write touched.
-      best_skip _ _ _ _ _ _ (omega arith) c.loop-i.invariant.0 (ap not (sym (c.is_pinned.ensures count _ refl refl refl) ∙ c.if-not-is_pinned.false)) (c.loop-i.invariant.1 count write touched),
-)
+loop-i-preserved-then-not-is_pinned c = λ count.
+    best_take _ _ _ _ _ (omega arith) c.loop-i.auto.i _ (ap not (sym (c.if-not-is_pinned.ensures count _ refl refl refl))) (c.if-leads.ensures) (c.loop-i.invariant count)
 
 pub loop-i-preserved : goal.loop-i-preserved
-loop-i-preserved c = (
-  omega (arith, c.loop-i.invariant.0),
-  λ count write touched. best_stay _ _ _ _ _ _ _ (omega arith) c.loop-i.invariant.0 c.better-next.ensures c.if-next-best.false (c.loop-i.invariant.1 count write touched),
-)
+loop-i-preserved c = λ count.
+    elim c.else-leads.branch [
+      | else-leads-via-then-leads+else-not-is_pinned w ↦
+          best_skip _ _ _ _ _ (omega arith) c.loop-i.auto.i _ (ap not (sym (w.if-not-is_pinned.ensures count _ refl refl refl))) (c.loop-i.invariant count)
+      | else-leads-via-else-leads w ↦ best_stay _ _ _ _ _ (omega arith) c.loop-i.auto.i _ (w.if-leads.ensures) (c.loop-i.invariant count)
+    ]
 
 pub returns : goal.returns
-returns c = λ count write touched. c.as_found.ensures ∙ best_end _ _ _ _ _ c.loop-i-test.false (c.loop-i.invariant.1 count write touched)
+returns c = λ count. best_end _ _ _ _ _ c.loop-i-test.false (c.loop-i.invariant count)

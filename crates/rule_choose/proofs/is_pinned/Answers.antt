@@ -2,9 +2,6 @@
 use Rattle.rule_choose.proofs.Laws.{passed_start, passed-hit, passed-more, passed-end}
 use Rattle.rule_choose.proofs.is_pinned.Goals as goal
 
-pub loop-k-init : goal.loop-k-init
-loop-k-init c = passed_start
-
 pub returns-then-overlaps : goal.returns-then-overlaps
 returns-then-overlaps c = passed-hit c.loop-k.invariant c.loop-k-test.true c.overlaps.ensures c.if-overlaps.true
 

@@ -1,17 +1,19 @@
 -- `rule_choose::oldest` meets its contract: going down, the best so far is the first of the records from there on.
-use mathlib.Core.Path.{refl, ◌∙◌}
-use native.Mathlib.Omega.{arith}
-use Rattle.rule_choose.proofs.Laws.{best_start, best_take, best_end}
+use Rattle.std.proofs.Common.{refl, arith}
+use Rattle.rule_choose.proofs.Laws.{best_start, best_take, best_stay, best_within, best_end}
 use Rattle.rule_choose.proofs.oldest.Goals as goal
 
 pub loop-i-init : goal.loop-i-init
-loop-i-init c = (omega arith, λ node start end write touched. best_start _ _ _)
+loop-i-init c = best_start _ _ _
+
+pub leads-requires : goal.leads-requires
+leads-requires c = (c.requires.0, c.requires.1, omega arith, best_within _ _ _ _ _ c.loop-i.invariant)
+
+pub loop-i-preserved-then-leads : goal.loop-i-preserved-then-leads
+loop-i-preserved-then-leads c = best_take _ _ _ _ _ (omega arith) c.loop-i.auto.i _ refl (c.if-leads.ensures) c.loop-i.invariant
 
 pub loop-i-preserved : goal.loop-i-preserved
-loop-i-preserved c = (
-  omega (arith, c.loop-i.invariant.0),
-  λ node start end write touched. best_take _ _ _ _ _ _ _ (omega arith) c.loop-i.invariant.0 refl c.better-best.ensures (c.loop-i.invariant.1 node start end write touched),
-)
+loop-i-preserved c = best_stay _ _ _ _ _ (omega arith) c.loop-i.auto.i _ (c.if-leads.ensures) c.loop-i.invariant
 
 pub returns : goal.returns
-returns c = λ node start end write touched. c.as_found.ensures ∙ best_end _ _ _ _ _ c.loop-i-test.false (c.loop-i.invariant.1 node start end write touched)
+returns c = best_end _ _ _ _ _ c.loop-i-test.false c.loop-i.invariant

@@ -1,19 +1,48 @@
 -- `rule_cut::cut_ranges` meets its contract, by the law of `Cutting`. Assumes nothing.
-use Rattle.shape_state.specs.Lent.{ranges_of}
+use borrow.Author.Rules.{rules}
+use Rattle.pool_range.specs.Lent.{lent}
 use Rattle.rule_cut.proofs.Steps.{cut-start, cut-few, cut-sized, cut-end, cut-room, cut-top, cut-id, cut-turn}
 use Rattle.rule_cut.proofs.cut_ranges.Goals as goal
 
 pub loop-s-init : goal.loop-s-init
-loop-s-init c = cut-start c.args.j c.args.k c.args.m c.args.next c.args.n (ranges_of c.args.node.now c.args.start.now c.args.end.now c.args.id.now c.args.stamp.now c.args.touched.now c.args.write.now) c.requires.0 c.requires.2
+loop-s-init c = let a = c.args in
+    record { same = search rules; cutting = cut-start a.j a.k a.m a.next a.n (lent a.ranges.now) c.requires.0 c.requires.2 }
 
 pub cut_next-s-requires : goal.cut_next-s-requires
 cut_next-s-requires c =
-    let old = ranges_of c.args.node.now c.args.start.now c.args.end.now c.args.id.now c.args.stamp.now c.args.touched.now c.args.write.now in
-    let now = ranges_of c.loop-s.node c.loop-s.start c.loop-s.end c.loop-s.id c.loop-s.stamp c.loop-s.touched c.loop-s.write in
-    (c.loop-s-test.true, cut-top c.args.j c.args.k c.args.m c.args.next c.args.n old now c.loop-s.s c.requires.0 c.requires.2 c.loop-s.invariant c.loop-s-test.true, cut-few c.args.j c.args.k c.args.m c.args.next c.args.n old now c.loop-s.s c.requires.0 c.requires.2 c.loop-s.invariant, cut-room c.args.j c.args.k c.args.m c.args.next c.args.n old now c.loop-s.s c.requires.0 c.requires.2 c.loop-s.invariant c.loop-s-test.true, cut-id c.args.j c.args.k c.args.m c.args.next c.args.n old now c.loop-s.s c.requires.0 c.requires.2 c.loop-s.invariant c.loop-s-test.true c.requires.1, cut-sized c.args.j c.args.k c.args.m c.args.next c.args.n old now c.loop-s.s c.requires.0 c.requires.2 c.loop-s.invariant)
+    let a = c.args in
+    let old = lent a.ranges.now in
+    let now = lent c.loop-s.ranges in
+    let s = c.loop-s.s in
+    let o = c.loop-s.invariant.cutting in
+    let more = c.loop-s-test.true in (
+      more,
+      cut-top a.j a.k a.m a.next a.n old now s c.requires.0 c.requires.2 o more,
+      cut-few a.j a.k a.m a.next a.n old now s c.requires.0 c.requires.2 o,
+      cut-room a.j a.k a.m a.next a.n old now s c.requires.0 c.requires.2 o more,
+      cut-id a.j a.k a.m a.next a.n old now s c.requires.0 c.requires.2 o more c.requires.1,
+      cut-sized a.j a.k a.m a.next a.n old now s c.requires.0 c.requires.2 o,
+    )
 
 pub loop-s-preserved : goal.loop-s-preserved
-loop-s-preserved c = cut-turn c.args.j c.args.k c.args.m c.args.next c.args.n (ranges_of c.args.node.now c.args.start.now c.args.end.now c.args.id.now c.args.stamp.now c.args.touched.now c.args.write.now) (ranges_of c.loop-s.node c.loop-s.start c.loop-s.end c.loop-s.id c.loop-s.stamp c.loop-s.touched c.loop-s.write) c.loop-s.s c.requires.0 c.requires.2 c.loop-s.invariant c.loop-s-test.true _ _ c.cut_next-s.ensures
+loop-s-preserved c =
+    let a = c.args in
+    let e = c.cut_next-s.ensures in
+    record {
+      same = search rules;
+      cutting =
+          cut-turn a.j a.k a.m a.next a.n (lent a.ranges.now) (lent c.loop-s.ranges) c.loop-s.s c.requires.0 c.requires.2 c.loop-s.invariant.cutting c.loop-s-test.true
+          _ _ (e.columns, e.progress);
+    }
 
-pub returns : goal.returns
-returns c = cut-end c.args.j c.args.k c.args.m c.args.next c.args.n (ranges_of c.args.node.now c.args.start.now c.args.end.now c.args.id.now c.args.stamp.now c.args.touched.now c.args.write.now) (ranges_of c.loop-s.node c.loop-s.start c.loop-s.end c.loop-s.id c.loop-s.stamp c.loop-s.touched c.loop-s.write) c.loop-s.s c.requires.0 c.requires.2 c.loop-s.invariant c.loop-s-test.false
+pub returns-clause-columns : goal.returns-clause-columns
+returns-clause-columns c = let a = c.args in
+    (cut-end a.j a.k a.m a.next a.n (lent a.ranges.now) (lent c.loop-s.ranges) c.loop-s.s c.requires.0 c.requires.2 c.loop-s.invariant.cutting c.loop-s-test.false).0
+
+pub returns-clause-count : goal.returns-clause-count
+returns-clause-count c = let a = c.args in
+    (cut-end a.j a.k a.m a.next a.n (lent a.ranges.now) (lent c.loop-s.ranges) c.loop-s.s c.requires.0 c.requires.2 c.loop-s.invariant.cutting c.loop-s-test.false).1
+
+pub returns-clause-ids : goal.returns-clause-ids
+returns-clause-ids c = let a = c.args in
+    (cut-end a.j a.k a.m a.next a.n (lent a.ranges.now) (lent c.loop-s.ranges) c.loop-s.s c.requires.0 c.requires.2 c.loop-s.invariant.cutting c.loop-s-test.false).2

@@ -1,29 +1,19 @@
--- `rule_cut::move_range` meets its contract: each column is closed over the place, and what moves stands in the last one. Assumes nothing.
-use Rattle.pool_range.proofs.Records.{ranges_eq, within}
-use Rattle.rule_cut.specs.Cut.{move_range}
+-- `rule_cut::move_range` meets its contract: what is taken out stands in the place that it leaves. Assumes nothing.
+use mathlib.Core.Path.{ap, ◌∙◌}
+use native.Mathlib.Omega.{arith}
+use Rattle.model.specs.State.{Ranges, range_at}
+use Rattle.pool_range.specs.Lent.{lent}
+use Rattle.pool_range.specs.Part.{range_of, Sized}
+use Rattle.rule_cut.proofs.Moved.{moved-range, cut-sized}
 use Rattle.rule_cut.proofs.move_range.Goals as goal
 
-pub cut_usize-requires : goal.cut_usize-requires
-cut_usize-requires c = (c.requires.0, within c.requires.1 c.requires.4.node)
+pub put-requires : goal.put-requires
+put-requires c = let a = c.args in
+    let s : Sized 128 (lent c.cut.new.self) = rw c.cut.ensures.columns (cut-sized a.n a.p (lent a.ranges.now) c.requires.0 c.requires.1 c.requires.4) in
+    (omega arith, omega (arith, c.requires.0), s)
 
-pub cut_usize-requires-2 : goal.cut_usize-requires-2
-cut_usize-requires-2 c = (c.requires.0, within c.requires.1 c.requires.4.start)
-
-pub cut_usize-requires-3 : goal.cut_usize-requires-3
-cut_usize-requires-3 c = (c.requires.0, within c.requires.1 c.requires.4.end)
-
-pub cut_u64-requires : goal.cut_u64-requires
-cut_u64-requires c = (c.requires.0, within c.requires.1 c.requires.4.id)
-
-pub cut_u64-requires-2 : goal.cut_u64-requires-2
-cut_u64-requires-2 c = (c.requires.0, within c.requires.1 c.requires.4.stamp)
-
-pub cut_f64-requires : goal.cut_f64-requires
-cut_f64-requires c = (c.requires.0, within c.requires.1 c.requires.4.touched)
-
-pub cut_u32-requires : goal.cut_u32-requires
-cut_u32-requires c = (c.requires.0, within c.requires.1 c.requires.4.write)
-
-pub returns : goal.returns
-unfolding move_range
-returns c = ranges_eq c.cut_usize.ensures c.cut_usize-2.ensures c.cut_usize-3.ensures c.cut_u64.ensures c.cut_u64-2.ensures c.cut_f64.ensures c.cut_u32.ensures
+pub returns-clause-columns : goal.returns-clause-columns
+returns-clause-columns c = let a = c.args in
+    rw (c.put.ensures.columns, c.cut.ensures.columns)
+    (moved-range a.n a.p a.k a.m (range_of c.at-r.result) (lent a.ranges.now) c.requires.0 c.requires.1 c.requires.4
+    (c.at-r.ensures ∙ ap (λ (x : Ranges). range_at x a.p) c.view.ensures))

@@ -3,6 +3,6 @@ use mathlib.Core.Path.{refl}
 use Rattle.rule_cut.specs.Cut.{split_range}
 use Rattle.rule_cut.proofs.split_range.Goals as goal
 
-pub returns : goal.returns
+pub returns-clause-columns : goal.returns-clause-columns
 unfolding split_range
-returns c = refl
+returns-clause-columns c = refl

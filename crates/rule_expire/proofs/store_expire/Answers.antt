@@ -1,64 +1,45 @@
 -- `rule_expire::store_expire` meets its contract, by the laws of `Expiring`.
-use native.Mathlib.Omega.{arith}
-use Rattle.shape_state.specs.Lent.{ranges_of}
-use Rattle.shape_answer.specs.Lists.{out_list}
+use Rattle.std.proofs.Common.{rules, sym, subst, arith}
+use Rattle.model.specs.Sizes.{store_records}
+use Rattle.pool_range.specs.Lent.{lent}
+use Rattle.pool_range.specs.Part.{Sized}
+use Rattle.pool_out.specs.Outs.{listed}
 use Rattle.pool_range.proofs.Records.{within}
 use Rattle.rule_trim.proofs.Trim.{going-few, going-reach, going-tables, long-fits}
 use Rattle.rule_expire.proofs.Laws.{expire-start, expire-end, expire-place, expire-room, expire-taken, expire-less, expire-turn}
 use Rattle.rule_expire.proofs.store_expire.Goals as goal
 
 pub loop-i-init : goal.loop-i-init
-loop-i-init c = expire-start c.requires _ _ (omega arith)
+loop-i-init c = (search rules, search rules, expire-start c.requires _ _ (omega arith))
 
-pub oldest_aged-requires : goal.oldest_aged-requires
-oldest_aged-requires c = let p = c.requires in
-    let l = c.loop-i in
-    let v = l.invariant in
-    let f = going-few p v.going in
-    let z = v.going.sized in
-    (within f z.id, within f z.stamp, within f z.touched)
+pub store_evict_entry-gone-requires-clause-i_lt_n : goal.store_evict_entry-gone-requires-clause-i_lt_n
+store_evict_entry-gone-requires-clause-i_lt_n c = let v = c.loop-i.invariant.2 in
+    (expire-place c.requires _ _ v _ (rw c.view.ensures at c.oldest_aged.ensures) c.in-Some.is, going-few c.requires v.going, v.going.sized)
 
-pub returns-in_default : goal.returns-in_default
-returns-in_default c = let p = c.requires in
-    let l = c.loop-i in
-    let v = l.invariant in
-    expire-end p _ _ v c.oldest_aged.result (c.oldest_aged.ensures l.node l.start l.end l.write) c.in_default.is
+pub store_evict_entry-gone-requires-clause-reach : goal.store_evict_entry-gone-requires-clause-reach
+store_evict_entry-gone-requires-clause-reach c = let v = c.loop-i.invariant.2 in (
+  going-reach c.requires v.going _ (expire-place c.requires _ _ v _ (rw c.view.ensures at c.oldest_aged.ensures) c.in-Some.is),
+  going-tables c.requires v.going,
+)
 
-pub store_evict_entry-g-requires : goal.store_evict_entry-g-requires
-store_evict_entry-g-requires c = let p = c.requires in
-    let l = c.loop-i in
-    let v = l.invariant in
-    let i = expire-place p _ _ v c.oldest_aged.result (c.oldest_aged.ensures l.node l.start l.end l.write) c.in-At.is in record { i_lt_n = (i, going-few p v.going, v.going.sized); reach = (going-reach p v.going _ i, going-tables p v.going) }
+pub put-requires : goal.put-requires
+put-requires c = let v = c.loop-i.invariant.2 in
+    (expire-room c.requires _ _ v _ (rw c.view.ensures at c.oldest_aged.ensures) c.in-Some.is, long-fits v.going.same c.requires.fits)
 
-pub overflow_sub-h : goal.overflow_sub-h
-overflow_sub-h c = let p = c.requires in
-    let l = c.loop-i in
-    let v = l.invariant in
-    expire-taken p _ _ v c.oldest_aged.result (c.oldest_aged.ensures l.node l.start l.end l.write) c.in-At.is c.store_evict_entry-g.ensures.taken
-
-pub put_out-requires : goal.put_out-requires
-put_out-requires c = let p = c.requires in
-    let l = c.loop-i in
-    let v = l.invariant in
-    (expire-room p _ _ v c.oldest_aged.result (c.oldest_aged.ensures l.node l.start l.end l.write) c.in-At.is, long-fits v.going.same p.fits)
-
-pub overflow_add-k : goal.overflow_add-k
-overflow_add-k c = let p = c.requires in
-    let l = c.loop-i in
-    let v = l.invariant in
-    omega (arith, expire-room p _ _ v c.oldest_aged.result (c.oldest_aged.ensures l.node l.start l.end l.write) c.in-At.is)
+pub overflow_sub-e : goal.overflow_sub-e
+overflow_sub-e c =
+    expire-taken c.requires _ _ c.loop-i.invariant.2 _ (rw c.view.ensures at c.oldest_aged.ensures) c.in-Some.is c.store_evict_entry-gone.ensures.gone.taken
 
 pub loop-i-smaller : goal.loop-i-smaller
-loop-i-smaller c = let p = c.requires in
-    let l = c.loop-i in
-    let v = l.invariant in
-    let e = c.store_evict_entry-g in
-    expire-less p _ _ v c.oldest_aged.result (c.oldest_aged.ensures l.node l.start l.end l.write) c.in-At.is {cʹ = ranges_of e.new.node e.new.start e.new.end e.new.id e.new.stamp e.new.touched e.new.write} {msʹ = e.new.marks} e.ensures
+loop-i-smaller c = let e = c.store_evict_entry-gone in
+    expire-less c.requires _ _ c.loop-i.invariant.2 _ (rw c.view.ensures at c.oldest_aged.ensures) c.in-Some.is {cʹ = lent e.new.ranges} {msʹ = e.new.marks} e.ensures.gone
 
 pub loop-i-preserved : goal.loop-i-preserved
-loop-i-preserved c = let p = c.requires in
-    let l = c.loop-i in
-    let v = l.invariant in
-    let e = c.store_evict_entry-g in
-    let q = c.put_out in
-    expire-turn p _ _ v c.oldest_aged.result (c.oldest_aged.ensures l.node l.start l.end l.write) c.in-At.is {cʹ = ranges_of e.new.node e.new.start e.new.end e.new.id e.new.stamp e.new.touched e.new.write} {msʹ = e.new.marks} e.ensures {lʹ = out_list q.new.node q.new.start q.new.end q.new.write q.new.bytes q.new.dead} q.ensures
+loop-i-preserved c = let e = c.store_evict_entry-gone in (
+  search rules,
+  search rules,
+  expire-turn c.requires _ _ c.loop-i.invariant.2 _ (rw c.view.ensures at c.oldest_aged.ensures) c.in-Some.is {cʹ = lent e.new.ranges} {msʹ = e.new.marks} e.ensures.gone {lʹ = listed c.put.new.self} c.put.ensures.list,
+)
+
+pub returns-clause-expired : goal.returns-clause-expired
+returns-clause-expired c = expire-end c.requires _ _ c.loop-i.invariant.2 _ (rw c.view.ensures at c.oldest_aged.ensures) c.in_default.is

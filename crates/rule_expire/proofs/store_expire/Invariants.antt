@@ -1,10 +1,12 @@
-use Rattle.shape_state.specs.Lent.{ranges_of}
-use Rattle.shape_answer.specs.Lists.{out_list}
+use Rattle.pool_range.specs.Lent.{lent, SameColumns}
+use Rattle.pool_out.specs.Outs.{listed, SameOuts}
 use Rattle.rule_expire.proofs.Laws.{Expiring}
 use Rattle.rule_expire.proofs.store_expire.Given as goal
 
 abbrev pub invariant-loop-i : goal.invariant-loop-i
-invariant-loop-i l = Expiring l.depth l.bytes l.time l.seconds l.n l.version (ranges_of l.initial.node l.initial.start l.initial.end l.initial.id l.initial.stamp l.initial.touched l.initial.write) l.initial.marks (out_list l.initial.out_node l.initial.out_start l.initial.out_end l.initial.out_write l.initial.out_bytes l.initial.out_dead) l.left (ranges_of l.node l.start l.end l.id l.stamp l.touched l.write) l.marks (out_list l.out_node l.out_start l.out_end l.out_write l.out_bytes l.out_dead) l.h l.k l.v
+invariant-loop-i l = SameColumns l.initial.ranges l.ranges
+    × SameOuts l.initial.outs l.outs
+    × Expiring l.depth l.bytes l.time l.seconds l.n l.version (lent l.initial.ranges) l.initial.marks (listed l.initial.outs) l.e.n (lent l.ranges) l.marks (listed l.outs) l.e.held l.e.outs l.e.version
 
 abbrev pub decreases-loop-i : goal.decreases-loop-i
-decreases-loop-i l = l.left
+decreases-loop-i l = l.e.n

@@ -1,10 +1,7 @@
-use Prim.Native.Nat.{◌-◌}
-use Rattle.shape_state.specs.Lent.{ranges_of}
+use Rattle.pool_range.specs.Lent.{lent, SameColumns}
 use Rattle.rule_fill.proofs.Laws.{Filling}
 use Rattle.rule_fill.proofs.fill.Given as goal
 
-abbrev pub invariant-loop-done : goal.invariant-loop-done
-invariant-loop-done l = Filling (ranges_of l.initial.node l.initial.start l.initial.end l.initial.id l.initial.stamp l.initial.touched l.initial.write) l.n l.nd l.g.from l.g.upto l.g.n l.top l.next l.time l.w (ranges_of l.node l.start l.end l.id l.stamp l.touched l.write) l.done
-
-abbrev pub decreases-loop-done : goal.decreases-loop-done
-decreases-loop-done l = l.g.n - l.done
+abbrev pub invariant-loop-i : goal.invariant-loop-i
+invariant-loop-i l = SameColumns l.initial.ranges l.ranges
+    × Filling (lent l.initial.ranges) l.n l.fresh.node l.gaps.list l.gaps.n l.fresh.stamp l.fresh.id l.fresh.time l.fresh.write (lent l.ranges) l.i

@@ -1,17 +1,16 @@
 -- `rule_fill::place_for` meets its contract: the records passed so far stand before the range, by the laws of `Passing`.
-use native.Mathlib.Omega.{arith}
-use mathlib.Core.Path.{sym, ◌∙◌}
+use Rattle.std.proofs.Common.{arith}
 use Rattle.rule_fill.proofs.Missing.{passing_start, passing_here, passing_turn, passing_end}
 use Rattle.rule_fill.proofs.place_for.Goals as goal
 
 pub loop-i-init : goal.loop-i-init
-loop-i-init c = passing_start _ _ _ _ _
+loop-i-init c = passing_start _ _ _ _
 
 pub returns-then-goes_before : goal.returns-then-goes_before
-returns-then-goes_before c = (omega arith, passing_here _ _ _ _ _ _ c.loop-i.invariant c.loop-i-test.true (sym c.if-goes_before.true ∙ c.goes_before.ensures))
+returns-then-goes_before c = (omega arith, passing_here c.loop-i.invariant c.loop-i-test.true c.if-goes_before.ensures)
 
 pub loop-i-preserved : goal.loop-i-preserved
-loop-i-preserved c = passing_turn _ _ _ _ _ _ c.loop-i.invariant c.loop-i-test.true (sym c.if-goes_before.false ∙ c.goes_before.ensures)
+loop-i-preserved c = passing_turn c.loop-i.invariant c.loop-i-test.true c.if-goes_before.ensures
 
 pub returns : goal.returns
-returns c = (c.loop-i.invariant.high, passing_end _ _ _ _ _ _ c.loop-i.invariant c.loop-i-test.false)
+returns c = (omega arith, passing_end c.loop-i.invariant (omega arith))

@@ -1,12 +1,17 @@
--- `rule_grow::reparent` meets its contract: node by node, by the laws of `Adopting`.
-use Rattle.rule_grow.proofs.Laws.{adopt-start, adopt-turn, adopt-end}
+-- `rule_grow::reparent` meets its contract: node by node.
+use mathlib.Core.Path.{refl}
+use native.Mathlib.Omega.{arith}
+use Rattle.model.specs.Insert.{adopt}
+use Rattle.rule_grow.proofs.Laws.{adopt-turn, adopt-end}
 use Rattle.rule_grow.proofs.reparent.Goals as goal
 
-pub loop-i-init : goal.loop-i-init
-loop-i-init c = adopt-start _ _ _ _ c.requires.0 c.requires.1
+pub loop-p-init : goal.loop-p-init
+loop-p-init c = record { front = refl; high = omega arith; is = refl }
 
-pub loop-i-preserved : goal.loop-i-preserved
-loop-i-preserved c = adopt-turn _ _ _ _ _ _ _ c.loop-i.invariant c.loop-i-test.true c.adopt.ensures
+pub loop-p-preserved : goal.loop-p-preserved
+loop-p-preserved c = let a = c.args in
+    adopt-turn (adopt a.j a.m) _ _ _ _ c.loop-p.invariant c.loop-p-test.true c.adopt.ensures
 
 pub returns : goal.returns
-returns c = adopt-end _ _ _ _ _ _ c.loop-i.invariant c.loop-i-test.false
+returns c = let a = c.args in
+    adopt-end a.j a.m a.nodes a.parent.now _ _ c.requires.0 c.loop-p.invariant c.loop-p-test.false

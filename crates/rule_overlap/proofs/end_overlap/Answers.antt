@@ -1,18 +1,15 @@
 -- `rule_overlap::end_overlap` meets its contract: the records passed are overlapped, and since the records stand in order none behind the first that isn't is.
-use mathlib.Core.Path.{sym, ◌∙◌}
-use native.Mathlib.Omega.{arith}
-use Rattle.rule_overlap.proofs.Laws.{each_more}
-use Rattle.rule_overlap.proofs.Places.{overlap_end, overlap_all}
+use Rattle.std.proofs.lemmas.Iterator.{first_from_Range}
+use Rattle.std.proofs.Common.{◌≡◌, true, false, rules, tests}
+use Rattle.rule_overlap.specs.Overlap.{meets_at}
+use Rattle.rule_overlap.proofs.Places.{overlap_found}
 use Rattle.rule_overlap.proofs.end_overlap.Goals as goal
 
-pub loop-i-init : goal.loop-i-init
-loop-i-init c = (omega arith, c.requires.1.within, λ k l u. absurd (omega arith))
-
-pub returns-then-not-meets_at : goal.returns-then-not-meets_at
-returns-then-not-meets_at c = let v = c.loop-i.invariant in overlap_end _ _ _ _ _ c.requires.0 _ _ c.requires.1 v.0 c.loop-i-test.true v.2 (sym c.meets_at.ensures ∙ c.if-not-meets_at.true)
-
-pub loop-i-preserved : goal.loop-i-preserved
-loop-i-preserved c = let v = c.loop-i.invariant in (omega arith, omega arith, each_more _ _ _ v.2 (sym c.meets_at.ensures ∙ c.if-not-meets_at.false))
-
 pub returns : goal.returns
-returns c = let v = c.loop-i.invariant in overlap_all _ _ _ _ _ _ _ c.requires.1 v.0 v.1 c.loop-i-test.false v.2
+returns c =
+    let r = c.args.ranges in
+    let meets = meets_at r.node.now r.start.now r.end.now c.args.sp in
+    rw c.unwrap_or.ensures (overlap_found _ _ _ _ _ c.requires.0 _ c.requires.1 _
+    (first_from_Range _ _ _ _ (λ i. meets i ≡ false) (λ i. meets i ≡ true) c.find.ensures.ran
+    (λ x q k. search (rules, tests))
+    (λ x q k. (search rules, search (rules, tests)))))

@@ -5,7 +5,7 @@ use Rattle.rule_resolve.proofs.Laws.{match-whole, halve-start, halve_up, halve-d
 use Rattle.rule_resolve.proofs.matched.Goals as goal
 
 pub returns-then-hashes-pos-clause-by_index : goal.returns-then-hashes-pos-clause-by_index
-returns-then-hashes-pos-clause-by_index c = λ parent depth nodes used. matched-is _ _ _ _ _ _ c.smaller-c.ensures (match-whole _ (eq-eqb _ _ c.if-hashes-pos.true))
+returns-then-hashes-pos-clause-by_index c = λ parent depth nodes used. matched-is _ _ _ _ _ _ c.min-c.ensures (match-whole _ (eq-eqb _ _ c.if-hashes-pos.true))
 
 pub loop-hi-init : goal.loop-hi-init
 loop-hi-init c = halve-start _ (omega arith) (ne_eqb _ _ c.if-hashes-pos.false)
@@ -17,4 +17,4 @@ pub loop-hi-preserved : goal.loop-hi-preserved
 loop-hi-preserved c = halve-down _ c.loop-hi.invariant (omega arith) (ne_eqb _ _ c.if-hashes-pos-2.false)
 
 pub returns-clause-by_index : goal.returns-clause-by_index
-returns-clause-by_index c = λ parent depth nodes used. matched-is _ _ _ _ _ _ c.smaller-c.ensures (halve-end _ c.loop-hi.invariant (omega arith))
+returns-clause-by_index c = λ parent depth nodes used. matched-is _ _ _ _ _ _ c.min-c.ensures (halve-end _ c.loop-hi.invariant (omega arith))

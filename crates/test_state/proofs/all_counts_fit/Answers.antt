@@ -1,20 +1,15 @@
 -- `test_state::all_counts_fit` meets its contract: a test of each store. Assumes nothing.
-use Rattle.test_state.proofs.Books.{counts_said}
-use Rattle.test_tree.proofs.Each.{each_none, each_more, each-whole, each_not}
-use Rattle.theory_refuse.proofs.Says.{says_true, says_false}
-use native.Mathlib.Omega.{arith}
+use Rattle.std.proofs.Common.{ℕ, refl, rules, tests}
+use Rattle.std.proofs.lemmas.Iterator.{cases_from_all, YieldsList-from_range}
+use Rattle.model.specs.State.{stores_in}
+use Rattle.test_tree.proofs.Each.{each_says}
+use Rattle.test_state.specs.Stores.{CountsFit}
 use Rattle.test_state.proofs.all_counts_fit.Goals as goal
 
-pub loop-s-init : goal.loop-s-init
-loop-s-init c = (omega arith, each_none _ 0)
-
-pub returns-then-not-counts_fit : goal.returns-then-not-counts_fit
-returns-then-not-counts_fit c = let said = counts_said c.args.books.now c.loop-s.s c.book_of-b.ensures c.counts_fit.result c.counts_fit.ensures in
-    each_not c.loop-s.invariant.0 c.loop-s-test.true (says_false c.if-not-counts_fit.true said)
-
-pub loop-s-preserved : goal.loop-s-preserved
-loop-s-preserved c = let said = counts_said c.args.books.now c.loop-s.s c.book_of-b.ensures c.counts_fit.result c.counts_fit.ensures in
-    (omega arith, each_more c.loop-s.invariant.1 (says_true c.if-not-counts_fit.false said))
-
 pub returns : goal.returns
-returns c = each-whole c.loop-s.invariant.1 c.loop-s-test.false
+returns c =
+    let a = c.args in
+    let Fits : ℕ → Type 0 = CountsFit a.books.now in
+    each_says Fits 0 (stores_in a.books.now) c.all.result
+    (cases_from_all _ _ c.all.result Fits (λ s. Fits s → ⊥) c.all.ensures.ran (YieldsList-from_range 0 (stores_in a.books.now) _ refl refl)
+    (λ x q k. search (rules, tests)) (λ x q k. search (rules, tests)))

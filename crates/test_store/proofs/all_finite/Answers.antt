@@ -1,17 +1,14 @@
 -- `test_store::all_finite` meets its contract: a test of each from a up to `b`. Assumes nothing.
-use Rattle.test_tree.proofs.Each.{each_none, each_more, each-whole, each_not}
-use Rattle.theory_refuse.proofs.Says.{says_true, says_false}
-use native.Mathlib.Omega.{arith}
+use Rattle.std.proofs.Common.{ℕ, refl, rules, tests}
+use Rattle.std.proofs.lemmas.Iterator.{cases_from_all, YieldsList-from_range}
+use Rattle.test_tree.proofs.Each.{each_says}
+use Rattle.test_store.specs.Records.{FiniteAt}
 use Rattle.test_store.proofs.all_finite.Goals as goal
 
-pub loop-i-init : goal.loop-i-init
-loop-i-init c = (omega arith, each_none _ _)
-
-pub returns-then-not-finite : goal.returns-then-not-finite
-returns-then-not-finite c = each_not c.loop-i.invariant.0 c.loop-i-test.true (says_false c.if-not-finite.true c.finite.ensures)
-
-pub loop-i-preserved : goal.loop-i-preserved
-loop-i-preserved c = (omega arith, each_more c.loop-i.invariant.1 (says_true c.if-not-finite.false c.finite.ensures))
-
 pub returns : goal.returns
-returns c = each-whole c.loop-i.invariant.1 c.loop-i-test.false
+returns c =
+    let a = c.args in
+    let Fits : ℕ → Type 0 = FiniteAt a.touched.now in
+    each_says Fits a.a a.b c.all.result
+    (cases_from_all _ _ c.all.result Fits (λ i. Fits i → ⊥) c.all.ensures.ran (YieldsList-from_range a.a a.b _ refl refl) (λ x q k. search (rules, tests))
+    (λ x q k. search (rules, tests)))

@@ -1,35 +1,23 @@
 -- `test_store::pinned_is` meets its contract: the sum so far is that of the entries passed, and at most 1,024,000,000 for each. Assumes nothing.
-use Prim.Native.Nat.{◌+◌, ◌-◌}
-use mathlib.Core.Path.{refl, ◌≡◌, sym, ◌∙◌}
+use Rattle.std.proofs.Common.{◌-◌, arith}
 use Rattle.model.specs.State.{at}
-use Rattle.test_store.specs.Pins.{pinned_from}
-use Rattle.test_store.proofs.Sums.{pinned-more, product, pinned_too_much}
-use native.Mathlib.Omega.{arith}
+use Rattle.test_store.proofs.Sums.{pinned-more, pinned_none, product, pinned_too_much}
 use Rattle.test_store.proofs.pinned_is.Goals as goal
 
-pub loop-i-init : goal.loop-i-init
-unfolding pinned_from
-loop-i-init c = (omega arith, refl, omega arith)
+pub loop-k-init : goal.loop-k-init
+loop-k-init c = (pinned_none c.args.start.now c.args.end.now c.args.count.now c.args.a, omega arith)
 
-pub returns-then-c-gt1000000 : goal.returns-then-c-gt1000000
-returns-then-c-gt1000000 c = pinned_too_much c.args.start.now c.args.end.now c.args.count.now c.args.a c.loop-i-test.true (c.requires.6 (c.args.a + c.loop-i.i) (omega arith) (omega (arith, c.loop-i-test.true))).0 c.if-c-gt1000000.true c.requires.5
+pub returns-then-count-k-gt1000000 : goal.returns-then-count-k-gt1000000
+returns-then-count-k-gt1000000 c =
+    let a = c.args in
+    let k = c.loop-k.k in
+    pinned_too_much a.start.now a.end.now a.count.now a.a a.n k a.pinned c.loop-k.auto.k c.loop-k-test.true (c.requires.6 k c.loop-k.auto.k c.loop-k-test.true).0 c.if-count-k-gt1000000.true c.requires.5
 
-pub overflow_sub-l : goal.overflow_sub-l
-overflow_sub-l c = omega (arith, (c.requires.6 (c.args.a + c.loop-i.i) (omega arith) (omega (arith, c.loop-i-test.true))))
-
-pub overflow_mul-sum : goal.overflow_mul-sum
-overflow_mul-sum c = omega (arith, (let h = (c.requires.6 (c.args.a + c.loop-i.i) (omega arith) (omega (arith, c.loop-i-test.true))) in product (at c.args.end.now (c.args.a + c.loop-i.i) - at c.args.start.now (c.args.a + c.loop-i.i)) (at c.args.count.now (c.args.a + c.loop-i.i)) (omega (arith, h.1)) c.if-c-gt1000000.false))
-
-pub overflow_add-sum : goal.overflow_add-sum
-overflow_add-sum c = let h = (let h = (c.requires.6 (c.args.a + c.loop-i.i) (omega arith) (omega (arith, c.loop-i-test.true))) in product (at c.args.end.now (c.args.a + c.loop-i.i) - at c.args.start.now (c.args.a + c.loop-i.i)) (at c.args.count.now (c.args.a + c.loop-i.i)) (omega (arith, h.1)) c.if-c-gt1000000.false) in omega arith
-
-pub loop-i-preserved : goal.loop-i-preserved
-loop-i-preserved c = let h = (let h = (c.requires.6 (c.args.a + c.loop-i.i) (omega arith) (omega (arith, c.loop-i-test.true))) in product (at c.args.end.now (c.args.a + c.loop-i.i) - at c.args.start.now (c.args.a + c.loop-i.i)) (at c.args.count.now (c.args.a + c.loop-i.i)) (omega (arith, h.1)) c.if-c-gt1000000.false) in
-    let m = pinned-more c.args.start.now c.args.end.now c.args.count.now c.args.a c.loop-i.i in
-    (omega arith, omega arith, omega arith)
-
-pub returns-then-sum-pinned : goal.returns-then-sum-pinned
-returns-then-sum-pinned c = λ e. c.if-sum-pinned.true ((let e : c.loop-i.i ≡ c.args.n = omega arith in rw (← e) c.loop-i.invariant.1) ∙ sym e)
-
-pub returns : goal.returns
-returns c = sym c.if-sum-pinned.false ∙ (let e : c.loop-i.i ≡ c.args.n = omega arith in rw (← e) c.loop-i.invariant.1)
+pub loop-k-preserved : goal.loop-k-preserved
+loop-k-preserved c =
+    let l = c.loop-k in
+    let a = c.args in
+    let h = c.requires.6 l.k l.auto.k c.loop-k-test.true in
+    let p = product (at a.end.now l.k - at a.start.now l.k) (at a.count.now l.k) (omega (arith, h.1)) c.if-count-k-gt1000000.false in
+    let m = pinned-more a.start.now a.end.now a.count.now a.a l.k l.auto.k in
+    (omega arith, omega arith)

@@ -1,10 +1,6 @@
-use Prim.Native.Nat.{◌-◌, ◌*◌, ◌≤◌}
-use mathlib.Core.Path.{◌≡◌}
+use Rattle.std.proofs.Common.{◌≡◌, ◌-◌, ◌*◌, ◌≤◌}
 use Rattle.test_store.specs.Pins.{pinned_from}
 use Rattle.test_store.proofs.pinned_is.Given as goal
 
-abbrev pub invariant-loop-i : goal.invariant-loop-i
-invariant-loop-i l = (l.i ≤ l.n) × (l.sum ≡ pinned_from l.start l.end l.count l.a l.i) × (l.sum ≤ 1024000000 * l.i)
-
-abbrev pub decreases-loop-i : goal.decreases-loop-i
-decreases-loop-i l = l.n - l.i
+abbrev pub invariant-loop-k : goal.invariant-loop-k
+invariant-loop-k l = (l.sum ≡ pinned_from l.start l.end l.count l.a (l.k - l.a)) × (l.sum ≤ 1024000000 * (l.k - l.a))

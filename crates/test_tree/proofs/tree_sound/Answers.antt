@@ -1,32 +1,30 @@
 -- `test_tree::tree_sound` meets its contract: each test's answer is a fact of the tree, and together they are all of them. Assumes nothing.
-use Rattle.theory_refuse.proofs.Says.{says_true, says_false}
-use Rattle.test_tree.proofs.Tree.{fits-of, owner_of, unlike_of, tree_is, runs-end, runs-start}
-use native.Mathlib.Omega.{arith}
+use Rattle.std.proofs.Common.{sym, ◌∙◌}
+use Rattle.theory_refuse.proofs.Says.{says_true, says_false, map_says, sure}
+use Rattle.test_tree.proofs.Tree.{fits-of, owner_of, unlike_of, tree_is}
 use Rattle.test_tree.proofs.tree_sound.Goals as goal
+use Rattle.test_tree.proofs.tree_sound.Goals.{then-tree_sized, else-tree_sized, then-nodes_fit, else-nodes_fit}
 
-pub returns-then-not-tree_sized : goal.returns-then-not-tree_sized
-returns-then-not-tree_sized c = λ h. (says_false c.if-not-tree_sized.true c.tree_sized.ensures) h.sized
+pub returns-then-runs_apart : goal.returns-then-runs_apart
+returns-then-runs_apart c =
+    elim c.if-nodes_fit.branch [
+      | then-nodes_fit w ↦ elim c.if-tree_sized.branch [
+        | then-tree_sized v ↦
+            let sized = says_true v.if-tree_sized.true c.tree_sized.ensures in
+            let fits = says_true (sym v.value-is ∙ w.if-nodes_fit.true) v.nodes_fit.ensures in
+            let owner = says_true (sym w.value-is ∙ c.if-runs_apart.true) w.runs_apart.ensures in
+            map_says c.siblings_differ.result (tree_is sized fits owner) unlike_of (sure _ c.siblings_differ.ensures)
+        | else-tree_sized v ↦ absurd (cc)
+      ]
+      | else-nodes_fit w ↦ absurd (cc)
+    ]
 
-pub nodes_fit-requires : goal.nodes_fit-requires
-nodes_fit-requires c = let s = (says_true c.if-not-tree_sized.false c.tree_sized.ensures) in
-    omega (arith, s.high, s.lent.parent, s.lent.depth, s.lent.len, s.lent.run)
-
-pub returns-then-not-nodes_fit : goal.returns-then-not-nodes_fit
-returns-then-not-nodes_fit c = λ h. (says_false c.if-not-nodes_fit.true c.nodes_fit.ensures) (fits-of h)
-
-pub runs_apart-requires : goal.runs_apart-requires
-runs_apart-requires c = let s = (says_true c.if-not-tree_sized.false c.tree_sized.ensures) in
-    (s.high, omega (arith, s.high, s.lent.run), omega (arith, s.high, s.lent.len), runs-end s (says_true c.if-not-nodes_fit.false c.nodes_fit.ensures))
-
-pub returns-then-not-runs_apart : goal.returns-then-not-runs_apart
-returns-then-not-runs_apart c = λ h. (says_false c.if-not-runs_apart.true c.runs_apart.ensures) (owner_of h)
-
-pub siblings_differ-requires : goal.siblings_differ-requires
-siblings_differ-requires c = let s = (says_true c.if-not-tree_sized.false c.tree_sized.ensures) in
-    (s.high, omega (arith, s.high, s.lent.parent), omega (arith, s.high, s.lent.run), runs-start s (says_true c.if-not-nodes_fit.false c.nodes_fit.ensures))
-
-pub returns-then-not-siblings_differ : goal.returns-then-not-siblings_differ
-returns-then-not-siblings_differ c = λ h. (says_false c.if-not-siblings_differ.true c.siblings_differ.ensures) (unlike_of h)
-
-pub returns : goal.returns
-returns c = tree_is (says_true c.if-not-tree_sized.false c.tree_sized.ensures) (says_true c.if-not-nodes_fit.false c.nodes_fit.ensures) (says_true c.if-not-runs_apart.false c.runs_apart.ensures) (says_true c.if-not-siblings_differ.false c.siblings_differ.ensures)
+pub returns-else-runs_apart : goal.returns-else-runs_apart
+returns-else-runs_apart c =
+    rw c.if-runs_apart.false (λ h. elim c.if-nodes_fit.branch [
+      | then-nodes_fit w ↦ says_false (sym w.value-is ∙ c.if-runs_apart.false) w.runs_apart.ensures (owner_of h)
+      | else-nodes_fit w ↦ elim c.if-tree_sized.branch [
+        | then-tree_sized v ↦ says_false (sym v.value-is ∙ w.if-nodes_fit.false) v.nodes_fit.ensures (fits-of h)
+        | else-tree_sized v ↦ says_false v.if-tree_sized.false c.tree_sized.ensures h.sized
+      ]
+    ])

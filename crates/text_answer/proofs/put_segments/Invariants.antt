@@ -1,11 +1,7 @@
 -- `text_answer::put_segments` writes at most 42 bytes a segment. Assumes nothing.
-use Prim.Native.Nat.{◌+◌, ◌*◌, ◌-◌, ◌≤◌}
-use mathlib.Core.Path.{◌≡◌}
-use lib.ListN.{length}
+use Rattle.std.proofs.Common.{◌*◌}
+use Rattle.text_page.specs.Page.{Wrote}
 use Rattle.text_answer.proofs.put_segments.Given as goal
 
 abbrev pub invariant-loop-i : goal.invariant-loop-i
-invariant-loop-i l = (l.at ≤ l.next) × (l.next ≤ l.at + 42 * l.i) × (l.i ≤ l.n) × (length l.out ≡ length l.initial.out)
-
-abbrev pub decreases-loop-i : goal.decreases-loop-i
-decreases-loop-i l = l.n - l.i
+invariant-loop-i g l = Wrote (42 * l.i) l.fn.page l.page

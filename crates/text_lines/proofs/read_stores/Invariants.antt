@@ -1,9 +1,9 @@
-use Prim.Native.Nat.{◌≤◌, ◌-◌}
-use lib.ListN.{length}
+-- `text_lines::read_stores` counts at most 9, and each turn goes past a word.
+use Rattle.std.proofs.Common.{◌≤◌, length}
 use Rattle.text_lines.proofs.read_stores.Given as goal
 
-abbrev pub invariant-loop-at : goal.invariant-loop-at
-invariant-loop-at l = (l.at ≤ length l.s) × (l.n ≤ 9)
+abbrev pub invariant-loop-line : goal.invariant-loop-line
+invariant-loop-line l = l.n ≤ 9
 
-abbrev pub decreases-loop-at : goal.decreases-loop-at
-decreases-loop-at l = length l.s - l.at
+abbrev pub decreases-loop-line : goal.decreases-loop-line
+decreases-loop-line l = length l.line.rest.now

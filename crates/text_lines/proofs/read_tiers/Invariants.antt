@@ -1,9 +1,7 @@
--- `text_lines::read_tiers` stays inside the word and the list: each turn goes past a comma. Assumes nothing.
-use Prim.Native.Nat.{◌≤◌, ◌-◌}
+-- `text_lines::read_tiers` fills at most nine places.
+use Rattle.std.proofs.Common.{◌≤◌}
 use Rattle.text_lines.proofs.read_tiers.Given as goal
 
-abbrev pub invariant-loop-at : goal.invariant-loop-at
-invariant-loop-at l = (l.at ≤ l.z) × (l.n ≤ 9)
-
-abbrev pub decreases-loop-at : goal.decreases-loop-at
-decreases-loop-at l = l.z - l.at
+abbrev pub invariant-loop-tier : goal.invariant-loop-tier
+invariant-loop-tier l =
+    (goal.iterator-loop-tier).can_next l.tier-iterator × (goal.iterator-loop-tier).is_finite l.tier-iterator × (l.n ≤ 9)

@@ -1,11 +1,7 @@
 -- `text_report::put_stores` writes at most 300 bytes a store. Assumes nothing.
-use Prim.Native.Nat.{◌+◌, ◌*◌, ◌-◌, ◌≤◌}
-use mathlib.Core.Path.{◌≡◌}
-use lib.ListN.{length}
+use Rattle.std.proofs.Common.{◌*◌}
+use Rattle.text_page.specs.Page.{Wrote}
 use Rattle.text_report.proofs.put_stores.Given as goal
 
 abbrev pub invariant-loop-s : goal.invariant-loop-s
-invariant-loop-s l = (l.at ≤ l.next) × (l.next ≤ l.at + 300 * l.s) × (l.s ≤ l.stores) × (length l.out ≡ length l.initial.out)
-
-abbrev pub decreases-loop-s : goal.decreases-loop-s
-decreases-loop-s l = l.stores - l.s
+invariant-loop-s g l = Wrote (300 * l.s) l.fn.page l.page

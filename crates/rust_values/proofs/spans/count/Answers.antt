@@ -4,4 +4,4 @@ use Rattle.rust_values.proofs.Front.{spans_length}
 use Rattle.rust_values.proofs.spans.count.Goals as goal
 
 pub returns : goal.returns
-returns c = omega (arith, c.least.ensures, c.least-two.ensures, spans_length c.args.on.now c.args.from.now c.args.upto.now)
+returns c = omega (arith, c.min.ensures, c.min-2.ensures, spans_length c.args.on.now c.args.from.now c.args.upto.now)

@@ -1,7 +1,0 @@
--- `rule_fill::from_at` meets its contract: the first element, or any one.
-use mathlib.Core.Path.{sym, ap}
-use Rattle.model.specs.State.{at}
-use Rattle.rule_fill.proofs.from_at.Goals as goal
-
-pub returns-then-i-eq0 : goal.returns-then-i-eq0
-returns-then-i-eq0 c = ap (at c.args.g.from) (sym c.if-i-eq0.true)

@@ -1,9 +1,0 @@
--- `rust_values::told::store_used` meets its contract: each arm knows its case. Assumes nothing.
-use mathlib.Core.Path.{sym, ap}
-use borrow.Author.Rules.{rules}
-use Rattle.shape_answer.specs.Answers.{store_used_of}
-use Rattle.rust_values.specs.Told.{laid, touch_values}
-use Rattle.rust_values.proofs.told.store_used.Goals as goal
-
-pub returns-in-Done : goal.returns-in-Done
-returns-in-Done c = (search rules, sym (ap (λ a. laid touch_values (store_used_of a) c.args.answer.now) c.in-Done.is))
