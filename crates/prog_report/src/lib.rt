@@ -10,7 +10,8 @@ ghost use Rattle.prog_report.specs.Kept.{InOrder, Begun, one_more, count_one, co
 use known::{
     Inserted, Looked, NUMBERS, Plain, StoreExpired, StoreInserted, StoreRemoved, StoreUsed,
 };
-use text_answer::{Outs, Segments, TierSpans};
+use prog_store::OutLists;
+use prog_tree::{PathLists, TierLists};
 use text_lines::Op;
 
 // A count stays at 2^63 - 1.
@@ -153,7 +154,7 @@ fn give_out(
 {
     match op {
         Op::Bring(s, sp, time, w) => {
-            let mut outs = Outs::new();
+            let mut outs = OutLists::new();
             let r = call_tally_bring::tally_insert(
                 parent,
                 depth,
@@ -189,7 +190,7 @@ fn give_out(
             count_brought(counts, r)
         }
         Op::Expire(s, time, seconds) => {
-            let mut outs = Outs::new();
+            let mut outs = OutLists::new();
             let r = call_tally_expire::tally_expire(
                 parent,
                 depth,
@@ -355,7 +356,7 @@ pub fn call(
 {
     match op {
         Op::Insert(n) => {
-            let mut path = Segments::new();
+            let mut path = PathLists::new();
             let r = known::insert(
                 parent,
                 depth,
@@ -383,8 +384,8 @@ pub fn call(
             count_inserted(counts, r)
         }
         Op::Lookup(k, n) => {
-            let mut path = Segments::new();
-            let mut spans = TierSpans::new();
+            let mut path = PathLists::new();
+            let mut spans = TierLists::new();
             let r = call_tally_lookup::tally_lookup(
                 &*parent,
                 &*depth,

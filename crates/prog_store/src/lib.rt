@@ -1,13 +1,58 @@
 #![tactic(auto)]
 // The calls of a store: each is made on the pools, and its answer written on a page. A sound state stays sound.
-ghost use Rattle.std.specs.Prelude.{◌≤◌, length};
+ghost use Rattle.std.specs.Prelude.{◌≡◌, ◌≤◌, length, replicate};
 ghost use Rattle.model.specs.Sound.{Sound};
 ghost use Rattle.shape_answer.specs.Answers.{state_from};
+ghost use Rattle.text_answer.specs.Text.{OutRoom};
 
 use known::NUMBERS;
 use model::Span;
 use text_answer::Outs;
 use text_page::{Page, ROOM};
+
+// The lists for the spans that a call gives out.
+#[derive(Drop)]
+pub struct OutLists {
+    pub node: [usize; 128],
+    pub start: [usize; 128],
+    pub end: [usize; 128],
+    pub write: [u32; 128],
+    pub bytes: [u64; 128],
+    pub dead: [u64; 128],
+}
+
+impl OutLists {
+    pub fn new() -> Self
+        ensures { (result.node ≡ replicate 128 0)
+            × (result.start ≡ replicate 128 0)
+            × (result.end ≡ replicate 128 0)
+            × (result.write ≡ replicate 128 0)
+            × (result.bytes ≡ replicate 128 0)
+            × (result.dead ≡ replicate 128 0) }
+    {
+        OutLists {
+            node: [0; 128],
+            start: [0; 128],
+            end: [0; 128],
+            write: [0; 128],
+            bytes: [0; 128],
+            dead: [0; 128],
+        }
+    }
+
+    pub fn lend(&self) -> Outs<'_>
+        ensures { OutRoom result }
+    {
+        Outs {
+            node: &self.node,
+            start: &self.start,
+            end: &self.end,
+            write: &self.write,
+            bytes: &self.bytes,
+            dead: &self.dead,
+        }
+    }
+}
 
 // `bring`
 pub fn bring(
@@ -46,7 +91,7 @@ pub fn bring(
         pin_start.now pin_end.now pin_count.now marks.new bytes.now
         books.new) }
 {
-    let mut outs = Outs::new();
+    let mut outs = OutLists::new();
     let r = known::store_insert(
         parent,
         depth,
@@ -78,7 +123,7 @@ pub fn bring(
         time,
         w,
     );
-    text_answer::put_brought(page, &outs, r);
+    text_answer::put_brought(page, outs.lend(), r);
 }
 
 // The refusal of a touch of more than 64 spans.
@@ -244,7 +289,7 @@ pub fn expire(
         pin_start.now pin_end.now pin_count.now marks.new bytes.now
         books.new) }
 {
-    let mut outs = Outs::new();
+    let mut outs = OutLists::new();
     let r = known::store_expire(
         parent,
         depth,
@@ -275,7 +320,7 @@ pub fn expire(
         time,
         seconds,
     );
-    text_answer::put_expired(page, &outs, r);
+    text_answer::put_expired(page, outs.lend(), r);
 }
 
 // `pin`

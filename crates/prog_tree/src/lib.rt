@@ -2,14 +2,79 @@
 // Set-up, the calls of the tree, lookup and the state's line: each is made on the pools, and its answer written on a page.
 //
 // The state is 19 arrays. Once a set-up was accepted it is sound, and stays so.
-ghost use Rattle.std.specs.Prelude.{◌≤◌, length};
+ghost use Rattle.std.specs.Prelude.{◌≡◌, ◌≤◌, length, replicate};
 ghost use Rattle.model.specs.Sound.{Sound};
 ghost use Rattle.shape_answer.specs.Answers.{state_from};
+ghost use Rattle.text_answer.specs.Text.{PathRoom, SpanRoom};
 ghost use Rattle.prog_tree.specs.Between.{SoundIfSetUp};
 
 use known::NUMBERS;
 use text_answer::{Segments, TierSpans};
 use text_page::{Page, ROOM};
+
+// The lists for a path's segments.
+#[derive(Drop)]
+pub struct PathLists {
+    pub node: [usize; 255],
+    pub len: [usize; 255],
+}
+
+impl PathLists {
+    pub fn new() -> Self
+        ensures { (result.node ≡ replicate 255 0)
+            × (result.len ≡ replicate 255 0) }
+    {
+        PathLists {
+            node: [0; 255],
+            len: [0; 255],
+        }
+    }
+
+    pub fn lend(&self) -> Segments<'_>
+        ensures { PathRoom result }
+    {
+        Segments {
+            node: &self.node,
+            len: &self.len,
+        }
+    }
+}
+
+// The lists for the spans that a lookup finds.
+#[derive(Drop)]
+pub struct TierLists {
+    pub tier: [usize; 1024],
+    pub node: [usize; 1024],
+    pub start: [usize; 1024],
+    pub end: [usize; 1024],
+}
+
+impl TierLists {
+    pub fn new() -> Self
+        ensures { (result.tier ≡ replicate 1024 0)
+            × (result.node ≡ replicate 1024 0)
+            × (result.start ≡ replicate 1024 0)
+            × (result.end ≡ replicate 1024 0) }
+    {
+        TierLists {
+            tier: [0; 1024],
+            node: [0; 1024],
+            start: [0; 1024],
+            end: [0; 1024],
+        }
+    }
+
+    pub fn lend(&self) -> TierSpans<'_>
+        ensures { SpanRoom result }
+    {
+        TierSpans {
+            tier: &self.tier,
+            node: &self.node,
+            start: &self.start,
+            end: &self.end,
+        }
+    }
+}
 
 // `setup`; a refused one leaves the state as it was.
 pub fn set_up(
@@ -87,7 +152,7 @@ pub fn insert(
         end.new id.new stamp.new touched.new write.new pin_node.new
         pin_start.new pin_end.new pin_count.new marks.new bytes.now books.new) }
 {
-    let mut path = Segments::new();
+    let mut path = PathLists::new();
     let r = known::insert(
         parent,
         depth,
@@ -112,7 +177,7 @@ pub fn insert(
         &mut path.len,
         hashes,
     );
-    text_answer::put_inserted(page, &path, r);
+    text_answer::put_inserted(page, path.lend(), r);
 }
 
 // `resolve`
@@ -144,7 +209,7 @@ pub fn resolve(
         pin_node.now pin_start.now pin_end.now pin_count.now marks.now bytes.now books.now)
         × (length page.old ≤ 500000) }
 {
-    let mut path = Segments::new();
+    let mut path = PathLists::new();
     let r = known::resolve(
         parent,
         depth,
@@ -169,7 +234,7 @@ pub fn resolve(
         &mut path.len,
         hashes,
     );
-    text_answer::put_resolved(page, &path, r);
+    text_answer::put_resolved(page, path.lend(), r);
 }
 
 // `lookup`
@@ -202,8 +267,8 @@ pub fn lookup(
         pin_node.now pin_start.now pin_end.now pin_count.now marks.now bytes.now books.now)
         × (length page.old ≤ 500000) }
 {
-    let mut path = Segments::new();
-    let mut spans = TierSpans::new();
+    let mut path = PathLists::new();
+    let mut spans = TierLists::new();
     let r = known::lookup(
         parent,
         depth,
@@ -233,7 +298,7 @@ pub fn lookup(
         tiers,
         hashes,
     );
-    text_answer::put_looked_up(page, &path, &spans, r, tiers.len());
+    text_answer::put_looked_up(page, path.lend(), spans.lend(), r, tiers.len());
 }
 
 // `state`

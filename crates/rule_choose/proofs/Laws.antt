@@ -62,6 +62,11 @@ abbrev pub from_there : ℕ → Option ℕ → Option ℕ
 from_there i None = None
 from_there i (Some b) = Some (b - i)
 
+-- of the columns only the ids and the stamps tell whether a record leads
+pub leads-same : (c d : Ranges) (i : ℕ) (best : Option ℕ) → c.id ≡ d.id → c.stamp ≡ d.stamp → leads c i best ≡ leads d i best
+leads-same c d i None e f = refl
+leads-same c d i (Some b) e f = rw (e, f)
+
 module _ (may : Range → Bool) (c : Ranges) (n : ℕ) where
   -- of the records from i on, the first that may go is the best
   pub record Best (i : ℕ) (best : Option ℕ) : Type 0 where

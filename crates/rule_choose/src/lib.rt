@@ -1,7 +1,7 @@
 #![tactic(auto)]
 // Which range goes next: the first by stamp, then id, of all or of those that no pin overlaps.
 ghost use Rattle.std.specs.Prelude.{◌≡◌, ◌≤◌, ◌<◌, length, IfSome};
-ghost use Rattle.model.specs.State.{range_at};
+ghost use Rattle.model.specs.State.{Ranges, range_at};
 ghost use Rattle.model.specs.Trim.{sooner};
 ghost use Rattle.pool_range.specs.Lent.{seen};
 ghost use Rattle.rule_choose.specs.Choose.{overlapping, leads, HoldsPins, PinnedIs, FreeIs, OldestIs};
@@ -60,7 +60,13 @@ pub fn first_free(ranges: RangesRef, n: usize, pins: PinsRef, m: usize) -> Optio
     requires n_in_bounds { (n ≤ length ranges.node.now) × (n ≤ length ranges.start.now) × (n ≤ length ranges.end.now)
         × (n ≤ length ranges.id.now) × (n ≤ length ranges.stamp.now) }
     requires m_in_bounds { HoldsPins m pins }
-    ensures { FreeIs (seen ranges.entry) n pins.entry m result }
+    ensures { (c : Ranges)
+        → c.node ≡ ranges.entry.node.now
+        → c.start ≡ ranges.entry.start.now
+        → c.end ≡ ranges.entry.end.now
+        → c.id ≡ ranges.entry.id.now
+        → c.stamp ≡ ranges.entry.stamp.now
+        → FreeIs c n pins.entry m result }
 {
     let mut best = None;
     for i in (0..n).rev() {
@@ -79,7 +85,7 @@ pub fn first_free(ranges: RangesRef, n: usize, pins: PinsRef, m: usize) -> Optio
 // The first range by stamp, then id, pinned or not.
 pub fn oldest(ranges: RangesRef, n: usize) -> Option<usize>
     requires { (n ≤ length ranges.id.now) × (n ≤ length ranges.stamp.now) }
-    ensures { OldestIs (seen ranges.entry) n result }
+    ensures { (c : Ranges) → c.id ≡ ranges.entry.id.now → c.stamp ≡ ranges.entry.stamp.now → OldestIs c n result }
 {
     let mut best = None;
     for i in (0..n).rev() {

@@ -2,11 +2,11 @@
 // The gaps of a span in a store, and a record for each.
 ghost use Rattle.std.specs.Prelude.{◌≡◌, List, [], ℕ, ◌+◌, ◌≤◌, ◌<◌, ◌++◌, length, ltb, leb, eqb, ◌&&◌, ◌||◌};
 ghost use Rattle.model.specs.Store.{ranges as rangesOf, insert, lay_ranges};
-ghost use Rattle.model.specs.State.{at};
+ghost use Rattle.model.specs.State.{Ranges, at};
 ghost use Rattle.model.specs.Bring.{gaps as gapsBetween, piece, gap_blocks, fresh, fill as fillOf};
 ghost use Rattle.rule_fill.specs.Gaps.{gap_of, gaps_of, PlaceFor};
 ghost use Rattle.theory_sound.specs.Facts.{All};
-ghost use Rattle.pool_range.specs.Lent.{lent, seen, SameColumns};
+ghost use Rattle.pool_range.specs.Lent.{lent, SameColumns};
 ghost use Rattle.pool_range.specs.Part.{range_of, Sized};
 ghost use Rattle.rule_fill.specs.Fill.{Filled, Room};
 
@@ -23,8 +23,8 @@ pub struct Gap {
 // The gaps of a span, lowest first; one more than the records of a store at most.
 #[derive(Clone, Copy)]
 pub struct Gaps {
-    list: [Gap; 129],
-    n: usize,
+    pub list: [Gap; 129],
+    pub n: usize,
 }
 
 impl Gaps {
@@ -73,7 +73,11 @@ impl Gaps {
 pub fn store_missing(ranges: RangesRef, n: usize, span: Span) -> Gaps
     requires { (n ≤ 128) × (n ≤ length ranges.node.now) × (n ≤ length ranges.start.now) × (n ≤ length ranges.end.now) }
     ensures few { result.n ≤ n + 1 }
-    ensures gaps { gaps_of result ≡ gapsBetween span.node (rangesOf (seen ranges.entry) 0 n) span.start span.end }
+    ensures gaps { (c : Ranges)
+        → c.node ≡ ranges.entry.node.now
+        → c.start ≡ ranges.entry.start.now
+        → c.end ≡ ranges.entry.end.now
+        → gaps_of result ≡ gapsBetween span.node (rangesOf c 0 n) span.start span.end }
 {
     let mut gaps = Gaps::none();
     let mut from = span.start;
@@ -99,7 +103,8 @@ fn goes_before(node: usize, start: usize, ranges: RangesRef, i: usize) -> bool
 // The place of a range of a node that starts at `start`, among the records.
 pub fn place_for(ranges: RangesRef, n: usize, node: usize, start: usize) -> usize
     requires { (n ≤ length ranges.node.now) × (n ≤ length ranges.start.now) }
-    ensures { (result ≤ n) × PlaceFor node start (rangesOf (seen ranges.entry) 0 n) result }
+    ensures { (result ≤ n)
+        × ((c : Ranges) → c.node ≡ ranges.entry.node.now → c.start ≡ ranges.entry.start.now → PlaceFor node start (rangesOf c 0 n) result) }
 {
     for i in 0..n {
         if goes_before(node, start, ranges, i) {

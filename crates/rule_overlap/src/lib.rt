@@ -2,11 +2,11 @@
 
 ghost use Rattle.std.specs.Prelude.{◌≡◌, ℕ, ◌+◌, ◌-◌, ◌≤◌, ◌<◌, min, max, length};
 ghost use Rattle.model.specs.Words.{Each};
-ghost use Rattle.model.specs.State.{at};
+ghost use Rattle.model.specs.State.{Ranges, at};
 ghost use Rattle.model.specs.Store.{ranges as records, lay_ranges};
 ghost use Rattle.model.specs.Touch.{held_bytes};
 ghost use Rattle.pool_range.specs.Part.{Sized};
-ghost use Rattle.pool_range.specs.Lent.{lent, seen, SameColumns};
+ghost use Rattle.pool_range.specs.Lent.{lent, SameColumns};
 ghost use Rattle.rule_resolve.specs.Span.{Priced, only_depth};
 ghost use Rattle.rule_overlap.specs.Overlap.{Ordered, meets_at, First, Overlap, at_place, halves, TouchNeeds, RemoveNeeds};
 
@@ -50,8 +50,10 @@ pub fn held_bytes(
     requires lo_le_hi { (lo ≤ hi) × (hi ≤ 128) × (hi ≤ length ranges.start.now) × (hi ≤ length ranges.end.now)
         × Priced depth.now bytes.now sp }
     requires each { Each lo hi (λ (i : ℕ). max sp.start (at ranges.start.now i) ≤ min sp.end (at ranges.end.now i)) }
-    ensures { result
-        ≡ held_bytes (only_depth depth.now) bytes.now sp.node sp.start sp.end (records (seen ranges.entry) lo (hi - lo)) }
+    ensures { (c : Ranges)
+        → c.start ≡ ranges.entry.start.now
+        → c.end ≡ ranges.entry.end.now
+        → result ≡ held_bytes (only_depth depth.now) bytes.now sp.node sp.start sp.end (records c lo (hi - lo)) }
 {
     let mut sum = 0;
     for i in lo..hi {

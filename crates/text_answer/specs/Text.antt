@@ -1,5 +1,5 @@
--- An answer's lists are within their places. Assumes nothing.
-use Rattle.std.specs.Prelude.{ℕ, ◌≤◌}
+-- The lists that are lent have room for any answer, and an answer's lists are within their places. Assumes nothing.
+use Rattle.std.specs.Prelude.{ℕ, ◌≤◌, length}
 use Rattle.shape_answer.specs.declared.Resolved.{Resolved}
 use Rattle.shape_answer.specs.declared.Resolved.TheVariants as ResolvedIs
 use Rattle.shape_answer.specs.declared.Inserted.{Inserted}
@@ -12,6 +12,20 @@ use Rattle.shape_answer.specs.declared.StoreRemoved.{StoreRemoved}
 use Rattle.shape_answer.specs.declared.StoreRemoved.TheVariants as StoreRemovedIs
 use Rattle.shape_answer.specs.declared.Looked.{Looked}
 use Rattle.shape_answer.specs.declared.Looked.TheVariants as LookedIs
+use Rattle.text_answer.specs.declared.Segments.{Segments}
+use Rattle.text_answer.specs.declared.Outs.{Outs}
+use Rattle.text_answer.specs.declared.TierSpans.{TierSpans}
+
+abbrev pub PathRoom : Segments → Type 0
+PathRoom p = (255 ≤ length p.node.now) × (255 ≤ length p.len.now)
+
+abbrev pub OutRoom : Outs → Type 0
+OutRoom o =
+    (128 ≤ length o.node.now) × (128 ≤ length o.start.now) × (128 ≤ length o.end.now)
+    × (128 ≤ length o.write.now) × (128 ≤ length o.bytes.now) × (128 ≤ length o.dead.now)
+
+abbrev pub SpanRoom : TierSpans → Type 0
+SpanRoom s = (1024 ≤ length s.tier.now) × (1024 ≤ length s.node.now) × (1024 ≤ length s.start.now) × (1024 ≤ length s.end.now)
 
 abbrev pub PathIn : Resolved → Type 0
 PathIn (ResolvedIs.Refused n) = Unit {0}

@@ -1,8 +1,8 @@
 #![tactic(auto)]
 // The answers in the replay form, written on a page.
-ghost use Rattle.std.specs.Prelude.{◌≡◌, ◌+◌, ◌*◌, ◌≤◌, ◌<◌, length, replicate};
+ghost use Rattle.std.specs.Prelude.{◌+◌, ◌*◌, ◌≤◌, ◌<◌, length};
 ghost use Rattle.text_page.specs.Page.{Wrote};
-ghost use Rattle.text_answer.specs.Text.{PathIn, InsertIn, BringIn, ExpireIn, RemoveIn, LookupIn};
+ghost use Rattle.text_answer.specs.Text.{PathRoom, OutRoom, SpanRoom, PathIn, InsertIn, BringIn, ExpireIn, RemoveIn, LookupIn};
 
 use model::{Cut, EachTier, LookupAnswer, Path};
 use shape_answer::{
@@ -10,81 +10,33 @@ use shape_answer::{
 };
 use text_page::Page;
 
-// ---- the lists that come with an answer, each a column
+// ---- the lists that come with an answer, each a column that the caller lends
 
 // The segments of a path.
-#[derive(Drop)]
-pub struct Segments {
-    pub node: [usize; 255],
-    pub len: [usize; 255],
-}
-
-impl Segments {
-    pub fn new() -> Self
-        ensures { (result.node ≡ replicate 255 0)
-            × (result.len ≡ replicate 255 0) }
-    {
-        Segments {
-            node: [0; 255],
-            len: [0; 255],
-        }
-    }
+#[derive(Clone, Copy)]
+pub struct Segments<'a> {
+    pub node: &'a [usize],
+    pub len: &'a [usize],
 }
 
 // The spans that a call gave out.
-#[derive(Drop)]
-pub struct Outs {
-    pub node: [usize; 128],
-    pub start: [usize; 128],
-    pub end: [usize; 128],
-    pub write: [u32; 128],
-    pub bytes: [u64; 128],
-    pub dead: [u64; 128],
-}
-
-impl Outs {
-    pub fn new() -> Self
-        ensures { (result.node ≡ replicate 128 0)
-            × (result.start ≡ replicate 128 0)
-            × (result.end ≡ replicate 128 0)
-            × (result.write ≡ replicate 128 0)
-            × (result.bytes ≡ replicate 128 0)
-            × (result.dead ≡ replicate 128 0) }
-    {
-        Outs {
-            node: [0; 128],
-            start: [0; 128],
-            end: [0; 128],
-            write: [0; 128],
-            bytes: [0; 128],
-            dead: [0; 128],
-        }
-    }
+#[derive(Clone, Copy)]
+pub struct Outs<'a> {
+    pub node: &'a [usize],
+    pub start: &'a [usize],
+    pub end: &'a [usize],
+    pub write: &'a [u32],
+    pub bytes: &'a [u64],
+    pub dead: &'a [u64],
 }
 
 // The spans that a lookup found, each in its tier.
-#[derive(Drop)]
-pub struct TierSpans {
-    pub tier: [usize; 1024],
-    pub node: [usize; 1024],
-    pub start: [usize; 1024],
-    pub end: [usize; 1024],
-}
-
-impl TierSpans {
-    pub fn new() -> Self
-        ensures { (result.tier ≡ replicate 1024 0)
-            × (result.node ≡ replicate 1024 0)
-            × (result.start ≡ replicate 1024 0)
-            × (result.end ≡ replicate 1024 0) }
-    {
-        TierSpans {
-            tier: [0; 1024],
-            node: [0; 1024],
-            start: [0; 1024],
-            end: [0; 1024],
-        }
-    }
+#[derive(Clone, Copy)]
+pub struct TierSpans<'a> {
+    pub tier: &'a [usize],
+    pub node: &'a [usize],
+    pub start: &'a [usize],
+    pub end: &'a [usize],
 }
 
 // ---- parts of a line
@@ -115,8 +67,8 @@ pub fn put_span<const N: usize>(
 }
 
 // ` NODE:START-END,w=WRITE,bytes=BYTES,dead=DEAD` of the span at place i.
-fn put_out<const N: usize>(page: &mut Page<N>, outs: &Outs, i: usize)
-    requires { (i < 128) × (length page.old + 160 ≤ N) }
+fn put_out<const N: usize>(page: &mut Page<N>, outs: Outs, i: usize)
+    requires { (i < 128) × OutRoom outs × (length page.old + 160 ≤ N) }
     ensures { Wrote 139 page.old page.new }
 {
     put_span(page, b" ", outs.node[i], outs.start[i], outs.end[i]);
@@ -136,8 +88,8 @@ fn put_numbers<const N: usize, T: Copy + Into<u64>>(page: &mut Page<N>, numbers:
 }
 
 // The first n segments.
-fn put_segments<const N: usize>(page: &mut Page<N>, path: &Segments, n: usize)
-    requires { (n ≤ 255) × (length page.old + 16384 ≤ N) }
+fn put_segments<const N: usize>(page: &mut Page<N>, path: Segments, n: usize)
+    requires { (n ≤ 255) × PathRoom path × (length page.old + 16384 ≤ N) }
     ensures { Wrote 10710 page.old page.new }
 {
     for i in 0..n {
@@ -146,8 +98,8 @@ fn put_segments<const N: usize>(page: &mut Page<N>, path: &Segments, n: usize)
 }
 
 // ` path NODE:LEN .. blocks B`, after `ok`.
-fn put_path<const N: usize>(page: &mut Page<N>, path: &Segments, p: Path)
-    requires { (p.segs ≤ 255) × (length page.old + 20000 ≤ N) }
+fn put_path<const N: usize>(page: &mut Page<N>, path: Segments, p: Path)
+    requires { (p.segs ≤ 255) × PathRoom path × (length page.old + 20000 ≤ N) }
     ensures { Wrote 10800 page.old page.new }
 {
     page.push_bytes(b"ok path");
@@ -219,8 +171,8 @@ pub fn put_bytes_read<const N: usize>(page: &mut Page<N>, a: StoreUsed)
 }
 
 // A path.
-fn put_whole<const N: usize>(page: &mut Page<N>, path: &Segments, p: Path)
-    requires { (p.segs ≤ 255) × (length page.old + 32768 ≤ N) }
+fn put_whole<const N: usize>(page: &mut Page<N>, path: Segments, p: Path)
+    requires { (p.segs ≤ 255) × PathRoom path × (length page.old + 32768 ≤ N) }
     ensures { Wrote 32768 page.old page.new }
 {
     put_path(page, path, p);
@@ -228,8 +180,8 @@ fn put_whole<const N: usize>(page: &mut Page<N>, path: &Segments, p: Path)
 }
 
 // An inserted path, and the cut.
-fn put_split<const N: usize>(page: &mut Page<N>, path: &Segments, p: Path, c: Cut)
-    requires { (p.segs ≤ 255) × (length page.old + 32768 ≤ N) }
+fn put_split<const N: usize>(page: &mut Page<N>, path: Segments, p: Path, c: Cut)
+    requires { (p.segs ≤ 255) × PathRoom path × (length page.old + 32768 ≤ N) }
     ensures { Wrote 32768 page.old page.new }
 {
     put_path(page, path, p);
@@ -240,8 +192,8 @@ fn put_split<const N: usize>(page: &mut Page<N>, path: &Segments, p: Path, c: Cu
 }
 
 // The first n spans given out.
-fn put_outs<const N: usize>(page: &mut Page<N>, outs: &Outs, n: usize)
-    requires { (n ≤ 128) × (length page.old + 32768 ≤ N) }
+fn put_outs<const N: usize>(page: &mut Page<N>, outs: Outs, n: usize)
+    requires { (n ≤ 128) × OutRoom outs × (length page.old + 32768 ≤ N) }
     ensures { Wrote 32768 page.old page.new }
 {
     page.push_bytes(b"ok out");
@@ -252,8 +204,8 @@ fn put_outs<const N: usize>(page: &mut Page<N>, outs: &Outs, n: usize)
 }
 
 // The first n write numbers.
-fn put_writes<const N: usize>(page: &mut Page<N>, write: &[u32; 128], n: usize)
-    requires { (n ≤ 128) × (length page.old + 32768 ≤ N) }
+fn put_writes<const N: usize>(page: &mut Page<N>, write: &[u32], n: usize)
+    requires { (n ≤ 128) × (128 ≤ length write.now) × (length page.old + 32768 ≤ N) }
     ensures { Wrote 32768 page.old page.new }
 {
     page.push_bytes(b"ok writes");
@@ -264,8 +216,8 @@ fn put_writes<const N: usize>(page: &mut Page<N>, write: &[u32; 128], n: usize)
 // ---- a lookup's answer
 
 // ` TIER:NODE:START-END` for the first n tier spans.
-fn put_tier_spans<const N: usize>(page: &mut Page<N>, spans: &TierSpans, n: usize)
-    requires { (n ≤ 1024) × (length page.old + 86144 ≤ N) }
+fn put_tier_spans<const N: usize>(page: &mut Page<N>, spans: TierSpans, n: usize)
+    requires { (n ≤ 1024) × SpanRoom spans × (length page.old + 86144 ≤ N) }
     ensures { Wrote 86016 page.old page.new }
 {
     for i in 0..n {
@@ -297,12 +249,12 @@ fn put_all_sums<const N: usize>(page: &mut Page<N>, blocks: EachTier, bytes: Eac
 // A lookup through n tiers: the path, the tier spans, the sums.
 fn put_looked<const N: usize>(
     page: &mut Page<N>,
-    path: &Segments,
-    spans: &TierSpans,
+    path: Segments,
+    spans: TierSpans,
     d: LookupAnswer,
     n: usize,
 )
-    requires { (d.path.segs ≤ 255) × (d.spans ≤ 1024) × (n ≤ 8) × (length page.old + 131072 ≤ N) }
+    requires { (d.path.segs ≤ 255) × (d.spans ≤ 1024) × (n ≤ 8) × PathRoom path × SpanRoom spans × (length page.old + 131072 ≤ N) }
     ensures { Wrote 131072 page.old page.new }
 {
     page.push_bytes(b"ok path");
@@ -315,8 +267,8 @@ fn put_looked<const N: usize>(
 // ---- an answer of each call that has a list
 
 // A resolved path.
-pub fn put_resolved<const N: usize>(page: &mut Page<N>, path: &Segments, a: Resolved)
-    requires { PathIn a × (length page.old + 32768 ≤ N) }
+pub fn put_resolved<const N: usize>(page: &mut Page<N>, path: Segments, a: Resolved)
+    requires { PathIn a × PathRoom path × (length page.old + 32768 ≤ N) }
     ensures { Wrote 32768 page.old page.new }
 {
     match a {
@@ -326,8 +278,8 @@ pub fn put_resolved<const N: usize>(page: &mut Page<N>, path: &Segments, a: Reso
 }
 
 // An inserted path.
-pub fn put_inserted<const N: usize>(page: &mut Page<N>, path: &Segments, a: Inserted)
-    requires { InsertIn a × (length page.old + 32768 ≤ N) }
+pub fn put_inserted<const N: usize>(page: &mut Page<N>, path: Segments, a: Inserted)
+    requires { InsertIn a × PathRoom path × (length page.old + 32768 ≤ N) }
     ensures { Wrote 32768 page.old page.new }
 {
     match a {
@@ -340,8 +292,8 @@ pub fn put_inserted<const N: usize>(page: &mut Page<N>, path: &Segments, a: Inse
 }
 
 // Bring-in.
-pub fn put_brought<const N: usize>(page: &mut Page<N>, outs: &Outs, a: StoreInserted)
-    requires { BringIn a × (length page.old + 32768 ≤ N) }
+pub fn put_brought<const N: usize>(page: &mut Page<N>, outs: Outs, a: StoreInserted)
+    requires { BringIn a × OutRoom outs × (length page.old + 32768 ≤ N) }
     ensures { Wrote 32768 page.old page.new }
 {
     match a {
@@ -351,8 +303,8 @@ pub fn put_brought<const N: usize>(page: &mut Page<N>, outs: &Outs, a: StoreInse
 }
 
 // Expiry.
-pub fn put_expired<const N: usize>(page: &mut Page<N>, outs: &Outs, a: StoreExpired)
-    requires { ExpireIn a × (length page.old + 32768 ≤ N) }
+pub fn put_expired<const N: usize>(page: &mut Page<N>, outs: Outs, a: StoreExpired)
+    requires { ExpireIn a × OutRoom outs × (length page.old + 32768 ≤ N) }
     ensures { Wrote 32768 page.old page.new }
 {
     match a {
@@ -362,8 +314,8 @@ pub fn put_expired<const N: usize>(page: &mut Page<N>, outs: &Outs, a: StoreExpi
 }
 
 // Removal.
-pub fn put_removed<const N: usize>(page: &mut Page<N>, write: &[u32; 128], a: StoreRemoved)
-    requires { RemoveIn a × (length page.old + 32768 ≤ N) }
+pub fn put_removed<const N: usize>(page: &mut Page<N>, write: &[u32], a: StoreRemoved)
+    requires { RemoveIn a × (128 ≤ length write.now) × (length page.old + 32768 ≤ N) }
     ensures { Wrote 32768 page.old page.new }
 {
     match a {
@@ -375,12 +327,12 @@ pub fn put_removed<const N: usize>(page: &mut Page<N>, write: &[u32; 128], a: St
 // A lookup through n tiers.
 pub fn put_looked_up<const N: usize>(
     page: &mut Page<N>,
-    path: &Segments,
-    spans: &TierSpans,
+    path: Segments,
+    spans: TierSpans,
     a: Looked,
     n: usize,
 )
-    requires { LookupIn n a × (length page.old + 131072 ≤ N) }
+    requires { LookupIn n a × PathRoom path × SpanRoom spans × (length page.old + 131072 ≤ N) }
     ensures { Wrote 131072 page.old page.new }
 {
     match a {

@@ -125,8 +125,8 @@ impl Lines {
 
     // What the next line asks for; none where there is none any more. A turn that only reads on asks for nothing.
     //
-    // It reads on, and fails where the read fails, only where no line's end is left in the buffer and the input has not ended. Then no line was read: but for
-    // the reader, only the buffer may have changed.
+    // It reads on, and fails where the read fails, only where no line's end is left in the buffer and the input has not ended. Then no line was read, and
+    // the lists are as they were; the buffer, `from`, `to` and `seen` may have changed, as room was made.
     pub fn next_op<R: Read>(&mut self, input: &mut R, lists: &mut Lists) -> Result<Option<Op>>
         ensures ok { IfOk result (λ o. IfSome o Filled) }
         ensures read_on { OnErr result (First (is 10) self.old.buf self.old.from self.old.to self.old.to) }

@@ -4,7 +4,7 @@ use Rattle.prog_store.proofs.Laws.{remove_in, remove-keeps}
 use Rattle.prog_store.proofs.remove.Goals as goal
 
 pub put_removed-requires : goal.put_removed-requires
-put_removed-requires c = (search rules, (remove_in _ _ _ _ _ _ c.store_remove-r.result c.store_remove-r.ensures, omega (arith, c.requires.1)))
+put_removed-requires c = (search rules, (remove_in _ _ _ _ _ _ c.store_remove-r.result c.store_remove-r.ensures, search rules, omega (arith, c.requires.1)))
 
 pub returns : goal.returns
 returns c = remove-keeps _ _ _ _ _ _ c.store_remove-r.result c.store_remove-r.ensures c.requires.0

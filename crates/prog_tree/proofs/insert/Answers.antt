@@ -4,7 +4,7 @@ use Rattle.prog_tree.proofs.Laws.{insert_in, insert-keeps}
 use Rattle.prog_tree.proofs.insert.Goals as goal
 
 pub put_inserted-requires : goal.put_inserted-requires
-put_inserted-requires c = (search rules, (insert_in _ _ _ _ _ c.insert-r.result c.insert-r.ensures, omega (arith, c.requires.1)))
+put_inserted-requires c = (search rules, (insert_in _ _ _ _ _ c.insert-r.result c.insert-r.ensures, c.lend.ensures, omega (arith, c.requires.1)))
 
 pub returns : goal.returns
 returns c = insert-keeps _ _ _ _ _ c.insert-r.result c.insert-r.ensures c.requires.0

@@ -4,4 +4,4 @@ use Rattle.prog_tree.proofs.Laws.{lookup_in}
 use Rattle.prog_tree.proofs.lookup.Goals as goal
 
 pub put_looked_up-requires : goal.put_looked_up-requires
-put_looked_up-requires c = (search rules, (lookup_in _ _ _ _ _ _ _ refl c.lookup-r.result c.lookup-r.ensures, omega (arith, c.requires.1)))
+put_looked_up-requires c = (search rules, (lookup_in _ _ _ _ _ _ _ refl c.lookup-r.result c.lookup-r.ensures, c.lend.ensures, c.lend-2.ensures, omega (arith, c.requires.1)))

@@ -4,13 +4,13 @@ use Rattle.rule_fill.proofs.Missing.{passing_start, passing_here, passing_turn, 
 use Rattle.rule_fill.proofs.place_for.Goals as goal
 
 pub loop-i-init : goal.loop-i-init
-loop-i-init c = passing_start _ _ _ _
+loop-i-init c = λ d v a. passing_start _ _ _ _
 
 pub returns-then-goes_before : goal.returns-then-goes_before
-returns-then-goes_before c = (omega arith, passing_here c.loop-i.invariant c.loop-i-test.true c.if-goes_before.ensures)
+returns-then-goes_before c = (omega arith, λ d v a. passing_here (c.loop-i.invariant d v a) c.loop-i-test.true (rw (v, a) c.if-goes_before.ensures))
 
 pub loop-i-preserved : goal.loop-i-preserved
-loop-i-preserved c = passing_turn c.loop-i.invariant c.loop-i-test.true c.if-goes_before.ensures
+loop-i-preserved c = λ d v a. passing_turn (c.loop-i.invariant d v a) c.loop-i-test.true (rw (v, a) c.if-goes_before.ensures)
 
 pub returns : goal.returns
-returns c = (omega arith, passing_end c.loop-i.invariant (omega arith))
+returns c = (omega arith, λ d v a. passing_end (c.loop-i.invariant d v a) (omega arith))

@@ -1,7 +1,7 @@
 -- `rule_trim::store_trim_capacity` meets its contract, by the laws of `Trimming`.
 use Rattle.std.proofs.Common.{rules, refl, sym, subst, [], arith}
 use Rattle.model.specs.Sizes.{store_records}
-use Rattle.pool_range.specs.Lent.{lent}
+use Rattle.pool_range.specs.Lent.{lent, seen}
 use Rattle.pool_range.specs.Part.{Sized}
 use Rattle.pool_out.specs.Outs.{listed}
 use Rattle.pool_range.proofs.Records.{within}
@@ -19,31 +19,31 @@ first_free-requires-clause-n_in_bounds c = let v = c.loop-t.invariant.3 [] in
 
 pub returns-in_default-clause-trimmed : goal.returns-in_default-clause-trimmed
 returns-in_default-clause-trimmed c = λ count.
-    trim_stuck c.requires.ready _ _ (c.loop-t.invariant.3 count) c.loop-t-test.true (rw c.view.ensures at (c.first_free.ensures count)) c.in_default.is
+    trim_stuck c.requires.ready _ _ (c.loop-t.invariant.3 count) c.loop-t-test.true (rw c.view.ensures at (c.first_free.ensures (seen c.view.result) refl refl refl refl refl count)) c.in_default.is
 
 pub store_evict_entry-gone-requires-clause-i_lt_n : goal.store_evict_entry-gone-requires-clause-i_lt_n
 store_evict_entry-gone-requires-clause-i_lt_n c = let v = c.loop-t.invariant.3 [] in
-    (trim-place c.requires.ready _ _ v c.loop-t-test.true (rw c.view.ensures at (c.first_free.ensures [])) c.in-Some.is, going-few c.requires.ready v.going, v.going.sized)
+    (trim-place c.requires.ready _ _ v c.loop-t-test.true (rw c.view.ensures at (c.first_free.ensures (seen c.view.result) refl refl refl refl refl [])) c.in-Some.is, going-few c.requires.ready v.going, v.going.sized)
 
 pub store_evict_entry-gone-requires-clause-reach : goal.store_evict_entry-gone-requires-clause-reach
 store_evict_entry-gone-requires-clause-reach c = let v = c.loop-t.invariant.3 [] in
     let p = c.requires.ready in (
-      going-reach p v.going _ (trim-place p _ _ v c.loop-t-test.true (rw c.view.ensures at (c.first_free.ensures [])) c.in-Some.is),
+      going-reach p v.going _ (trim-place p _ _ v c.loop-t-test.true (rw c.view.ensures at (c.first_free.ensures (seen c.view.result) refl refl refl refl refl [])) c.in-Some.is),
       going-tables p v.going,
     )
 
 pub put-requires : goal.put-requires
 put-requires c = let v = c.loop-t.invariant.3 [] in
     let p = c.requires.ready in
-    (trim-room p _ _ v c.loop-t-test.true (rw c.view.ensures at (c.first_free.ensures [])) c.in-Some.is, long-fits v.going.same p.fits)
+    (trim-room p _ _ v c.loop-t-test.true (rw c.view.ensures at (c.first_free.ensures (seen c.view.result) refl refl refl refl refl [])) c.in-Some.is, long-fits v.going.same p.fits)
 
 pub overflow_add-t : goal.overflow_add-t
 overflow_add-t c = let v = c.loop-t.invariant.3 [] in
-    omega (arith, trim-room c.requires.ready _ _ v c.loop-t-test.true (rw c.view.ensures at (c.first_free.ensures [])) c.in-Some.is)
+    omega (arith, trim-room c.requires.ready _ _ v c.loop-t-test.true (rw c.view.ensures at (c.first_free.ensures (seen c.view.result) refl refl refl refl refl [])) c.in-Some.is)
 
 pub loop-t-smaller : goal.loop-t-smaller
 loop-t-smaller c = let v = c.loop-t.invariant.3 [] in
-    omega (arith, trim-taken c.requires.ready _ _ v c.loop-t-test.true (rw c.view.ensures at (c.first_free.ensures [])) c.in-Some.is c.store_evict_entry-gone.ensures.gone.taken)
+    omega (arith, trim-taken c.requires.ready _ _ v c.loop-t-test.true (rw c.view.ensures at (c.first_free.ensures (seen c.view.result) refl refl refl refl refl [])) c.in-Some.is c.store_evict_entry-gone.ensures.gone.taken)
 
 pub loop-t-preserved : goal.loop-t-preserved
 loop-t-preserved c = let e = c.store_evict_entry-gone in (
@@ -51,7 +51,7 @@ loop-t-preserved c = let e = c.store_evict_entry-gone in (
   search rules,
   c.loop-t.invariant.2,
   λ count.
-      trim-turn c.requires.ready _ _ (c.loop-t.invariant.3 count) c.loop-t-test.true (rw c.view.ensures at (c.first_free.ensures count)) c.in-Some.is {cʹ = lent e.new.ranges} {msʹ = e.new.marks} e.ensures.gone {lʹ = listed c.put.new.self} c.put.ensures.list,
+      trim-turn c.requires.ready _ _ (c.loop-t.invariant.3 count) c.loop-t-test.true (rw c.view.ensures at (c.first_free.ensures (seen c.view.result) refl refl refl refl refl count)) c.in-Some.is {cʹ = lent e.new.ranges} {msʹ = e.new.marks} e.ensures.gone {lʹ = listed c.put.new.self} c.put.ensures.list,
 )
 
 pub returns-clause-trimmed : goal.returns-clause-trimmed
