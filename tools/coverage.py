@@ -3,7 +3,8 @@
 
     coverage.py
 
-FILE.antt is of crates/model/specs, CRATE/FILE.antt of crates/CRATE/proofs, CRATE/lib.rt of crates/CRATE/src. A name `..-kept` or `.._kept` stands for those that end so.
+FILE.antt is of crates/model/specs, CRATE/FILE.antt of crates/CRATE/proofs, CRATE/lib.rt of crates/CRATE/src. A name `..-kept` or `.._kept` stands for those that end so;
+an implementation is named as it is written, `From<u32> for WriteId`, and a method by its type, `RangesMut::put`.
 """
 import os
 import re
@@ -12,6 +13,8 @@ import sys
 PAGE = 'docs/COVERAGE.md'
 FILE = re.compile(r'`?([\w/-]+\.(?:antt|rt|edit|md))`?')
 NAME = re.compile(r'[A-Za-z][\w-]*(?:\.[A-Za-z]\w*)?$')
+IMPL = re.compile(r'\w+(?:<\w+>)? for \w+$')
+METHOD = re.compile(r'(\w+)::(\w+)$')
 # words that a row may have where names stand
 PROSE = re.compile(r'^(?:and )?(?:every call|every other|tested first$|on removal$|over the stores$|remove$|pins and the calls$)')
 
@@ -31,14 +34,21 @@ def path_of(name, folder):
     return f'crates/{name}', folder
 
 
-def defines(text, name):
-    """Does the text define the name, or the field of a record?"""
+def defines(text, name, code):
+    """Does the text, code or not, define the name, the field of a record, the method of a type, or the implementation?"""
+    if IMPL.match(name):
+        return re.search(rf'(?m)^impl {re.escape(name)} \{{', text) is not None
+    if method := METHOD.match(name):
+        parts = re.findall(rf'(?ms)^impl {method[1]}\b.*?^}}', text)
+        return any(defines(p, method[2], code) for p in parts)
     if '.' in name:
         record, field = name.split('.')
         m = re.search(rf'(?m)^(?:pub )?(?:record|struct) {record}\b(?:.*\n)(?:(?:[ ]+.*|)\n)*?[ ]+(?:pub )?{field}\s*:', text)
         return m is not None
     at = re.escape(name)
-    return re.search(rf'(?m)^\s*(?:abbrev |unfoldable )?(?:pub )?(?:record |data |fn |struct |enum |ghost )?{at}(?= |:|\(|<|$|\n)', text) is not None
+    if code:
+        return re.search(rf'(?m)^\s*(?:pub )?(?:fn|struct|enum|const|ghost) {at}(?= |:|\(|<|$)', text) is not None
+    return re.search(rf'(?m)^\s*(?:abbrev |unfoldable )?(?:pub )?(?:record |data )?{at}(?= |:|$)', text) is not None
 
 
 def names_in(text):
@@ -68,8 +78,8 @@ def broken(cell):
                 if suffix:
                     if not re.search(rf'(?m)^\s*(?:pub )?[\w-]+{suffix[1]} :', text):
                         yield f'{path} has no name that ends in {suffix[1]}'
-                elif NAME.match(name):
-                    if not defines(text, name):
+                elif NAME.match(name) or METHOD.match(name) or IMPL.match(name):
+                    if not defines(text, name, path.endswith('.rt')):
                         yield f'{path} has no {name}'
                 elif not PROSE.match(name):
                     yield f'not understood: {name}'

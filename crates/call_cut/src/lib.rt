@@ -359,7 +359,7 @@ pub fn copy_front(dst: &mut [usize], src: &[usize], n: usize)
     requires { (n ≤ length src.now) × (n ≤ length dst.old) }
     ensures { dst.new ≡ front (take n src.now) dst.old }
 {
-    dst[..n].copy_from_slice(&src[..n]);
+    pool_range::copy_over(&mut dst[..n], &src[..n]);
 }
 
 // What a cut of node j at k is refused for: 8, 9, 11 or nothing, 0. `over` says whether some store has too few pin entries left.

@@ -113,7 +113,7 @@ fn copy_in(to: &mut [u64], from: &[u64])
     requires { length from.now ≤ length to.old }
     ensures { to.new ≡ front from.now to.old }
 {
-    to[..from.len()].copy_from_slice(from);
+    pool_range::copy_over(&mut to[..from.len()], from);
 }
 
 // A store's own numbers: its capacity and its policy, everything else 0.

@@ -24,6 +24,16 @@ pub fn cut<T: Copy>(column: &mut [T], n: usize, at: usize, blank: T)
     column[n - 1] = blank;
 }
 
+// As the library's `copy_from_slice`, by a loop: what is linked into a C program asks for no `memmove`.
+pub fn copy_over<T: Copy>(to: &mut [T], from: &[T])
+    requires { length to.old ≡ length from.now }
+    ensures { to.new ≡ from.now }
+{
+    for i in 0..from.len() {
+        to[i] = from[i];
+    }
+}
+
 // One record of a store: a range that it holds. A write of 0 is none.
 #[derive(Clone, Copy)]
 pub struct Record {

@@ -125,6 +125,24 @@ module _ (T : ℕ → ℕ → Tree) (ps : Pins) (bytes : List ℕ) (c c' c'' : R
       let f = el ∙ (λ i. put (is-kept i) (e i).lists) ∙ w in
       (λ i. outcome (columns T ps bytes (d i) (n i) (y i)) (f i) z)
 
+-- the columns, put back
+module _ (T : ℕ → ℕ → Tree) (ps : Pins) (bytes : List ℕ) (c c' c'' : Ranges) (m m' m'' x x' x'' : List ℕ) (s : ℕ) (old : Old) (b : Book) where
+  abbrev began : State
+  began = state_of (T (nodes_in x) (used_in x)) c ps m bytes x
+
+  abbrev made : State
+  made = state_of (T (nodes_in x') (used_in x')) c' ps m' bytes x'
+
+  pub state-back : {o : State} → Undoes s began o → made ≡ o → old ≡ old_from s c m → b ≡ book_in x s
+      → c'' ≡ back_ranges (128 * s) 128 (old_ranges old) c' → m'' ≡ back (256 * s) 256 old.marks m'
+      → x'' ≡ lay_next (next_id_in x) (stalls_in x) (lay_book s b x')
+      → state_of (T (nodes_in x'') (used_in x'')) c'' ps m'' bytes x'' ≡ began
+  state-back u e k f ec em ex =
+      let d : c'' ≡ c = ec ∙ (λ i. back_ranges (128 * s) 128 (old_ranges (k i)) (e i).ranges) ∙ u.ranges in
+      let n : m'' ≡ m = em ∙ (λ i. back (256 * s) 256 (k i).marks (e i).marks) ∙ u.marks in
+      let y : x'' ≡ x = ex ∙ (λ i. lay_next (next_id_in x) (stalls_in x) (lay_book s (f i) (e i).books)) ∙ u.books in
+      (λ i. state_of (T (nodes_in (y i)) (used_in (y i))) (d i) ps (n i) bytes (y i))
+
 -- ---- the lists, where the call was accepted
 
 list_back : (n : ℕ) (st x : State) (xs l : List ℕ) (v a : RemoveAnswer)

@@ -230,6 +230,14 @@ pub cols-part : (n i k : ℕ) (c : Ranges) → k < at c.end i - at c.start i
 unfolding evict_cols end_at
 cols-part n i k c h = rw (lt-leb (at c.end i - at c.start i) k h)
 
+pub cols-count : (n i k m : ℕ) (c d : Ranges) → left d m ≡ evict_cols n i k c → m ≤ n
+unfolding evict_cols
+cols-count n i k m c d e = go (leb (length_of (range_at c i)) k) (ap (λ (x : Left). x.n) e)
+  where
+    go : (b : Bool) → m ≡ (pick b (left (cut_range i n c) (n - 1)) (left (end_at i (at c.end i - k) c) n)).n → m ≤ n
+    go true q = omega arith
+    go false q = omega arith
+
 cut_length : (i n : ℕ) (l : List ℕ) → i < n → n ≤ length l → length (cut_at 0 i n l) ≡ length l
 unfolding cut_at
 cut_length i n l h g =

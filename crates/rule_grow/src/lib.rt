@@ -63,7 +63,7 @@ fn put_words(words: &mut [u64], used: usize, hashes: &[u64], from: usize)
     ensures { words.new ≡ lay 0 used (length (drop from hashes.now)) (drop from hashes.now) words.old }
 {
     let rest = &hashes[from..];
-    words[used..used + rest.len()].copy_from_slice(rest);
+    pool_range::copy_over(&mut words[used..used + rest.len()], rest);
 }
 
 // One leaf with the rest of the list, below p.

@@ -12,6 +12,7 @@ use lib.Ieee.{Float, nan}
 use borrow.Author.Tests.{le-ltb, lt-ltb, leb-true}
 use Rattle.model.specs.declared.Span.{Span}
 use Rattle.model.specs.Sizes.{max_bytes, max_stamp}
+use Rattle.model.specs.Words.{Each}
 use Rattle.model.specs.State.{Tree, Ranges, Range, at, range_at, book_from}
 use Rattle.model.specs.SetUp.{policy}
 use Rattle.model.specs.Store.{Store, ranges, lay_ranges, meets, plus, part}
@@ -21,6 +22,7 @@ use Rattle.model.specs.Remove.{middle_cuts, remove}
 use Rattle.shape_state.specs.Lent.{ranges_of}
 use Rattle.theory_lay.proofs.Rows.{ranges_length}
 use Rattle.theory_touch.proofs.Bools.{and_true}
+use Rattle.theory_touch.proofs.Recut.{met}
 use Rattle.pool_range.specs.declared.RangesMut.{RangesMut}
 use Rattle.pool_range.specs.Lent.{SameColumns}
 use Rattle.pool_range.specs.Part.{Sized, put_range, cut_range}
@@ -277,6 +279,15 @@ byte-plus false = refl
 
 pub min_most : (a b : ℕ) → min a b ≤ a
 min_most a b = omega arith
+
+-- ---- each overlapped record has blocks of the span
+
+pub shares : (c : Ranges) (n lo hi : ℕ) (sp : Span) → sp.start < sp.end → Overlap c.node c.start c.end n sp lo hi → Ordered c.node c.start c.end n
+    → Each lo hi (λ i. max sp.start (at c.start i) < min sp.end (at c.end i))
+shares c n lo hi sp az w o i l u =
+    let m = met sp.node sp.start sp.end (range_at c i) (w.hits i l u) in
+    let f = o.filled i (omega arith) (omega (arith, w.high)) in
+    omega (arith, m.left, m.right)
 
 -- ---- what fits by the needs fits by the pieces
 

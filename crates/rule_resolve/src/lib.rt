@@ -29,6 +29,8 @@ pub fn dead_bytes(depth: &[usize], bytes: &[u64], mark: usize, sp: Span) -> u64
     span_bytes(depth, bytes, Span { start, ..sp })
 }
 
+// A function of its own also where it is compiled: inside a larger one the scan reads its columns' places from the stack at each node.
+#[inline(never)]
 pub fn child(
     parent: &[usize],
     run: &[usize],

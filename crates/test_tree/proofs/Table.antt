@@ -1,9 +1,7 @@
 -- A table in order whose last number is small. Assumes nothing.
-use Rattle.std.proofs.Common.{◌≡◌, ℕ, suc, ◌+◌, ◌<◌, ◌≤◌, Bool, true, false, List, length, take, get_or, add-one, arith, length-take-le}
-use Rattle.std.proofs.Common.{Some}
+use Rattle.std.proofs.Common.{◌≡◌, ℕ, suc, ◌+◌, ◌<◌, ◌≤◌, Bool, true, false, List, length, take, get_or, add-one, arith, length-take-le, leb, leb-true, leb-false, sym}
 use Rattle.std.specs.List.{IsAllAdjacentAnswer}
-use Rattle.std.specs.Ordering.{is_some_and, is_le, nat_cmp}
-use Rattle.std.proofs.lemmas.List.Sorted.{non_decreasing_from_is_sorted}
+use Rattle.std.proofs.lemmas.List.Sorted.{IsNonDecreasingBy-from_all_adjacent}
 use Rattle.std.proofs.lemmas.List.{get_or-take}
 use Rattle.model.specs.Words.{Says}
 use Rattle.model.specs.Sizes.{table_length, max_bytes}
@@ -15,16 +13,16 @@ front : (l : List ℕ) (n k : ℕ) → k < n → get_or (take n l) k 0 ≡ at l 
 front l n k h = get_or-take n l k 0 h
 
 pub table_says : (r : Bool) (l : List ℕ) → table_length ≤ length l → at l 1024 ≤ max_bytes
-    → IsAllAdjacentAnswer (λ x y b. is_some_and is_le (Some (nat_cmp x y)) ≡ b) (take table_length l) r
+    → IsAllAdjacentAnswer (λ x y b. b ≡ leb x y) (take table_length l) r
     → Says r (Table l)
 table_says true l n small a =
-    let m = non_decreasing_from_is_sorted _ true a in
+    let m = IsNonDecreasingBy-from_all_adjacent (λ (x : ℕ). x) _ (λ k d g. leb-true _ _ (sym (a k d g))) in
     let long : length (take table_length l) ≡ table_length = length-take-le table_length l n in
     let rises : (i j : ℕ) → i ≤ j → j < table_length → at l i ≤ at l j =
     λ i j le lt. omega (arith, m i j 0 le (omega arith), front l table_length i (omega arith), front l table_length j lt) in
     record { long = n; rising = record { steps = λ k f g. rises k (suc k) (omega arith) (omega arith); small = λ k f g. omega (arith, rises k 1024 (omega arith) (omega arith)) } }
 table_says false l n small a = λ t.
-    let m = non_decreasing_from_is_sorted _ false a in
     let long : length (take table_length l) ≡ table_length = length-take-le table_length l n in
-    let step : at l m.0 ≤ at l (m.0 + 1) = rw add-one (t.rising.steps m.0 (omega arith) (omega (arith, m.1))) in
-    omega (arith, m.2 0, front l table_length m.0 (omega (arith, m.1)), front l table_length (m.0 + 1) (omega (arith, m.1)))
+    let step : at l a.0 ≤ at l (a.0 + 1) = rw add-one (t.rising.steps a.0 (omega arith) (omega (arith, a.1))) in
+    let falls = leb-false _ _ (sym (a.2 0)) in
+    omega (arith, falls, front l table_length a.0 (omega (arith, a.1)), front l table_length (a.0 + 1) (omega (arith, a.1)))

@@ -14,11 +14,10 @@ ghost use Rattle.test_tree.specs.Tree.{TreeSized, TreeSound};
 const MOST_BYTES: u64 = 281474976710656;
 
 // The byte table has 1,025 numbers, never falls and stays at or below 2^48.
-#[tactic(auto, using(crate::proofs::Table::table_says))]
 pub fn table_rises(bytes: &[u64]) -> bool
     ensures { Says result (Table bytes.now) }
 {
-    bytes.len() >= 1025 && bytes[1024] <= MOST_BYTES && bytes[..1025].is_sorted()
+    bytes.len() >= 1025 && bytes[1024] <= MOST_BYTES && bytes[..1025].is_sorted_by(|a, b| *a <= *b)
 }
 
 // The lent columns of the ranges are each as long as eight stores need, or longer.

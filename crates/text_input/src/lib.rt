@@ -1,6 +1,6 @@
 #![tactic(auto)]
 // What a reader gives, a line at a time, in bounded memory.
-ghost use Rattle.std.specs.Prelude.{◌≡◌, ◌≤◌, IfOk, IfSome, OnErr, IsFalse};
+ghost use Rattle.std.specs.Prelude.{◌≡◌, ◌≤◌, IfOk, IfSome, IsNone, OnErr, IsFalse};
 ghost use Rattle.text_words.specs.Words.{First, is};
 ghost use Rattle.text_lines.specs.Lines.{Filled};
 
@@ -75,7 +75,12 @@ pub struct Lines {
 }
 
 impl Lines {
-    pub fn new() -> Self {
+    // Nothing is read yet.
+    pub fn new() -> Self
+        ensures empty { (result.from ≡ 0) × (result.to ≡ 0) }
+        ensures goes_on { IsFalse result.ended }
+        ensures whole { IsNone result.seen }
+    {
         Lines {
             buf: [0; 131072],
             from: 0,

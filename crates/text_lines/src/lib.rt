@@ -1,6 +1,6 @@
 #![tactic(auto)]
 // One line of the replay form, read into an operation by value. Its lists go into arrays that the caller lends.
-ghost use Rattle.std.specs.Prelude.{◌≡◌, ◌+◌, ◌≤◌, ◌<◌, length, IfSome, MatchOption};
+ghost use Rattle.std.specs.Prelude.{◌≡◌, ◌+◌, ◌≤◌, ◌<◌, length, replicate, false, IfSome, MatchOption};
 ghost use Rattle.text_lines.specs.Lines.{NextWord, Passed, Filled};
 
 use model::Span;
@@ -41,7 +41,13 @@ pub struct Lists {
 }
 
 impl Lists {
-    pub fn new() -> Self {
+    pub fn new() -> Self
+        ensures numbers { result.numbers ≡ replicate 1026 0 }
+        ensures spans { result.spans ≡ replicate 192 0 }
+        ensures tiers { result.tiers ≡ replicate 9 0 }
+        ensures capacity { result.capacity ≡ replicate 9 0 }
+        ensures refreshes { result.refreshes ≡ replicate 9 false }
+    {
         Lists {
             numbers: [0; 1026],
             spans: [0; 192],

@@ -36,6 +36,14 @@ impl<const N: usize> Page<N> {
         }
     }
 
+    // A page over room of the caller's, of which the first `used` bytes are written.
+    pub fn over(room: [u8; N], used: usize) -> Self
+        requires { used ≤ N }
+        ensures { result ≡ take used room.entry }
+    {
+        Page { text: room, used }
+    }
+
     // What is written, as a slice.
     pub fn bytes(&self) -> &[u8]
         ensures is { result.now ≡ self.now }

@@ -4,4 +4,4 @@ use Rattle.rule_grow.proofs.put_words.Goals as goal
 
 pub returns : goal.returns
 returns c = let a = c.args in
-    words-are a.used a.from a.hashes.now a.words.now _ c.requires.0 c.copy_from_slice.ensures.after
+    words-are a.used a.from a.hashes.now a.words.now _ c.requires.0 c.copy_over.ensures
