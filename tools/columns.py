@@ -18,7 +18,7 @@ ANSWERS = {'text_answer', 'pool_out', 'path_fits', 'outs_fit', 'tiers_fit'}
 GROUPS = {'RangesRef': 'node', 'RangesMut': 'node', 'PinsRef': 'pin_node', 'PinsMut': 'pin_node', 'OutsMut': ''}
 FN = re.compile(r'\bfn (\w+)(?:<[^(]*>)?\(([^)]*)\)')
 STRUCT = re.compile(rf'\bstruct ({"|".join(GROUPS)})\b[^{{]*\{{([^}}]*)\}}')
-LENT = re.compile(rf"(\w+):\s*(?:&(?:'\w+ )?(?:mut )?\[|&?(?:'\w+ )?(?:mut )?({'|'.join(GROUPS)})\b)")
+LENT = re.compile(rf"(\w+):\s*(?:&(?:'\w+ )?(?:mut )?\[|&?(?:'\w+ )?(?:mut )?(?:\w+::)?({'|'.join(GROUPS)})\b)")
 
 
 def lent(parameters):
@@ -36,7 +36,7 @@ def main():
             text = f.read()
         seen |= {m[1] for m in STRUCT.finditer(text)}
         for m in [*FN.finditer(text), *STRUCT.finditer(text)]:
-            if ANSWERS & {path.split('/')[1], m[1]}:
+            if m[1] not in GROUPS and ANSWERS & {path.split('/')[1], m[1]}:
                 continue
             places = [(COLUMNS + ['']).index(n) for n in lent(m[2]) if n in COLUMNS + ['']]
             if places != sorted(places):
