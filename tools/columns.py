@@ -16,7 +16,7 @@ LISTS = re.compile(r'(path|out|span)_\w+|list')
 ANSWERS = {'text_answer', 'pool_out', 'path_fits', 'outs_fit', 'tiers_fit'}
 # by the type's name, the column that each struct of columns begins with; '' is an answer list
 GROUPS = {'RangesRef': 'node', 'RangesMut': 'node', 'PinsRef': 'pin_node', 'PinsMut': 'pin_node', 'OutsMut': ''}
-FN = re.compile(r'\bfn (\w+)(?:<[^(]*>)?\(([^)]*)\)')
+FN = re.compile(r'\bfn (\w+)(?:<(?:[^<>()]|->|\([^<>()]*\)|<[^<>()]*>)*>)?\(([^)]*)\)')
 STRUCT = re.compile(rf'\bstruct ({"|".join(GROUPS)})\b[^{{]*\{{([^}}]*)\}}')
 LENT = re.compile(rf"(\w+):\s*(?:&(?:'\w+ )?(?:mut )?\[|&?(?:'\w+ )?(?:mut )?(?:\w+::)?({'|'.join(GROUPS)})\b)")
 
