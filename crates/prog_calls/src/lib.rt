@@ -11,6 +11,7 @@ ghost use Rattle.prog_tree.specs.Between.{SoundIfSetUp};
 use known::NUMBERS;
 use text_lines::Op;
 use text_page::{Page, ROOM};
+use text_print::put_bytes;
 
 // A line before the first accepted set-up that is no set-up.
 fn before_set_up(page: &mut Page<ROOM>, op: Op)
@@ -113,7 +114,7 @@ fn read(
     }
 }
 
-pub fn call(
+pub fn call_on_page(
     parent: &mut [usize; 256],
     depth: &mut [usize; 256],
     len: &mut [usize; 256],
@@ -341,3 +342,56 @@ pub fn call(
         ),
     }
 }
+
+// The same, written from `at` on in a buffer that the caller lends: answers the place past it.
+pub fn call(
+    parent: &mut [usize; 256],
+    depth: &mut [usize; 256],
+    len: &mut [usize; 256],
+    run: &mut [usize; 256],
+    words: &mut [u64; 4096],
+    node: &mut [usize; 1024],
+    start: &mut [usize; 1024],
+    end: &mut [usize; 1024],
+    id: &mut [u64; 1024],
+    stamp: &mut [u64; 1024],
+    touched: &mut [f64; 1024],
+    write: &mut [u32; 1024],
+    pin_node: &mut [usize; 256],
+    pin_start: &mut [usize; 256],
+    pin_end: &mut [usize; 256],
+    pin_count: &mut [u64; 256],
+    marks: &mut [usize; 2048],
+    bytes: &mut [u64; 1025],
+    books: &mut [u64; NUMBERS],
+    out: &mut [u8; ROOM],
+    at: usize,
+    list: &[u64; 1026],
+    spans: &[usize; 192],
+    tiers: &[usize; 9],
+    capacity: &[u64; 9],
+    refreshes: &[bool; 9],
+    op: Op,
+) -> usize
+    requires { Filled op
+        × SoundIfSetUp
+        (state_from parent.old depth.old len.old run.old words.old node.old start.old end.old id.old stamp.old touched.old write.old
+        pin_node.old pin_start.old pin_end.old pin_count.old marks.old bytes.old books.old)
+        × (at ≤ 500000) }
+    ensures { SoundIfSetUp
+        (state_from parent.new depth.new len.new run.new words.new node.new start.new
+        end.new id.new stamp.new touched.new write.new pin_node.new
+        pin_start.new pin_end.new pin_count.new marks.new bytes.new books.new)
+        × (result ≤ 1048576) }
+{
+    let mut page = Page::over(*out, at);
+    call_on_page(
+        parent, depth, len, run, words, node, start, end, id, stamp, touched, write, pin_node,
+        pin_start, pin_end, pin_count, marks, bytes, books, &mut page, list, spans, tiers,
+        capacity, refreshes, op,
+    );
+    put_bytes(out, 0, page.bytes())
+}
+
+#[cfg(test)]
+mod tests;

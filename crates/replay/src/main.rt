@@ -57,7 +57,7 @@ fn main(rt: HostRuntime) -> Result<()> {
                 return Err(e);
             }
         };
-        prog_calls::call(
+        prog_calls::call_on_page(
             &mut parent,
             &mut depth,
             &mut len,

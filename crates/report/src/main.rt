@@ -23,7 +23,7 @@ fn print_report(books: &[u64; NUMBERS], sums: &[u64; 59], counts: &[u64; 256])
     requires { stores_in books.now ≤ max_stores }
 {
     let mut page: Page<32768> = Page::new();
-    text_report::put_report(&mut page, books, sums, counts);
+    text_report::write_report(&mut page, books, sums, counts);
     let text = page.bytes();
     io::write_all(1, text);
 }

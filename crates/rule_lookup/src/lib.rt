@@ -74,9 +74,12 @@ pub fn lookup_resolved(
                         break 'tier (t, e.min(z));
                     }
                 }
+                (tiers.len(), off)
+            };
+            if upto == off {
                 // No tier holds this block.
                 break 'segments;
-            };
+            }
             let span = Span {
                 node: v,
                 start: off,

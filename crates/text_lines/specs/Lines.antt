@@ -1,5 +1,5 @@
 -- What the readers of a line promise. Assumes nothing.
-use Rattle.std.specs.Prelude.{◌≡◌, List, ℕ, ◌-◌, ◌≤◌, ◌<◌, length, drop}
+use Rattle.std.specs.Prelude.{◌≡◌, Bool, List, ℕ, ◌-◌, ◌≤◌, ◌<◌, eqb, length, drop}
 use Rattle.std.proofs.Math.Seq.{slice}
 use Rattle.text_words.specs.Words.{First, is, other}
 use Rattle.text_lines.specs.declared.Op.{Op}
@@ -13,6 +13,12 @@ pub record NextWord (s w r : List ℕ) : Type 0 where
   pub ends : First (is 32) s from (length s) to
   pub word : w ≡ slice from to s
   pub rest : r ≡ drop to s
+
+-- b says whether s is of spaces alone
+pub record Ended (s : List ℕ) (b : Bool) : Type 0 where
+  pub from : ℕ
+  pub spaces : First (other 32) s 0 (length s) from
+  pub is : b ≡ eqb from (length s)
 
 -- r is what is left of s after one byte or more
 pub record Passed (s r : List ℕ) : Type 0 where

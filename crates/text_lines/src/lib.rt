@@ -1,7 +1,7 @@
 #![tactic(auto)]
 // One line of the replay form, read into an operation by value. Its lists go into arrays that the caller lends.
 ghost use Rattle.std.specs.Prelude.{◌≡◌, ◌+◌, ◌≤◌, ◌<◌, length, replicate, false, IfSome, MatchOption};
-ghost use Rattle.text_lines.specs.Lines.{NextWord, Passed, Filled};
+ghost use Rattle.text_lines.specs.Lines.{NextWord, Ended, Passed, Filled};
 
 use model::Span;
 
@@ -77,7 +77,10 @@ impl<'a> Line<'a> {
         &s[from..to]
     }
 
-    pub fn ended(&self) -> bool {
+    // Whether only spaces are left.
+    pub fn ended(&self) -> bool
+        ensures { Ended self.now.rest.now result }
+    {
         text_words::skip_spaces(self.rest, 0) == self.rest.len()
     }
 

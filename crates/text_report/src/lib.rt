@@ -1,13 +1,15 @@
 #![tactic(auto)]
-// The lines of the Monday report, written on a page.
+// The lines of the Monday report, written on a page (`write_..`), or from a place on in a buffer that the caller lends (`put_..`).
 ghost use Rattle.std.specs.Prelude.{◌+◌, ◌*◌, ◌≤◌, ◌<◌, length};
 ghost use Rattle.model.specs.Sizes.{max_stores, max_numbers};
 ghost use Rattle.model.specs.State.{stores_in};
 ghost use Rattle.text_page.specs.Page.{Wrote};
+ghost use Rattle.text_report.specs.Lent.{PutAtMost};
 
 use model::Book;
 use text_answer::put_rules;
 use text_page::Page;
+use text_print::put_bytes;
 
 // The sums stand eight to a figure, in the order of the line; then lookups, their blocks and their bytes.
 #[derive(Clone, Copy)]
@@ -57,7 +59,7 @@ fn put_held<const N: usize>(page: &mut Page<N>, sums: &[u64], s: usize, held: u6
 }
 
 // A store's line, from its own numbers and its sums.
-pub fn put_store<const N: usize>(page: &mut Page<N>, sums: &[u64], s: usize, b: Book)
+pub fn write_store<const N: usize>(page: &mut Page<N>, sums: &[u64], s: usize, b: Book)
     requires { (s < 8) × (59 ≤ length sums.now) × (length page.old + 512 ≤ N) }
     ensures { Wrote 300 page.old page.new }
 {
@@ -74,12 +76,12 @@ fn put_stores<const N: usize>(page: &mut Page<N>, books: &[u64], sums: &[u64])
     ensures { Wrote 2400 page.old page.new }
 {
     for s in 0..books[2] as usize {
-        put_store(page, sums, s, pool_book::book_of(books, s));
+        write_store(page, sums, s, pool_book::book_of(books, s));
     }
 }
 
 // `lookups N blocks B bytes Y`
-pub fn put_lookups<const N: usize>(page: &mut Page<N>, sums: &[u64])
+pub fn write_lookups<const N: usize>(page: &mut Page<N>, sums: &[u64])
     requires { (59 ≤ length sums.now) × (length page.old + 128 ≤ N) }
     ensures { Wrote 96 page.old page.new }
 {
@@ -121,7 +123,7 @@ fn put_unreadable<const N: usize>(page: &mut Page<N>, times: u64)
 }
 
 // What ends a report: the refusals by number, times[n] for number n, and the lines that were unreadable.
-pub fn put_refused<const N: usize>(page: &mut Page<N>, times: &[u64], unreadable: u64)
+pub fn write_refused<const N: usize>(page: &mut Page<N>, times: &[u64], unreadable: u64)
     requires { (length times.now ≤ 32) × (length page.old + 4096 ≤ N) }
     ensures { Wrote 2112 page.old page.new }
 {
@@ -130,7 +132,7 @@ pub fn put_refused<const N: usize>(page: &mut Page<N>, times: &[u64], unreadable
 }
 
 // The whole report, from the stores' own numbers, the sums, and how many lines were refused, by number, or unreadable, which is counts[0].
-pub fn put_report<const N: usize>(
+pub fn write_report<const N: usize>(
     page: &mut Page<N>,
     books: &[u64],
     sums: &[u64],
@@ -143,7 +145,53 @@ pub fn put_report<const N: usize>(
     ensures { Wrote 32768 page.old page.new }
 {
     put_stores(page, books, sums);
-    put_lookups(page, sums);
+    write_lookups(page, sums);
     put_refusals(page, counts, 1);
     put_unreadable(page, counts[0]);
 }
+
+// A store's line.
+pub fn put_store(out: &mut [u8], at: usize, sums: &[u64], s: usize, b: Book) -> usize
+    requires { (s < 8) × (59 ≤ length sums.now) × (at + 512 ≤ length out.old) }
+    ensures { PutAtMost at 300 out.old out.new result }
+{
+    let mut line: Page<512> = Page::new();
+    write_store(&mut line, sums, s, b);
+    put_bytes(out, at, line.bytes())
+}
+
+// The lookups' line.
+pub fn put_lookups(out: &mut [u8], at: usize, sums: &[u64]) -> usize
+    requires { (59 ≤ length sums.now) × (at + 128 ≤ length out.old) }
+    ensures { PutAtMost at 96 out.old out.new result }
+{
+    let mut total: Page<128> = Page::new();
+    write_lookups(&mut total, sums);
+    put_bytes(out, at, total.bytes())
+}
+
+// What ends a report.
+pub fn put_refused(out: &mut [u8], at: usize, times: &[u64], unreadable: u64) -> usize
+    requires { (length times.now ≤ 32) × (at + 4096 ≤ length out.old) }
+    ensures { PutAtMost at 2112 out.old out.new result }
+{
+    let mut ending: Page<4096> = Page::new();
+    write_refused(&mut ending, times, unreadable);
+    put_bytes(out, at, ending.bytes())
+}
+
+// The whole report, in front.
+pub fn put_report(out: &mut [u8], books: &[u64], sums: &[u64], counts: &[u64; 256]) -> usize
+    requires { (stores_in books.now ≤ max_stores)
+        × (max_numbers ≤ length books.now)
+        × (59 ≤ length sums.now)
+        × (32768 ≤ length out.old) }
+    ensures { PutAtMost 0 32768 out.old out.new result }
+{
+    let mut page: Page<32768> = Page::new();
+    write_report(&mut page, books, sums, counts);
+    put_bytes(out, 0, page.bytes())
+}
+
+#[cfg(test)]
+mod tests;
